@@ -67,7 +67,7 @@ module _ {T W X Y F : Type 0} (did : Deed T W → X → X → Type 0) (seen : De
   work_keeps (Raise side n making) s t m next r h = keeps _ s t h.1
 
   step_keeps : (a : Stage (QueueCall T) T W) (s t : X) (m : Mark) (next : Stage (QueueCall T) T W) (r : Option (Reply T)) → ChannelMakes did a s t m next r → of t ≡ of s
-  step_keeps (Trying call aim) s t m next r h = keeps _ s t h.2
+  step_keeps (Trying call purpose) s t m next r h = keeps _ s t h.2
   step_keeps (Working w) s t m next r d = work_keeps w s t m next r d
   step_keeps (Finished kept) s t m next r h = ap of h.0
 

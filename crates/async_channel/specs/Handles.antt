@@ -7,7 +7,7 @@ use Rattle.event_listener.specs.declared.key.Key.{Key}
 use Rattle.futures.specs.declared.task.Poll.{Poll}
 use Rattle.channel_calls.specs.Errors.{unsent, handed_back}
 use Rattle.channel_calls.specs.Listed.{is_pending}
-use Rattle.channel_calls.specs.Parts.{Parts, new_roster}
+use Rattle.channel_calls.specs.Parts.{Parts, new_wait_lists}
 use Rattle.channel_calls.specs.declared.error.Refused.{Refused}
 use Rattle.channel_calls.specs.declared.error.Refused.TheVariants.{Plain, NoMemory, SerialsUsedUp}
 use Rattle.channel_calls.specs.declared.error.SendError.{SendError}
@@ -79,4 +79,4 @@ module _ {T : Type 0} where
 
 -- shared cells name no contents
 abbrev pub no_parts : {T W : Type 0} → QueueForm → Parts T W
-no_parts f = record { cells = no_contents f; roster = new_roster }
+no_parts f = record { cells = no_contents f; wait_lists = new_wait_lists }

@@ -84,11 +84,11 @@ impl<'a, R: Wait> Beside<'a, R> {
 impl<'a, R: Wait> ChannelCells<u64, u32> for Beside<'a, R> {
     ghost use Rattle.std.specs.Prelude.{◌≡◌};
     ghost use Rattle.concurrent_queue.specs.Contents.{no_contents};
-    ghost use Rattle.channel_calls.specs.Parts.{new_roster};
+    ghost use Rattle.channel_calls.specs.Parts.{new_wait_lists};
 
     ghost known = { ⊥ };
 
-    ghost parts = { λ c. record { cells = no_contents c.queue.form; roster = new_roster } };
+    ghost parts = { λ c. record { cells = no_contents c.queue.form; wait_lists = new_wait_lists } };
 
     ghost has_form = { λ c f. f ≡ c.queue.form };
 

@@ -19,7 +19,7 @@ use Rattle.channel_calls.specs.declared.mark.Mark.TheVariants.{Nothing}
 use Rattle.channel_calls.specs.declared.reply.Reply.{Reply}
 use Rattle.channel_calls.specs.declared.reply.Reply.TheVariants as reply
 use Rattle.channel_calls.specs.declared.stage.Purpose.{Purpose}
-use Rattle.channel_calls.specs.declared.stage.Purpose.TheVariants as aim
+use Rattle.channel_calls.specs.declared.stage.Purpose.TheVariants as purpose
 use Rattle.channel_calls.specs.declared.stage.Side.{Side}
 use Rattle.channel_calls.specs.declared.stage.Stage.TheVariants.{Trying, Working, Finished}
 use Rattle.channel_calls.specs.declared.stage.NextStep.{NextStep}
@@ -49,22 +49,22 @@ module _ {T W X : Type 0} (did : Deed T W → X → X → Type 0) where
   ended : (turn : NextStep T W) (s : X) (r : Reply T) (t : X) → Comes did turn s (Ends r nothing_kept) t → WalkedTo did turn s r t
   ended turn s r t way = (nothing_kept, comes_ends did turn s r nothing_kept t way)
 
-  pub flagged : (q : QueueAsk T) (s : X) (y : QueueReply T) (b : Bool) (t : X) → y ≡ Flag b → Comes did (Tries q aim.Ask) s (answered_next aim.Ask y) t → WalkedTo did (Tries q aim.Ask) s (reply.Flag b) t
-  flagged q s y b t is way = ended (Tries q aim.Ask) s (reply.Flag b) t (subst (λ (z : QueueReply T). Comes did (Tries q aim.Ask) s (answered_next aim.Ask z) t) is way)
+  pub flagged : (q : QueueAsk T) (s : X) (y : QueueReply T) (b : Bool) (t : X) → y ≡ Flag b → Comes did (Tries q purpose.Ask) s (answered_next purpose.Ask y) t → WalkedTo did (Tries q purpose.Ask) s (reply.Flag b) t
+  flagged q s y b t is way = ended (Tries q purpose.Ask) s (reply.Flag b) t (subst (λ (z : QueueReply T). Comes did (Tries q purpose.Ask) s (answered_next purpose.Ask z) t) is way)
 
-  pub capped : (q : QueueAsk T) (s : X) (y : QueueReply T) (c : Option ℕ) (t : X) → y ≡ Cap c → Comes did (Tries q aim.Ask) s (answered_next aim.Ask y) t → WalkedTo did (Tries q aim.Ask) s (reply.Cap c) t
-  capped q s y c t is way = ended (Tries q aim.Ask) s (reply.Cap c) t (subst (λ (z : QueueReply T). Comes did (Tries q aim.Ask) s (answered_next aim.Ask z) t) is way)
+  pub capped : (q : QueueAsk T) (s : X) (y : QueueReply T) (c : Option ℕ) (t : X) → y ≡ Cap c → Comes did (Tries q purpose.Ask) s (answered_next purpose.Ask y) t → WalkedTo did (Tries q purpose.Ask) s (reply.Cap c) t
+  capped q s y c t is way = ended (Tries q purpose.Ask) s (reply.Cap c) t (subst (λ (z : QueueReply T). Comes did (Tries q purpose.Ask) s (answered_next purpose.Ask z) t) is way)
 
   -- an open channel isn't at its end
-  pub open_still : (s : X) (y : QueueReply T) (t : X) → y ≡ Flag false → Comes did (Tries queue.IsClosed aim.IsTerminated) s (answered_next aim.IsTerminated y) t
+  pub open_still : (s : X) (y : QueueReply T) (t : X) → y ≡ Flag false → Comes did (Tries queue.IsClosed purpose.IsTerminated) s (answered_next purpose.IsTerminated y) t
       → WalkedTo did (first ask.IsTerminated) s (reply.Flag false) t
-  open_still s y t is way = ended (first ask.IsTerminated) s (reply.Flag false) t (subst (λ (z : QueueReply T). Comes did (first ask.IsTerminated) s (answered_next aim.IsTerminated z) t) is way)
+  open_still s y t is way = ended (first ask.IsTerminated) s (reply.Flag false) t (subst (λ (z : QueueReply T). Comes did (first ask.IsTerminated) s (answered_next purpose.IsTerminated z) t) is way)
 
   -- of a closed one it is asked whether it is empty
-  pub then_empty : (s x : X) (y : QueueReply T) (b : Bool) (t : X) → y ≡ Flag true → Comes did (Tries queue.IsClosed aim.IsTerminated) s (answered_next aim.IsTerminated y) x
+  pub then_empty : (s x : X) (y : QueueReply T) (b : Bool) (t : X) → y ≡ Flag true → Comes did (Tries queue.IsClosed purpose.IsTerminated) s (answered_next purpose.IsTerminated y) x
       → WalkedTo did (first ask.IsEmpty) x (reply.Flag b) t → WalkedTo did (first ask.IsTerminated) s (reply.Flag b) t
   then_empty s x y b t is way (kept, (d, begins, walk)) =
-      let there : Comes did (first ask.IsTerminated) s (Tries queue.IsEmpty aim.Ask) x = subst (λ (z : QueueReply T). Comes did (first ask.IsTerminated) s (answered_next aim.IsTerminated z) x) is way in
+      let there : Comes did (first ask.IsTerminated) s (Tries queue.IsEmpty purpose.Ask) x = subst (λ (z : QueueReply T). Comes did (first ask.IsTerminated) s (answered_next purpose.IsTerminated z) x) is way in
       let leads = leads_on did there.2 s there.0 there.3 there.4 there.5 x d there.6 (there.7 d None begins) in
       (kept, (there.0, there.1, walks_on did (suc there.2) there.0 s d x (reply.Flag b) kept t leads walk))
 

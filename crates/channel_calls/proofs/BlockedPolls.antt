@@ -39,7 +39,7 @@ use Rattle.channel_calls.specs.declared.mark.Mark.TheVariants.{Nothing}
 use Rattle.channel_calls.specs.declared.reply.Reply.{Reply}
 use Rattle.channel_calls.specs.declared.reply.Reply.TheVariants as reply
 use Rattle.channel_calls.specs.declared.stage.Purpose.{Purpose}
-use Rattle.channel_calls.specs.declared.stage.Purpose.TheVariants as aim
+use Rattle.channel_calls.specs.declared.stage.Purpose.TheVariants as purpose
 use Rattle.channel_calls.specs.declared.stage.Returned.{Returned}
 use Rattle.channel_calls.specs.declared.stage.WaitList.{WaitList}
 use Rattle.channel_calls.specs.declared.stage.WaitList.TheVariants.{Sends, Receives}
@@ -107,7 +107,7 @@ module _ {T W X : Type 0} (did : Deed T W → X → X → Type 0) where
 module _ {T W X : Type 0} (did : Deed T W → X → X → Type 0) (key : Option Key) (task : W) where
   abbrev Way : X → QueueCall T → NextStep T W → X → Type 0
   Way s call then t =
-      (n : ℕ) × (x : X) × (b : Stage (QueueCall T) T W) × (m : Mark) × Leads did n s (Trying call (aim.Poll Sends key task)) x b
+      (n : ℕ) × (x : X) × (b : Stage (QueueCall T) T W) × (m : Mark) × Leads did n s (Trying call (purpose.Poll Sends key task)) x b
       × ((next : Stage (QueueCall T) T W) (r : Option (Reply T)) → Takes then next r → ChannelMakes did b x t m next r)
 
   abbrev SentTurn : Result Unit (Refused (TrySendError T) T) → NextStep T W
@@ -130,13 +130,13 @@ module _ {T W X : Type 0} (did : Deed T W → X → X → Type 0) (key : Option 
 
   -- its queue's call answers by its last step
   sent_at_once : (s : X) (call : QueueCall T) (t : X) (m : Mark) (c : Stage (QueueCall T) T W) (r : Result Unit (Refused (TrySendError T) T))
-      → ChannelMakes did (Trying call aim.TrySend) s t m c (Some (reply.TrySend r)) → Way s call (SentTurn r) t
+      → ChannelMakes did (Trying call purpose.TrySend) s t m c (Some (reply.TrySend r)) → Way s call (SentTurn r) t
   sent_at_once s call t m c r (after, None, deed, mark, (at, some)) = absurd (let never : Some (reply.TrySend r) ≡ None = some in cc)
   sent_at_once s call t m c r (after, Some y, deed, mark, takes) =
       let e = sent_last y c r takes in (
         0,
         s,
-        Trying call (aim.Poll Sends key task),
+        Trying call (purpose.Poll Sends key task),
         mark_of_queue (mark_of after),
         (refl, refl),
         λ next o there. (after, Some y, deed, refl, subst (λ (z : NextStep T W). Takes z next o) (sym e) there),
@@ -193,26 +193,26 @@ module _ {T W X : Type 0} (did : Deed T W → X → X → Type 0) (key : Option 
   sent_led s call after (Cap y) z deed n x b m t c d r (none, at) leads made = absurd (let never : None ≡ Some unit_reply = none in cc)
 
   sent_way : (n : ℕ) (s : X) (call : QueueCall T) (x : X) (b : Stage (QueueCall T) T W) (m : Mark) (t : X) (c : Stage (QueueCall T) T W) (r : Result Unit (Refused (TrySendError T) T))
-      → Leads did n s (Trying call aim.TrySend) x b → ChannelMakes did b x t m c (Some (reply.TrySend r)) → Way s call (SentTurn r) t
+      → Leads did n s (Trying call purpose.TrySend) x b → ChannelMakes did b x t m c (Some (reply.TrySend r)) → Way s call (SentTurn r) t
   sent_way zero s call x b m t c r (e, f) made =
       sent_at_once s call t m c r
-      (subst (λ (w : X). ChannelMakes did (Trying call aim.TrySend) w t m c (Some (reply.TrySend r))) e (subst (λ (w : Stage (QueueCall T) T W). ChannelMakes did w x t m c (Some (reply.TrySend r))) f made))
+      (subst (λ (w : X). ChannelMakes did (Trying call purpose.TrySend) w t m c (Some (reply.TrySend r))) e (subst (λ (w : Stage (QueueCall T) T W). ChannelMakes did w x t m c (Some (reply.TrySend r))) f made))
   sent_way (suc n) s call x b m t c r (y, d, k, (after, None, deed, mark, (at, none)), rest) made =
       let way = sent_way n y after x b m t c r (subst (λ (w : Stage (QueueCall T) T W). Leads did n y w x b) at rest) made in
-      (suc way.0, way.1, way.2, way.3, (y, Trying after (aim.Poll Sends key task), mark_of_queue (mark_of after), (after, None, deed, refl, (refl, refl)), way.4), way.5)
+      (suc way.0, way.1, way.2, way.3, (y, Trying after (purpose.Poll Sends key task), mark_of_queue (mark_of after), (after, None, deed, refl, (refl, refl)), way.4), way.5)
   sent_way (suc n) s call x b m t c r (y, d, k, (after, Some z, deed, mark, takes), rest) made = sent_led s call after z y deed n x b m t c d r takes rest made
 
   pub sends : (v : T) (s t : X) (r : Result Unit (Refused (TrySendError T) T)) → WalkedTo did (first (ask.TrySend v)) s (reply.TrySend r) t
       → Comes did (again (waiting.Send v) key task) s (tried_turn Sends (sent_by r) key task) t
   sends v s t r (kept, (a, (call, starts, asks, none, is), (n, x, b, m, c, leads, made, k))) =
       let way = sent_way n s call x b m t c r (subst (λ (w : Stage (QueueCall T) T W). Leads did n s w x b) is leads) made in
-      (Trying call (aim.Poll Sends key task), (call, starts, asks, refl, refl), way.0, way.1, way.2, way.3, way.4, way.5)
+      (Trying call (purpose.Poll Sends key task), (call, starts, asks, refl, refl), way.0, way.1, way.2, way.3, way.4, way.5)
 
 -- ---- a receive that doesn't wait
 module _ {T W X : Type 0} (did : Deed T W → X → X → Type 0) (key : Option Key) (task : W) where
   abbrev Path : X → QueueCall T → NextStep T W → X → Type 0
   Path s call then t =
-      (n : ℕ) × (x : X) × (b : Stage (QueueCall T) T W) × (m : Mark) × Leads did n s (Trying call (aim.Poll Receives key task)) x b
+      (n : ℕ) × (x : X) × (b : Stage (QueueCall T) T W) × (m : Mark) × Leads did n s (Trying call (purpose.Poll Receives key task)) x b
       × ((next : Stage (QueueCall T) T W) (r : Option (Reply T)) → Takes then next r → ChannelMakes did b x t m next r)
 
   abbrev GotTurn : Result T TryRecvError → NextStep T W
@@ -233,13 +233,13 @@ module _ {T W X : Type 0} (did : Deed T W → X → X → Type 0) (key : Option 
   got_last (Cap z) c r (some, at) = absurd (let never : Some (reply.TryRecv r) ≡ Some reply.Unit = some in cc)
 
   got_at_once : (s : X) (call : QueueCall T) (t : X) (m : Mark) (c : Stage (QueueCall T) T W) (r : Result T TryRecvError)
-      → ChannelMakes did (Trying call aim.TryRecv) s t m c (Some (reply.TryRecv r)) → Path s call (GotTurn r) t
+      → ChannelMakes did (Trying call purpose.TryRecv) s t m c (Some (reply.TryRecv r)) → Path s call (GotTurn r) t
   got_at_once s call t m c r (after, None, deed, mark, (at, some)) = absurd (let never : Some (reply.TryRecv r) ≡ None = some in cc)
   got_at_once s call t m c r (after, Some y, deed, mark, takes) =
       let e = got_last y c r takes in (
         0,
         s,
-        Trying call (aim.Poll Receives key task),
+        Trying call (purpose.Poll Receives key task),
         mark_of_queue (mark_of after),
         (refl, refl),
         λ next o there. (after, Some y, deed, refl, subst (λ (z : NextStep T W). Takes z next o) (sym e) there),
@@ -282,20 +282,20 @@ module _ {T W X : Type 0} (did : Deed T W → X → X → Type 0) (key : Option 
   got_led s call after (Cap y) z deed n x b m t c d r (none, at) leads made = absurd (let never : None ≡ Some unit_reply = none in cc)
 
   got_way : (n : ℕ) (s : X) (call : QueueCall T) (x : X) (b : Stage (QueueCall T) T W) (m : Mark) (t : X) (c : Stage (QueueCall T) T W) (r : Result T TryRecvError)
-      → Leads did n s (Trying call aim.TryRecv) x b → ChannelMakes did b x t m c (Some (reply.TryRecv r)) → Path s call (GotTurn r) t
+      → Leads did n s (Trying call purpose.TryRecv) x b → ChannelMakes did b x t m c (Some (reply.TryRecv r)) → Path s call (GotTurn r) t
   got_way zero s call x b m t c r (e, f) made =
       got_at_once s call t m c r
-      (subst (λ (w : X). ChannelMakes did (Trying call aim.TryRecv) w t m c (Some (reply.TryRecv r))) e (subst (λ (w : Stage (QueueCall T) T W). ChannelMakes did w x t m c (Some (reply.TryRecv r))) f made))
+      (subst (λ (w : X). ChannelMakes did (Trying call purpose.TryRecv) w t m c (Some (reply.TryRecv r))) e (subst (λ (w : Stage (QueueCall T) T W). ChannelMakes did w x t m c (Some (reply.TryRecv r))) f made))
   got_way (suc n) s call x b m t c r (y, d, k, (after, None, deed, mark, (at, none)), rest) made =
       let way = got_way n y after x b m t c r (subst (λ (w : Stage (QueueCall T) T W). Leads did n y w x b) at rest) made in
-      (suc way.0, way.1, way.2, way.3, (y, Trying after (aim.Poll Receives key task), mark_of_queue (mark_of after), (after, None, deed, refl, (refl, refl)), way.4), way.5)
+      (suc way.0, way.1, way.2, way.3, (y, Trying after (purpose.Poll Receives key task), mark_of_queue (mark_of after), (after, None, deed, refl, (refl, refl)), way.4), way.5)
   got_way (suc n) s call x b m t c r (y, d, k, (after, Some z, deed, mark, takes), rest) made = got_led s call after z y deed n x b m t c d r takes rest made
 
   pub receives : (s t : X) (r : Result T TryRecvError) → WalkedTo did (first ask.TryRecv) s (reply.TryRecv r) t
       → Comes did (again waiting.Receive key task) s (tried_turn Receives (received_by r) key task) t
   receives s t r (kept, (a, (call, starts, asks, none, is), (n, x, b, m, c, leads, made, k))) =
       let way = got_way n s call x b m t c r (subst (λ (w : Stage (QueueCall T) T W). Leads did n s w x b) is leads) made in
-      (Trying call (aim.Poll Receives key task), (call, starts, asks, refl, refl), way.0, way.1, way.2, way.3, way.4, way.5)
+      (Trying call (purpose.Poll Receives key task), (call, starts, asks, refl, refl), way.0, way.1, way.2, way.3, way.4, way.5)
 
 -- ---- what a try says beside
 module _ {T W X : Type 0} (did : Deed T W → X → X → Type 0) (v : T) (bounded : Bool) (s t : X) where

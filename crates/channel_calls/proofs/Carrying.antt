@@ -33,6 +33,6 @@ module _ {T W X Y : Type 0} (did : Deed T W → X → X → Type 0) (does : Deed
     worked (Raise side n making) (b, h, x) = (b, deed _ h, x)
 
     pub carried : (at : Stage (QueueCall T) T W) → ChannelMakes did at s t m next r → ChannelMakes does at u v m next r
-    carried (Trying call aim) (after, o, h, e, x) = (after, o, deed _ h, e, x)
+    carried (Trying call purpose) (after, o, h, e, x) = (after, o, deed _ h, e, x)
     carried (Working w) h = worked w h
     carried (Finished kept) (h, e, f, n) = (none h, e, f, n)

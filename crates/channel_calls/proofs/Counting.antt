@@ -11,7 +11,7 @@ use Rattle.channel_calls.specs.Walks.{Takes, ChannelMakes, Leads, Walked, Walked
 use Rattle.channel_calls.specs.declared.mark.Mark.TheVariants.{Nothing}
 use Rattle.channel_calls.specs.declared.reply.Reply.{Reply}
 use Rattle.channel_calls.specs.declared.reply.Reply.TheVariants.{Made, TooMany, Unit}
-use Rattle.channel_calls.specs.declared.stage.Purpose.TheVariants as aim
+use Rattle.channel_calls.specs.declared.stage.Purpose.TheVariants as purpose
 use Rattle.channel_calls.specs.declared.stage.Returned.{Returned}
 use Rattle.channel_calls.specs.declared.stage.Making.TheVariants.{Clone}
 use Rattle.channel_calls.specs.declared.stage.Side.{Side}
@@ -82,6 +82,6 @@ module _ {T W X : Type 0} (did : Deed T W → X → X → Type 0) (side : Side) 
 module _ (T W : Type 0) where
   pub drops : (side : Side) (n : ℕ) → nat_eq n 1 ≡ false → Takes {T = T} {W = W} (lowered_next side None n) (Finished nothing_kept) (Some Unit)
   drops Senders n more =
-      subst (λ (b : Bool). Takes {T = T} {W = W} (if b then Tries queue_ask.Close (aim.Close (dropper Senders None)) else ends_by (closer_ending (dropper Senders None) false)) (Finished nothing_kept) (Some Unit)) (sym more) (refl, refl)
+      subst (λ (b : Bool). Takes {T = T} {W = W} (if b then Tries queue_ask.Close (purpose.Close (dropper Senders None)) else ends_by (closer_ending (dropper Senders None) false)) (Finished nothing_kept) (Some Unit)) (sym more) (refl, refl)
   drops Receivers n more =
-      subst (λ (b : Bool). Takes {T = T} {W = W} (if b then Tries queue_ask.Close (aim.Close (dropper Receivers None)) else ends_by (closer_ending (dropper Receivers None) false)) (Finished nothing_kept) (Some Unit)) (sym more) (refl, refl)
+      subst (λ (b : Bool). Takes {T = T} {W = W} (if b then Tries queue_ask.Close (purpose.Close (dropper Receivers None)) else ends_by (closer_ending (dropper Receivers None) false)) (Finished nothing_kept) (Some Unit)) (sym more) (refl, refl)

@@ -15,7 +15,7 @@ use Rattle.channel_calls.specs.declared.ask.ChannelAsk.TheVariants as call
 use Rattle.channel_calls.specs.declared.call.ChannelCall.{ChannelCall}
 use Rattle.channel_calls.specs.declared.reply.Reply.{Reply}
 use Rattle.channel_calls.specs.declared.stage.Purpose.{Purpose}
-use Rattle.channel_calls.specs.declared.stage.Purpose.TheVariants as aim
+use Rattle.channel_calls.specs.declared.stage.Purpose.TheVariants as purpose
 use Rattle.channel_calls.specs.declared.stage.Stage.{Stage}
 use Rattle.channel_calls.specs.declared.stage.Stage.TheVariants.{Trying, Finished}
 use Rattle.channel_calls.specs.declared.stage.NextStep.{NextStep}
@@ -26,16 +26,16 @@ use Rattle.channel_calls.specs.Turns.{nothing_kept}
 use Rattle.channel_calls.specs.Walks.{Takes}
 
 module _ {T : Type 0} (W : Type 0) (f : QueueForm) (one : QueueCall T) where
-  pub sends : (v : T) → IsAsking one (ask.Push v) → (r : Reply T) (m : Option T) → MayEnd {W = W} f (Trying one aim.TrySend) r m → ReplyAllowed {W = W} f (call.TrySend v) r m
+  pub sends : (v : T) → IsAsking one (ask.Push v) → (r : Reply T) (m : Option T) → MayEnd {W = W} f (Trying one purpose.TrySend) r m → ReplyAllowed {W = W} f (call.TrySend v) r m
   sends v asks r m h = h (ask.Push v) (λ y may. subst (λ (z : CallState T). MayCall f z y) asks may) v refl
 
-  pub displaces : (v : T) → IsAsking one (ask.ForcePush v) → (r : Reply T) (m : Option T) → MayEnd {W = W} f (Trying one aim.ForceSend) r m → ReplyAllowed {W = W} f (call.ForceSend v) r m
+  pub displaces : (v : T) → IsAsking one (ask.ForcePush v) → (r : Reply T) (m : Option T) → MayEnd {W = W} f (Trying one purpose.ForceSend) r m → ReplyAllowed {W = W} f (call.ForceSend v) r m
   displaces v asks r m h = h (ask.ForcePush v) (λ y may. subst (λ (z : CallState T). MayCall f z y) asks may) v refl
 
-  pub asks_length : IsAsking one ask.Len → (r : Reply T) (m : Option T) → MayEnd {W = W} f (Trying one aim.Ask) r m → ReplyAllowed {W = W} f call.Len r m
+  pub asks_length : IsAsking one ask.Len → (r : Reply T) (m : Option T) → MayEnd {W = W} f (Trying one purpose.Ask) r m → ReplyAllowed {W = W} f call.Len r m
   asks_length asks r m h = h ask.Len (λ y may. subst (λ (z : CallState T). MayCall f z y) asks may)
 
-  pub receives : IsAsking one ask.Pop → (r : Reply T) (m : Option T) → MayEnd {W = W} f (Trying one aim.TryRecv) r m → ReplyAllowed {W = W} f call.TryRecv r m
+  pub receives : IsAsking one ask.Pop → (r : Reply T) (m : Option T) → MayEnd {W = W} f (Trying one purpose.TryRecv) r m → ReplyAllowed {W = W} f call.TryRecv r m
   receives asks r m h = h ask.Pop (λ y may. subst (λ (z : CallState T). MayCall f z y) asks may) refl
 
 module _ {T W : Type 0} where

@@ -20,7 +20,7 @@ use Rattle.channel_calls.specs.declared.error.TryRecvError.{TryRecvError}
 use Rattle.channel_calls.specs.declared.error.TryRecvError.TheVariants as try_recv_error
 use Rattle.channel_calls.specs.declared.mark.Mark.TheVariants.{Nothing}
 use Rattle.channel_calls.specs.declared.reply.Reply.TheVariants as reply
-use Rattle.channel_calls.specs.declared.stage.Purpose.TheVariants as aim
+use Rattle.channel_calls.specs.declared.stage.Purpose.TheVariants as purpose
 use Rattle.channel_calls.specs.declared.stage.WaitList.TheVariants.{Sends}
 use Rattle.channel_calls.specs.declared.stage.Stage.{Stage}
 use Rattle.channel_calls.specs.declared.stage.Stage.TheVariants.{Trying, Working, Finished}
@@ -70,7 +70,7 @@ fewer (suc k) some = (k, refl)
 module _ {T W X : Type 0} (did : Deed T W → X → X → Type 0) where
   -- the steps of a receive of so many up to here: it has these, may take so many more after the next one, and tries for that by this call
   abbrev pub Gathers : ℕ → X → QueueCall T → List T → ℕ → X → Type 0
-  Gathers room s call taken more t = (n : ℕ) × Leads did n s (Working (TakeRoom room)) t (Trying call (aim.RecvMany (with_these taken more)))
+  Gathers room s call taken more t = (n : ℕ) × Leads did n s (Working (TakeRoom room)) t (Trying call (purpose.RecvMany (with_these taken more)))
 
   pub none_wanted : (s : X) → WalkedTo did (first (ask.RecvMany 0)) s (reply.RecvMany (Ok [])) s
   none_wanted s = (nothing_kept, (Working (TakeRoom 0), (refl, refl), (0, s, Working (TakeRoom 0), Nothing, Finished nothing_kept, (refl, refl), (room_next 0, refl, inl refl, (refl, (refl, refl))), refl)))
@@ -81,13 +81,13 @@ module _ {T W X : Type 0} (did : Deed T W → X → X → Type 0) where
 
   pub begins : (more : ℕ) (s : X) (call : QueueCall T) → Starts call queue_ask.Pop → IsAsking call queue_ask.Pop → Gathers (suc more) s call [] more s
   begins more s call starts asks =
-      (1, (s, Trying call (aim.RecvMany (gathering more)), Nothing, (room_next (suc more), refl, inl refl, (refl, (call, starts, asks, refl, refl))), (refl, refl)))
+      (1, (s, Trying call (purpose.RecvMany (gathering more)), Nothing, (room_next (suc more), refl, inl refl, (refl, (call, starts, asks, refl, refl))), (refl, refl)))
 
   module _ (room : ℕ) (s : X) (call after : QueueCall T) (taken : List T) (t u : X) where
     pub goes_on : (more : ℕ) → Gathers room s call taken more t → did (stepped call after None) t u → Gathers room s after taken more u
     goes_on more (n, leads) deed =
         let g = with_these taken more in
-        (suc n, leads_on did n s (Working (TakeRoom room)) t (Trying call (aim.RecvMany g)) (mark_of_queue (mark_of after)) u (Trying after (aim.RecvMany g)) leads (after, None, deed, refl, (refl, refl)))
+        (suc n, leads_on did n s (Working (TakeRoom room)) t (Trying call (purpose.RecvMany g)) (mark_of_queue (mark_of after)) u (Trying after (purpose.RecvMany g)) leads (after, None, deed, refl, (refl, refl)))
 
     -- it has taken one, and tries for the next
     pub takes : (more : ℕ) → Gathers room s call taken (suc more) t → (v : T) → did (stepped call after (Some (Pop (Ok v)))) t u
@@ -95,7 +95,7 @@ module _ {T W X : Type 0} (did : Deed T W → X → X → Type 0) where
     takes more (n, leads) v deed next starts asks =
         let g = with_these taken (suc more) in
         let g' = with_these (taken ++ v ∷ []) more in
-        (suc n, leads_on did n s (Working (TakeRoom room)) t (Trying call (aim.RecvMany g)) (mark_of_queue (mark_of after)) u (Trying next (aim.RecvMany g')) leads (after, Some (Pop (Ok v)), deed, refl, (next, starts, asks, refl, refl)))
+        (suc n, leads_on did n s (Working (TakeRoom room)) t (Trying call (purpose.RecvMany g)) (mark_of_queue (mark_of after)) u (Trying next (purpose.RecvMany g')) leads (after, Some (Pop (Ok v)), deed, refl, (next, starts, asks, refl, refl)))
 
     module _ (more : ℕ) (gathers : Gathers room s call taken more t) (y : QueueReply T) (deed : did (stepped call after (Some y)) t u) where
       -- the answer is the last one: what was taken is handed out
@@ -105,7 +105,7 @@ module _ {T W X : Type 0} (did : Deed T W → X → X → Type 0) where
           let g = with_these taken more in
           let tells : Stage (QueueCall T) T W = Working (TellSends (length vs) (says (reply.RecvMany (Ok vs)))) in
           let turn : Takes (several_next y g) tells None = subst (λ (z : NextStep T W). Takes z tells None) (sym e) (refl, refl) in
-          let leads = leads_on did gathers.0 s (Working (TakeRoom room)) t (Trying call (aim.RecvMany g)) (mark_of_queue (mark_of after)) u tells gathers.1 (after, Some y, deed, refl, turn) in
+          let leads = leads_on did gathers.0 s (Working (TakeRoom room)) t (Trying call (purpose.RecvMany g)) (mark_of_queue (mark_of after)) u tells gathers.1 (after, Some y, deed, refl, turn) in
           (nothing_kept, (Working (TakeRoom room), (refl, refl), (suc gathers.0, u, tells, Nothing, Finished nothing_kept, leads, (names, told, (refl, (refl, refl))), refl)))
 
       -- or nothing was taken
@@ -113,4 +113,4 @@ module _ {T W X : Type 0} (did : Deed T W → X → X → Type 0) where
       finds_none e is =
           let g = with_these taken more in
           let turn : Takes (several_next y g) (Finished nothing_kept) (Some (reply.RecvMany (Err (Plain e)))) = subst (λ (z : NextStep T W). Takes z (Finished nothing_kept) (Some (reply.RecvMany (Err (Plain e))))) (sym is) (refl, refl) in
-          (nothing_kept, (Working (TakeRoom room), (refl, refl), (gathers.0, t, Trying call (aim.RecvMany g), mark_of_queue (mark_of after), Finished nothing_kept, gathers.1, (after, Some y, deed, refl, turn), refl)))
+          (nothing_kept, (Working (TakeRoom room), (refl, refl), (gathers.0, t, Trying call (purpose.RecvMany g), mark_of_queue (mark_of after), Finished nothing_kept, gathers.1, (after, Some y, deed, refl, turn), refl)))

@@ -29,7 +29,7 @@ use Rattle.channel_calls.specs.declared.reply.Reply.{Reply}
 use Rattle.channel_calls.specs.declared.reply.Reply.TheVariants as reply
 use Rattle.concurrent_queue.specs.declared.call.QueueAsk.TheVariants as ask
 use Rattle.channel_calls.specs.declared.stage.Purpose.{Purpose}
-use Rattle.channel_calls.specs.declared.stage.Purpose.TheVariants as aim
+use Rattle.channel_calls.specs.declared.stage.Purpose.TheVariants as purpose
 use Rattle.channel_calls.specs.declared.stage.Closer.{Closer}
 use Rattle.channel_calls.specs.declared.stage.Closer.TheVariants as closer
 use Rattle.channel_calls.specs.declared.stage.Ending.{Ending}
@@ -63,12 +63,12 @@ module _ {T W : Type 0} where
   EndsReady _ = Unit {0}
 
   abbrev pub StageFair : Stage (QueueCall T) T W → Type 0
-  StageFair (Trying call aim) = Unit {0}
+  StageFair (Trying call purpose) = Unit {0}
   StageFair (Working w) = EndsReady w
   StageFair (Finished kept) = Unit {0}
 
   abbrev pub TurnFair : NextStep T W → Type 0
-  TurnFair (Tries x aim) = Unit {0}
+  TurnFair (Tries x purpose) = Unit {0}
   TurnFair (Works w) = EndsReady w
   TurnFair (Ends x kept) = Leaves x kept
 
@@ -80,7 +80,7 @@ module _ (T W : Type 0) where
   Fair t = TurnFair t
 
   taken : (turn : NextStep T W) → Fair turn → (next : Stage (QueueCall T) T W) (r : Option (Reply T)) → Takes turn next r → After next r
-  taken (Tries x aim) fair next r (call, starts, asks, none, e) =
+  taken (Tries x purpose) fair next r (call, starts, asks, none, e) =
       let there : StageFair next = subst (λ (z : Stage (QueueCall T) T W). StageFair z) (sym e) tt in
       subst (λ (o : Option (Reply T)). After next o) (sym none) there
   taken (Works w) fair next r (none, e) =
@@ -146,7 +146,7 @@ module _ (T W : Type 0) where
   either false one other h k = k
 
   lowered : (side : Side) (key : Option Key) (n : ℕ) → Fair (lowered_next side key n)
-  lowered side key n = either (n == 1) (Tries ask.Close (aim.Close (dropper side key))) (ends_by (closer_ending (dropper side key) false)) tt (closing (dropper side key) false)
+  lowered side key n = either (n == 1) (Tries ask.Close (purpose.Close (dropper side key))) (ends_by (closer_ending (dropper side key) false)) tt (closing (dropper side key) false)
 
   counted : (side : Side) (m : Making) (n : ℕ) → Fair (counted_next side m n)
   counted side m n = either (nat_lt most n) (Ends reply.TooMany nothing_kept) (Works (Raise side n m)) refl tt
@@ -305,15 +305,15 @@ module _ (T W : Type 0) where
   upgraded (Cap y) side = refl
 
   answered : (a : Purpose T W) (x : QueueReply T) → Fair (answered_next a x)
-  answered aim.TrySend x = sent x
-  answered aim.ForceSend x = forced x
-  answered aim.TryRecv x = received x
-  answered (aim.RecvMany g) x = several x g
-  answered (aim.Poll line key task) x = polled key task line x
-  answered (aim.Close c) x = closed x c
-  answered aim.Ask x = asked x
-  answered aim.IsTerminated x = terminated x
-  answered (aim.Upgrade side) x = upgraded x side
+  answered purpose.TrySend x = sent x
+  answered purpose.ForceSend x = forced x
+  answered purpose.TryRecv x = received x
+  answered (purpose.RecvMany g) x = several x g
+  answered (purpose.Poll line key task) x = polled key task line x
+  answered (purpose.Close c) x = closed x c
+  answered purpose.Ask x = asked x
+  answered purpose.IsTerminated x = terminated x
+  answered (purpose.Upgrade side) x = upgraded x side
 
 module _ {T W X : Type 0} (did : Deed T W → X → X → Type 0) (s t : X) (m : Mark) (next : Stage (QueueCall T) T W) (r : Option (Reply T)) where
   worked : (w : ListStep T W) → EndsReady w → ChannelMakes did (Working w) s t m next r → After next r

@@ -16,7 +16,7 @@ use Rattle.channel_calls.specs.declared.error.TryRecvError.{TryRecvError}
 use Rattle.channel_calls.specs.Several.{Gathered, with_one}
 use Rattle.channel_calls.specs.declared.reply.Reply.{Reply}
 use Rattle.channel_calls.specs.declared.stage.Purpose.{Purpose}
-use Rattle.channel_calls.specs.declared.stage.Purpose.TheVariants as aim
+use Rattle.channel_calls.specs.declared.stage.Purpose.TheVariants as purpose
 use Rattle.channel_calls.specs.declared.stage.Closer.{Closer}
 use Rattle.channel_calls.specs.declared.stage.Closer.TheVariants as closer
 use Rattle.channel_calls.specs.declared.stage.WaitList.TheVariants.{Sends, Receives, Streams, Closings}
@@ -328,18 +328,18 @@ module _ {T : Type 0} (W : Type 0) (b : QueueForm) where
   upgraded side (Cap y) h r m t = absurd h
 
   pub answered : (x : Purpose T W) (a : QueueAsk T) (y : QueueReply T) → MayAnswer b a y → (r : Reply T) (m : Option T) → MayTurn b (answered_next x y) r m → MayTry b x a r m
-  answered aim.TrySend a y h r m t = λ v e. sent v y (subst (λ (z : QueueAsk T). MayAnswer b z y) e h) r m t
-  answered aim.ForceSend a y h r m t = λ v e. forced v y (subst (λ (z : QueueAsk T). MayAnswer b z y) e h) r m t
-  answered aim.TryRecv a y h r m t = λ e. received y (subst (λ (z : QueueAsk T). MayAnswer b z y) e h) r m t
-  answered (aim.RecvMany g) a y h r m t = λ e. several g y (subst (λ (z : QueueAsk T). MayAnswer b z y) e h) r m t
-  answered (aim.Poll Sends key task) a y h r m t = λ v e. polled_send v key task y (subst (λ (z : QueueAsk T). MayAnswer b z y) e h) r m t
-  answered (aim.Poll Receives key task) a y h r m t = λ e. polled_receive key task y (subst (λ (z : QueueAsk T). MayAnswer b z y) e h) r m t
-  answered (aim.Poll Streams key task) a y h r m t = λ e. polled_stream key task y (subst (λ (z : QueueAsk T). MayAnswer b z y) e h) r m t
-  answered (aim.Poll Closings key task) a y h r m t = λ e. polled_closing key task y (subst (λ (z : QueueAsk T). MayAnswer b z y) e h) r m t
-  answered (aim.Close c) a y h r m t = λ e. closed c y (subst (λ (z : QueueAsk T). MayAnswer b z y) e h) r m t
-  answered aim.Ask a y h r m t = asked a y h r m t
-  answered aim.IsTerminated a y h r m t = λ e. terminated y (subst (λ (z : QueueAsk T). MayAnswer b z y) e h) r m t
-  answered (aim.Upgrade side) a y h r m t = λ e. upgraded side y (subst (λ (z : QueueAsk T). MayAnswer b z y) e h) r m t
+  answered purpose.TrySend a y h r m t = λ v e. sent v y (subst (λ (z : QueueAsk T). MayAnswer b z y) e h) r m t
+  answered purpose.ForceSend a y h r m t = λ v e. forced v y (subst (λ (z : QueueAsk T). MayAnswer b z y) e h) r m t
+  answered purpose.TryRecv a y h r m t = λ e. received y (subst (λ (z : QueueAsk T). MayAnswer b z y) e h) r m t
+  answered (purpose.RecvMany g) a y h r m t = λ e. several g y (subst (λ (z : QueueAsk T). MayAnswer b z y) e h) r m t
+  answered (purpose.Poll Sends key task) a y h r m t = λ v e. polled_send v key task y (subst (λ (z : QueueAsk T). MayAnswer b z y) e h) r m t
+  answered (purpose.Poll Receives key task) a y h r m t = λ e. polled_receive key task y (subst (λ (z : QueueAsk T). MayAnswer b z y) e h) r m t
+  answered (purpose.Poll Streams key task) a y h r m t = λ e. polled_stream key task y (subst (λ (z : QueueAsk T). MayAnswer b z y) e h) r m t
+  answered (purpose.Poll Closings key task) a y h r m t = λ e. polled_closing key task y (subst (λ (z : QueueAsk T). MayAnswer b z y) e h) r m t
+  answered (purpose.Close c) a y h r m t = λ e. closed c y (subst (λ (z : QueueAsk T). MayAnswer b z y) e h) r m t
+  answered purpose.Ask a y h r m t = asked a y h r m t
+  answered purpose.IsTerminated a y h r m t = λ e. terminated y (subst (λ (z : QueueAsk T). MayAnswer b z y) e h) r m t
+  answered (purpose.Upgrade side) a y h r m t = λ e. upgraded side y (subst (λ (z : QueueAsk T). MayAnswer b z y) e h) r m t
 
   -- a poll that tries once more may answer what its operation may
   pub retried : (w : Waiting T) (key : Option Key) (task : W) (r : Reply T) (m : Option T) → MayTurn b (again w key task) r m → MayPoll w r m

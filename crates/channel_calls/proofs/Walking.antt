@@ -25,7 +25,7 @@ use Rattle.channel_calls.specs.declared.stage.NextStep.TheVariants.{Tries, Works
 
 module _ {T W : Type 0} where
   pub taken_of : (turn : NextStep T W) (s : Stage (QueueCall T) T W) (r : Option (Reply T)) → Takes turn s r → IsTaken turn r s
-  taken_of (Tries x aim) s r (call, starts, asks, none, e) = (call, starts, none, e)
+  taken_of (Tries x purpose) s r (call, starts, asks, none, e) = (call, starts, none, e)
   taken_of (Works w) s r h = h
   taken_of (Ends x kept) s r h = h
 
@@ -62,20 +62,20 @@ module _ {T W X : Type 0} (did : Deed T W → X → X → Type 0) where
   answered_as turn s t r r' kept e h = subst (λ (z : Reply T). WalkedFrom did turn s z kept t) e h
 
   -- a call of the queue that was asked, and answered or goes on
-  module _ (s t : X) (x : QueueAsk T) (aim : Purpose T W) (one two : QueueCall T) (starts : Starts one x) (asks : IsAsking one x) (o : Option (QueueReply T)) (deed : did (stepped one two o) s t) where
-    pub goes_on : o ≡ None → (m : Mark) → WalkedOn did (Tries x aim) s (Err (record { stage = Trying two aim; mark = m })) t
+  module _ (s t : X) (x : QueueAsk T) (purpose : Purpose T W) (one two : QueueCall T) (starts : Starts one x) (asks : IsAsking one x) (o : Option (QueueReply T)) (deed : did (stepped one two o) s t) where
+    pub goes_on : o ≡ None → (m : Mark) → WalkedOn did (Tries x purpose) s (Err (record { stage = Trying two purpose; mark = m })) t
     goes_on none m =
         let d : did (stepped one two None) s t = subst (λ (z : Option (QueueReply T)). did (stepped one two z) s t) none deed in
-        (Trying one aim, (one, starts, asks, refl, refl), 1, (t, Trying two aim, mark_of_queue (mark_of two), (two, None, d, refl, (refl, refl)), (refl, refl)))
+        (Trying one purpose, (one, starts, asks, refl, refl), 1, (t, Trying two purpose, mark_of_queue (mark_of two), (two, None, d, refl, (refl, refl)), (refl, refl)))
 
-    pub answers : (y : QueueReply T) → o ≡ Some y → (turn : NextStep T W) → turn ≡ answered_next aim y → KeepsNothing turn
-        → (result : Result (Reply T) (ChannelCall T W)) → Turned turn result → WalkedOn did (Tries x aim) s result t
+    pub answers : (y : QueueReply T) → o ≡ Some y → (turn : NextStep T W) → turn ≡ answered_next purpose y → KeepsNothing turn
+        → (result : Result (Reply T) (ChannelCall T W)) → Turned turn result → WalkedOn did (Tries x purpose) s result t
     answers y some turn next keeps (Ok r) (c, takes, follows) =
         let d : did (stepped one two (Some y)) s t = subst (λ (z : Option (QueueReply T)). did (stepped one two z) s t) some deed in
-        let now : Takes (answered_next aim y) c (Some r) = subst (λ (z : NextStep T W). Takes z c (Some r)) next takes in
+        let now : Takes (answered_next purpose y) c (Some r) = subst (λ (z : NextStep T W). Takes z c (Some r)) next takes in
         let none : nothing_kept ≡ kept_by c = sym (ap (λ (z : Stage (QueueCall T) T W). kept_by z) (keeps r c takes)) in
-        (Trying one aim, (one, starts, asks, refl, refl), (0, s, Trying one aim, mark_of_queue (mark_of two), c, (refl, refl), (two, Some y, d, refl, now), none))
+        (Trying one purpose, (one, starts, asks, refl, refl), (0, s, Trying one purpose, mark_of_queue (mark_of two), c, (refl, refl), (two, Some y, d, refl, now), none))
     answers y some turn next keeps (Err call) (takes, follows) =
         let d : did (stepped one two (Some y)) s t = subst (λ (z : Option (QueueReply T)). did (stepped one two z) s t) some deed in
-        let now : Takes (answered_next aim y) call.stage None = subst (λ (z : NextStep T W). Takes z call.stage None) next takes in
-        (Trying one aim, (one, starts, asks, refl, refl), 1, (t, call.stage, mark_of_queue (mark_of two), (two, Some y, d, refl, now), (refl, refl)))
+        let now : Takes (answered_next purpose y) call.stage None = subst (λ (z : NextStep T W). Takes z call.stage None) next takes in
+        (Trying one purpose, (one, starts, asks, refl, refl), 1, (t, call.stage, mark_of_queue (mark_of two), (two, Some y, d, refl, now), (refl, refl)))

@@ -15,7 +15,7 @@ use Rattle.channel_calls.specs.declared.error.TryRecvError.TheVariants as try_re
 use Rattle.channel_calls.specs.declared.reply.Reply.{Reply}
 use Rattle.channel_calls.specs.declared.reply.Reply.TheVariants as reply
 use Rattle.channel_calls.specs.declared.stage.Purpose.{Purpose}
-use Rattle.channel_calls.specs.declared.stage.Purpose.TheVariants as aim
+use Rattle.channel_calls.specs.declared.stage.Purpose.TheVariants as purpose
 use Rattle.channel_calls.specs.declared.stage.Closer.{Closer}
 use Rattle.channel_calls.specs.declared.stage.Ending.{Ending}
 use Rattle.channel_calls.specs.declared.stage.WaitList.{WaitList}
@@ -64,7 +64,7 @@ module _ {T W : Type 0} where
 
   -- the next one is tried for, or these are all
   abbrev pub gathered_next : Result (Gathered T) (List T) → NextStep T W
-  gathered_next (Ok g) = Tries ask.Pop (aim.RecvMany g)
+  gathered_next (Ok g) = Tries ask.Pop (purpose.RecvMany g)
   gathered_next (Err vs) = hands_out vs
 
   -- there is no further one after these
@@ -121,7 +121,7 @@ module _ {T W : Type 0} where
   asked_next _ = lost
 
   abbrev pub terminated_next : QueueReply T → NextStep T W
-  terminated_next (Flag true) = Tries ask.IsEmpty aim.Ask
+  terminated_next (Flag true) = Tries ask.IsEmpty purpose.Ask
   terminated_next (Flag false) = ends_by (says (reply.Flag false))
   terminated_next _ = lost
 
@@ -132,12 +132,12 @@ module _ {T W : Type 0} where
 
   -- by what the call of the queue was made for
   abbrev pub answered_next : Purpose T W → QueueReply T → NextStep T W
-  answered_next aim.TrySend x = sent_next x
-  answered_next aim.ForceSend x = forced_next x
-  answered_next aim.TryRecv x = received_next x
-  answered_next (aim.RecvMany g) x = several_next x g
-  answered_next (aim.Poll line key task) x = polled_next line x key task
-  answered_next (aim.Close c) x = closed_next x c
-  answered_next aim.Ask x = asked_next x
-  answered_next aim.IsTerminated x = terminated_next x
-  answered_next (aim.Upgrade side) x = upgraded_next x side
+  answered_next purpose.TrySend x = sent_next x
+  answered_next purpose.ForceSend x = forced_next x
+  answered_next purpose.TryRecv x = received_next x
+  answered_next (purpose.RecvMany g) x = several_next x g
+  answered_next (purpose.Poll line key task) x = polled_next line x key task
+  answered_next (purpose.Close c) x = closed_next x c
+  answered_next purpose.Ask x = asked_next x
+  answered_next purpose.IsTerminated x = terminated_next x
+  answered_next (purpose.Upgrade side) x = upgraded_next x side

@@ -8,7 +8,7 @@ use Rattle.channel_calls.specs.declared.ask.ChannelAsk.{ChannelAsk}
 use Rattle.channel_calls.specs.declared.ask.ChannelAsk.TheVariants.{TrySend, ForceSend, TryRecv, RecvMany, Close, PollSend, PollFinishedSend, PollRecv, PollClosed, PollNext, RefusePoll, GiveUp, DropSender, DropReceiver, CloneHandle, Upgrade, HandleCount, IsClosed, IsEmpty, IsFull, Len, Capacity, IsTerminated, SendIsTerminated, SameChannel, Make, DropWeak}
 use Rattle.channel_calls.specs.declared.ask.Loan.{Loan}
 use Rattle.channel_calls.specs.declared.reply.Reply.TheVariants as reply
-use Rattle.channel_calls.specs.declared.stage.Purpose.TheVariants as aim
+use Rattle.channel_calls.specs.declared.stage.Purpose.TheVariants as purpose
 use Rattle.channel_calls.specs.declared.stage.Closer.TheVariants as closer
 use Rattle.channel_calls.specs.declared.stage.Ending.{Ending}
 use Rattle.channel_calls.specs.declared.stage.Returned.{Returned}
@@ -42,7 +42,7 @@ module _ {T : Type 0} where
   -- what a call that has answered leaves
   abbrev pub kept_by : {Q W : Type 0} → Stage Q T W → Returned T
   kept_by (stage.Finished kept) = kept
-  kept_by (stage.Trying call aim) = nothing_kept
+  kept_by (stage.Trying call purpose) = nothing_kept
   kept_by (stage.Working w) = nothing_kept
 
 module _ {T W : Type 0} where
@@ -56,11 +56,11 @@ module _ {T W : Type 0} where
 
   -- the first turn of a call
   abbrev pub first : ChannelAsk T W → NextStep T W
-  first (TrySend m) = Tries (ask.Push m) aim.TrySend
-  first (ForceSend m) = Tries (ask.ForcePush m) aim.ForceSend
-  first TryRecv = Tries ask.Pop aim.TryRecv
+  first (TrySend m) = Tries (ask.Push m) purpose.TrySend
+  first (ForceSend m) = Tries (ask.ForcePush m) purpose.ForceSend
+  first TryRecv = Tries ask.Pop purpose.TryRecv
   first (RecvMany n) = Works (work.TakeRoom n)
-  first Close = Tries ask.Close (aim.Close closer.Call)
+  first Close = Tries ask.Close (purpose.Close closer.Call)
   first (PollSend m l task) = begins (waiting.Send m) l task
   first PollFinishedSend = Works (work.Leave (says (reply.SendPoll poll.Pending)))
   first (PollRecv l task) = begins waiting.Receive l task
@@ -71,14 +71,14 @@ module _ {T W : Type 0} where
   first DropSender = Works (work.Lower Senders None)
   first (DropReceiver key) = Works (work.Lower Receivers key)
   first (CloneHandle side) = Works (work.Load side making.Clone)
-  first (Upgrade side) = Tries ask.IsClosed (aim.Upgrade side)
+  first (Upgrade side) = Tries ask.IsClosed (purpose.Upgrade side)
   first (HandleCount side) = Works (work.Count side)
-  first IsClosed = Tries ask.IsClosed aim.Ask
-  first IsEmpty = Tries ask.IsEmpty aim.Ask
-  first IsFull = Tries ask.IsFull aim.Ask
-  first Len = Tries ask.Len aim.Ask
-  first Capacity = Tries ask.Capacity aim.Ask
-  first IsTerminated = Tries ask.IsClosed aim.IsTerminated
+  first IsClosed = Tries ask.IsClosed purpose.Ask
+  first IsEmpty = Tries ask.IsEmpty purpose.Ask
+  first IsFull = Tries ask.IsFull purpose.Ask
+  first Len = Tries ask.Len purpose.Ask
+  first Capacity = Tries ask.Capacity purpose.Ask
+  first IsTerminated = Tries ask.IsClosed purpose.IsTerminated
   first (SendIsTerminated b) = Works (work.Leave (says (reply.Flag b)))
   first (SameChannel b) = Works (work.Leave (says (reply.Flag b)))
   first Make = Works (work.Leave (says reply.Made))

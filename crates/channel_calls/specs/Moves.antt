@@ -28,14 +28,14 @@ use Rattle.channel_calls.specs.declared.stage.Waiting.{Waiting}
 use Rattle.channel_calls.specs.declared.stage.ListStep.{ListStep}
 use Rattle.channel_calls.specs.declared.stage.ListStep.TheVariants.{TellReceive, TellStreams, TellSend, TellSends, TakeRoom, TellAll, Insert, Register, Leave, Lower, Count, Load, Raise}
 use Rattle.channel_calls.specs.Marks.{mark_of_queue, up, down}
-use Rattle.channel_calls.specs.Parts.{Parts, WaitLists, Listeners, new_roster, with_cells, with_roster, listeners, with_listeners, count, with_count, is_raised, told_one, told_one_wakes, told_more, told_more_wakes, told_all, told_all_wakes, waits}
+use Rattle.channel_calls.specs.Parts.{Parts, WaitLists, Listeners, new_wait_lists, with_cells, with_wait_lists, listeners, with_listeners, count, with_count, is_raised, told_one, told_one_wakes, told_more, told_more_wakes, told_all, told_all_wakes, waits}
 use Rattle.channel_calls.specs.Turns.{line_of, leaving, nothing_kept, ends_by, again, pends_by, unlistened, told_all_next, room_next, roomless, lowered_next, loaded_next, raised_next}
 use Rattle.channel_calls.specs.Answered.{answered_next}
 
 -- a channel at one moment: its queue, its lists of listeners and its counts of handles
 pub record Channel (T W : Type 0) : Type 0 where
   pub queue : Queue T
-  pub roster : WaitLists W
+  pub wait_lists : WaitLists W
 
 -- what a step did: the channel after it, its mark, and the tasks that it woke in order
 pub record Effect (T W : Type 0) : Type 0 where
@@ -45,11 +45,11 @@ pub record Effect (T W : Type 0) : Type 0 where
 
 module _ {T W : Type 0} where
   abbrev pub channel : Queue T → Parts T W → Channel T W
-  channel q p = record { queue = q; roster = p.roster }
+  channel q p = record { queue = q; wait_lists = p.wait_lists }
 
   -- a channel that was just opened
   abbrev pub new_channel : Option ℕ → Channel T W
-  new_channel cap = record { queue = opened cap; roster = new_roster }
+  new_channel cap = record { queue = opened cap; wait_lists = new_wait_lists }
 
   -- ---- the effects that a step may have
 
@@ -63,61 +63,61 @@ module _ {T W : Type 0} where
 
   -- on one list, which wakes these
   abbrev pub on_line : WaitList → Listeners W → List W → Channel T W → Effect T W
-  on_line line l names c = record { channel = record c { roster = with_listeners line l c.roster }; mark = mark.Nothing; woken = names }
+  on_line line l names c = record { channel = record c { wait_lists = with_listeners line l c.wait_lists }; mark = mark.Nothing; woken = names }
 
   -- on one count, with this mark
   abbrev pub on_count : Side → ℕ → Mark → Channel T W → Effect T W
-  on_count side n m c = record { channel = record c { roster = with_count side n c.roster }; mark = m; woken = [] }
+  on_count side n m c = record { channel = record c { wait_lists = with_count side n c.wait_lists }; mark = m; woken = [] }
 
   abbrev pub tells_one : WaitList → Channel T W → Effect T W
-  tells_one line c = on_line line (told_one (listeners line c.roster)) (told_one_wakes (listeners line c.roster)) c
+  tells_one line c = on_line line (told_one (listeners line c.wait_lists)) (told_one_wakes (listeners line c.wait_lists)) c
 
   abbrev pub tells_more : ℕ → WaitList → Channel T W → Effect T W
-  tells_more n line c = on_line line (told_more n (listeners line c.roster)) (told_more_wakes n (listeners line c.roster)) c
+  tells_more n line c = on_line line (told_more n (listeners line c.wait_lists)) (told_more_wakes n (listeners line c.wait_lists)) c
 
   abbrev pub tells_all : WaitList → Channel T W → Effect T W
-  tells_all line c = on_line line (told_all (listeners line c.roster)) (told_all_wakes (listeners line c.roster)) c
+  tells_all line c = on_line line (told_all (listeners line c.wait_lists)) (told_all_wakes (listeners line c.wait_lists)) c
 
   abbrev pub listens : WaitList → Key → Channel T W → Effect T W
-  listens line key c = on_line line (listened key (listeners line c.roster)) [] c
+  listens line key c = on_line line (listened key (listeners line c.wait_lists)) [] c
 
   abbrev pub registers : WaitList → Key → W → Channel T W → Effect T W
-  registers line key task c = on_line line (registration key task (listeners line c.roster)) [] c
+  registers line key task c = on_line line (registration key task (listeners line c.wait_lists)) [] c
 
   -- a listener leaves, and passes on the notice that it was told
   abbrev pub removes : ListenerRef → Channel T W → Effect T W
-  removes h c = on_line h.line (removed h.key true (listeners h.line c.roster)) (removed_wakes h.key true (listeners h.line c.roster)) c
+  removes h c = on_line h.line (removed h.key true (listeners h.line c.wait_lists)) (removed_wakes h.key true (listeners h.line c.wait_lists)) c
 
   abbrev pub leaves : Option ListenerRef → Channel T W → Effect T W
   leaves None c = untouched c
   leaves (Some h) c = removes h c
 
   abbrev pub lowers : Side → Channel T W → Effect T W
-  lowers side c = on_count side (count side c.roster - 1) (down side) c
+  lowers side c = on_count side (count side c.wait_lists - 1) (down side) c
 
   abbrev pub raises : Side → ℕ → Channel T W → Effect T W
-  raises side n c = if is_raised side n c.roster then on_count side (n + 1) (up side) c else untouched c
+  raises side n c = if is_raised side n c.wait_lists then on_count side (n + 1) (up side) c else untouched c
 
   -- ---- what comes after
 
   -- the turn is taken: a new call of the queue begins, or a list or a count comes next, or the call answers
   abbrev pub Turned : NextStep T W → Option (Reply T) → Stage (Phase T) T W → Type 0
-  Turned (Tries x aim) r s = (r ≡ None) × (s ≡ Trying (asked x) aim)
+  Turned (Tries x purpose) r s = (r ≡ None) × (s ≡ Trying (asked x) purpose)
   Turned (Works w) r s = (r ≡ None) × (s ≡ Working w)
   Turned (Ends x kept) r s = (r ≡ Some x) × (s ≡ Finished kept)
 
-  -- a step of the queue's call: it goes on, or it answers and the turn is taken that its aim gives
-  pub record Tried (c : Channel T W) (f : Phase T) (aim : Purpose T W) (e : Effect T W) (r : Option (Reply T)) (s : Stage (Phase T) T W) : Type 0 where
+  -- a step of the queue's call: it goes on, or it answers and the turn is taken that its purpose gives
+  pub record Tried (c : Channel T W) (f : Phase T) (purpose : Purpose T W) (e : Effect T W) (r : Option (Reply T)) (s : Stage (Phase T) T W) : Type 0 where
     pub mark : QueueMark
     pub effect : e ≡ queued f mark c
     pub how :
-        ((f' : Phase T) × Continues c.queue f mark f' × (r ≡ None) × (s ≡ Trying f' aim))
-        ⊎ ((x : QueueReply T) × Answers c.queue f mark x × Turned (answered_next aim x) r s)
+        ((f' : Phase T) × Continues c.queue f mark f' × (r ≡ None) × (s ≡ Trying f' purpose))
+        ⊎ ((x : QueueReply T) × Answers c.queue f mark x × Turned (answered_next purpose x) r s)
 
   -- a listener comes in, under a key that is not listed, and the poll tries again; or it is refused
   abbrev pub Inserts : Waiting T → W → Channel T W → Effect T W → Option (Reply T) → Stage (Phase T) T W → Type 0
   Inserts w task c e r s =
-      ((key : Key) × (kind_of (listeners (line_of w) c.roster) key ≡ None) × (e ≡ listens (line_of w) key c) × Turned (again w (Some key) task) r s)
+      ((key : Key) × (kind_of (listeners (line_of w) c.wait_lists) key ≡ None) × (e ≡ listens (line_of w) key c) × Turned (again w (Some key) task) r s)
       ⊎ ((error : ListenError) × (e ≡ untouched c) × Turned (unlistened w error) r s)
 
   -- room for so many messages at most is taken, or refused
@@ -135,16 +135,16 @@ module _ {T W : Type 0} where
   Worked c (Insert w task) e r s = Inserts w task c e r s
   Worked c (Register w key task) e r s =
       (e ≡ registers (line_of w) key task c)
-      × Turned (if waits key (listeners (line_of w) c.roster) then pends_by w key else again w None task) r s
+      × Turned (if waits key (listeners (line_of w) c.wait_lists) then pends_by w key else again w None task) r s
   Worked c (Leave x) e r s = (e ≡ leaves x.held c) × Turned (Ends x.reply (leaving None x.message)) r s
-  Worked c (Lower side key) e r s = (e ≡ lowers side c) × Turned (lowered_next side key (count side c.roster)) r s
-  Worked c (Count side) e r s = (e ≡ untouched c) × Turned (Ends (reply.Count (count side c.roster)) nothing_kept) r s
-  Worked c (Load side making) e r s = (e ≡ untouched c) × Turned (loaded_next side making (count side c.roster)) r s
-  Worked c (Raise side n making) e r s = (e ≡ raises side n c) × Turned (raised_next side making (is_raised side n c.roster)) r s
+  Worked c (Lower side key) e r s = (e ≡ lowers side c) × Turned (lowered_next side key (count side c.wait_lists)) r s
+  Worked c (Count side) e r s = (e ≡ untouched c) × Turned (Ends (reply.Count (count side c.wait_lists)) nothing_kept) r s
+  Worked c (Load side making) e r s = (e ≡ untouched c) × Turned (loaded_next side making (count side c.wait_lists)) r s
+  Worked c (Raise side n making) e r s = (e ≡ raises side n c) × Turned (raised_next side making (is_raised side n c.wait_lists)) r s
 
   -- one step of a call at this stage; one that has answered does nothing
   abbrev pub Moves : Channel T W → Stage (Phase T) T W → Effect T W → Option (Reply T) → Stage (Phase T) T W → Type 0
-  Moves c (Trying f aim) e r s = Tried c f aim e r s
+  Moves c (Trying f purpose) e r s = Tried c f purpose e r s
   Moves c (Working w) e r s = Worked c w e r s
   Moves c (Finished kept) e r s = (e ≡ untouched c) × (r ≡ None) × (s ≡ Finished kept)
 
@@ -152,13 +152,13 @@ module _ {T W : Type 0} where
 
   -- the calls of the queue that a call of the channel has under way
   abbrev pub seats : Phase T → Stage (QueueCall T) T W → List (ActiveQueueCall T)
-  seats f (Trying call aim) = seat call f ∷ []
+  seats f (Trying call purpose) = seat call f ∷ []
   seats f (Working w) = []
   seats f (Finished kept) = []
 
   -- a stage, with its queue's phase in the place of its queue's call
   abbrev pub phase : Phase T → Stage (QueueCall T) T W → Stage (Phase T) T W
-  phase f (Trying call aim) = Trying f aim
+  phase f (Trying call purpose) = Trying f purpose
   phase f (Working w) = Working w
   phase f (Finished kept) = Finished kept
 
@@ -166,20 +166,20 @@ module _ {T W : Type 0} where
   abbrev pub OnePlace : Parts T W → Parts T W → Type 0
   OnePlace parts parts' =
       ((parts' ≡ with_cells parts'.cells parts) × OneCell parts.cells parts'.cells)
-      ⊎ (((line : WaitList) × (l : Listeners W) × (parts' ≡ with_roster (with_listeners line l parts.roster) parts))
-      ⊎ ((side : Side) × (n : ℕ) × (parts' ≡ with_roster (with_count side n parts.roster) parts)))
+      ⊎ (((line : WaitList) × (l : Listeners W) × (parts' ≡ with_wait_lists (with_listeners line l parts.wait_lists) parts))
+      ⊎ ((side : Side) × (n : ℕ) × (parts' ≡ with_wait_lists (with_count side n parts.wait_lists) parts)))
 
   -- the code has taken the turn: where the queue is asked, by a call that may come in among any others
   abbrev pub IsTaken : NextStep T W → Option (Reply T) → Stage (QueueCall T) T W → Type 0
-  IsTaken (Tries x aim) r s = (call : QueueCall T) × Starts call x × (r ≡ None) × (s ≡ Trying call aim)
+  IsTaken (Tries x purpose) r s = (call : QueueCall T) × Starts call x × (r ≡ None) × (s ≡ Trying call purpose)
   IsTaken (Works w) r s = (r ≡ None) × (s ≡ Working w)
   IsTaken (Ends x kept) r s = (r ≡ Some x) × (s ≡ Finished kept)
 
   -- where the others are quiet, a call of the queue needs fewer steps after this one, or it answers
   abbrev pub Hastens : Contents T → Queue T → Phase T → Stage (QueueCall T) T W → Contents T → Option (Reply T) → Stage (QueueCall T) T W → Type 0
-  Hastens c q f (Trying call aim) d r stage' =
-      ((call' : QueueCall T) × (stage' ≡ Trying call' aim) × (rank d call' < rank c call))
-      ⊎ ((x : QueueReply T) × (m : QueueMark) × Answers q f m x × IsTaken (answered_next aim x) r stage')
+  Hastens c q f (Trying call purpose) d r stage' =
+      ((call' : QueueCall T) × (stage' ≡ Trying call' purpose) × (rank d call' < rank c call))
+      ⊎ ((x : QueueReply T) × (m : QueueMark) × Answers q f m x × IsTaken (answered_next purpose x) r stage')
   Hastens c q f _ d r stage' = Unit {0}
 
   -- one step over the queue q, which has used these blocks, beside any other calls of the queue

@@ -24,22 +24,22 @@ pub record WaitLists (W : Type 0) : Type 0 where
 -- what a queue's cells hold, with the lists and the counts
 pub record Parts (T W : Type 0) : Type 0 where
   pub cells : Contents T
-  pub roster : WaitLists W
+  pub wait_lists : WaitLists W
 
 module _ {T W : Type 0} where
   abbrev pub with_cells : Contents T → Parts T W → Parts T W
   with_cells cells p = record p { cells = cells }
 
-  abbrev pub with_roster : WaitLists W → Parts T W → Parts T W
-  with_roster roster p = record p { roster = roster }
+  abbrev pub with_wait_lists : WaitLists W → Parts T W → Parts T W
+  with_wait_lists wait_lists p = record p { wait_lists = wait_lists }
 
 module _ {W : Type 0} where
   abbrev pub nobody_listens : Listeners W
   nobody_listens = record { told = []; waiting = [] }
 
   -- one handle of each kind, and no listeners
-  abbrev pub new_roster : WaitLists W
-  new_roster =
+  abbrev pub new_wait_lists : WaitLists W
+  new_wait_lists =
       record { sends = nobody_listens; receives = nobody_listens; streams = nobody_listens; closings = nobody_listens; senders = 1; receivers = 1 }
 
   abbrev pub listeners : WaitList → WaitLists W → Listeners W

@@ -11,7 +11,7 @@ abbrev pub parts_of : {T W : Type 0} → PlainChannel T W → Parts T W
 parts_of c =
     record {
       cells = contents_of c.cells;
-      roster = record { sends = c.sends.lists; receives = c.receives.lists; streams = c.streams.lists; closings = c.closings.lists; senders = c.senders; receivers = c.receivers };
+      wait_lists = record { sends = c.sends.lists; receives = c.receives.lists; streams = c.streams.lists; closings = c.closings.lists; senders = c.senders; receivers = c.receivers };
     }
 
 -- which form its queue has
@@ -24,4 +24,4 @@ rooms_of c = record { sends = c.sends.room; receives = c.receives.room; streams 
 
 -- to its parts, and to the room of its lists
 abbrev pub DoesPlain : {T W : Type 0} → Deed T W → PlainChannel T W → PlainChannel T W → Type 0
-DoesPlain d a b = Does d (parts_of a) (parts_of b) × KeepsRoom d (parts_of a).roster (rooms_of a) (rooms_of b)
+DoesPlain d a b = Does d (parts_of a) (parts_of b) × KeepsRoom d (parts_of a).wait_lists (rooms_of a) (rooms_of b)

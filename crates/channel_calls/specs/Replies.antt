@@ -20,7 +20,7 @@ use Rattle.channel_calls.specs.declared.error.TrySendError.TheVariants as try_se
 use Rattle.channel_calls.specs.declared.reply.Reply.{Reply}
 use Rattle.channel_calls.specs.declared.reply.Reply.TheVariants as reply
 use Rattle.channel_calls.specs.declared.stage.Purpose.{Purpose}
-use Rattle.channel_calls.specs.declared.stage.Purpose.TheVariants as aim
+use Rattle.channel_calls.specs.declared.stage.Purpose.TheVariants as purpose
 use Rattle.channel_calls.specs.declared.stage.Closer.{Closer}
 use Rattle.channel_calls.specs.declared.stage.Closer.TheVariants as closer
 use Rattle.channel_calls.specs.declared.stage.Ending.{Ending}
@@ -145,18 +145,18 @@ module _ {T : Type 0} where
 
   -- a call of the queue that is made for this, and asks that
   abbrev pub MayTry : {W : Type 0} → QueueForm → Purpose T W → QueueAsk T → Reply T → Option T → Type 0
-  MayTry b aim.TrySend a r m = (v : T) → a ≡ ask.Push v → SendsAtOnce (is_bounded b) v r × (m ≡ None)
-  MayTry b aim.ForceSend a r m = (v : T) → a ≡ ask.ForcePush v → ForcesIn (is_bounded b) v r × (m ≡ None)
-  MayTry b aim.TryRecv a r m = a ≡ ask.Pop → IsTryRecv r × (m ≡ None)
-  MayTry b (aim.RecvMany g) a r m = a ≡ ask.Pop → GivesUpTo (length g.taken + (g.more + 1)) r × (m ≡ None)
-  MayTry b (aim.Poll Sends key task) a r m = (v : T) → a ≡ ask.Push v → MayPoll (waiting.Send v) r m
-  MayTry b (aim.Poll Receives key task) a r m = a ≡ ask.Pop → MayPoll waiting.Receive r m
-  MayTry b (aim.Poll Streams key task) a r m = a ≡ ask.Pop → MayPoll waiting.Stream r m
-  MayTry b (aim.Poll Closings key task) a r m = a ≡ ask.IsClosed → MayPoll waiting.Closing r m
-  MayTry b (aim.Close c) a r m = a ≡ ask.Close → IsClosing c r × (m ≡ None)
-  MayTry b aim.Ask a r m = MayTell a r × (m ≡ None)
-  MayTry b aim.IsTerminated a r m = a ≡ ask.IsClosed → IsFlag r × (m ≡ None)
-  MayTry b (aim.Upgrade side) a r m = a ≡ ask.IsClosed → IsUpgrading r × (m ≡ None)
+  MayTry b purpose.TrySend a r m = (v : T) → a ≡ ask.Push v → SendsAtOnce (is_bounded b) v r × (m ≡ None)
+  MayTry b purpose.ForceSend a r m = (v : T) → a ≡ ask.ForcePush v → ForcesIn (is_bounded b) v r × (m ≡ None)
+  MayTry b purpose.TryRecv a r m = a ≡ ask.Pop → IsTryRecv r × (m ≡ None)
+  MayTry b (purpose.RecvMany g) a r m = a ≡ ask.Pop → GivesUpTo (length g.taken + (g.more + 1)) r × (m ≡ None)
+  MayTry b (purpose.Poll Sends key task) a r m = (v : T) → a ≡ ask.Push v → MayPoll (waiting.Send v) r m
+  MayTry b (purpose.Poll Receives key task) a r m = a ≡ ask.Pop → MayPoll waiting.Receive r m
+  MayTry b (purpose.Poll Streams key task) a r m = a ≡ ask.Pop → MayPoll waiting.Stream r m
+  MayTry b (purpose.Poll Closings key task) a r m = a ≡ ask.IsClosed → MayPoll waiting.Closing r m
+  MayTry b (purpose.Close c) a r m = a ≡ ask.Close → IsClosing c r × (m ≡ None)
+  MayTry b purpose.Ask a r m = MayTell a r × (m ≡ None)
+  MayTry b purpose.IsTerminated a r m = a ≡ ask.IsClosed → IsFlag r × (m ≡ None)
+  MayTry b (purpose.Upgrade side) a r m = a ≡ ask.IsClosed → IsUpgrading r × (m ≡ None)
 
   abbrev pub MayWork : {W : Type 0} → ListStep T W → Reply T → Option T → Type 0
   MayWork (TellReceive e) r m = EndsBy e r m

@@ -10,7 +10,7 @@ use Rattle.channel_calls.specs.declared.error.Refused.{Refused}
 use Rattle.channel_calls.specs.declared.error.Refused.TheVariants as refused
 use Rattle.channel_calls.specs.declared.reply.Reply.{Reply}
 use Rattle.channel_calls.specs.declared.reply.Reply.TheVariants as reply
-use Rattle.channel_calls.specs.declared.stage.Purpose.TheVariants as aim
+use Rattle.channel_calls.specs.declared.stage.Purpose.TheVariants as purpose
 use Rattle.channel_calls.specs.declared.stage.Closer.{Closer}
 use Rattle.channel_calls.specs.declared.stage.Closer.TheVariants as closer
 use Rattle.channel_calls.specs.declared.stage.Ending.{Ending}
@@ -112,7 +112,7 @@ module _ {T W : Type 0} where
 
   -- a poll tries once more, over the same or no listener
   abbrev pub again : Waiting T → Option Key → W → NextStep T W
-  again w key task = Tries (ask_of w) (aim.Poll (line_of w) key task)
+  again w key task = Tries (ask_of w) (purpose.Poll (line_of w) key task)
 
   -- a poll that the channel refused listens, or asks the listener that it holds
   abbrev pub refused_next : Waiting T → Option Key → W → NextStep T W
@@ -147,7 +147,7 @@ module _ {T W : Type 0} where
   -- room is taken for so many messages at most, and the first one is tried for; where none is wanted, nothing is
   abbrev pub room_next : ℕ → NextStep T W
   room_next zero = Ends (reply.RecvMany (Ok [])) nothing_kept
-  room_next (suc n) = Tries ask.Pop (aim.RecvMany (gathering n))
+  room_next (suc n) = Tries ask.Pop (purpose.RecvMany (gathering n))
 
   -- or there is no memory, which is taken for none
   abbrev pub roomless : NextStep T W
@@ -159,7 +159,7 @@ module _ {T W : Type 0} where
   -- the drop of the last handle of its kind closes
   abbrev pub lowered_next : Side → Option Key → ℕ → NextStep T W
   lowered_next side key before =
-      if before == 1 then Tries ask.Close (aim.Close (dropper side key)) else ends_by (closer_ending (dropper side key) false)
+      if before == 1 then Tries ask.Close (purpose.Close (dropper side key)) else ends_by (closer_ending (dropper side key) false)
 
   -- a count that was read to be raised
   abbrev pub counted_next : Side → Making → ℕ → NextStep T W

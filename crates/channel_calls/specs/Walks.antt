@@ -38,7 +38,7 @@ raised_mark side false = Nothing
 module _ {T W : Type 0} where
   -- the turn is taken: the queue is asked by a call that has made no step, or a list or a count comes next, or this is the answer
   abbrev pub Takes : NextStep T W → Stage (QueueCall T) T W → Option (Reply T) → Type 0
-  Takes (Tries x aim) next r = (call : QueueCall T) × Starts call x × IsAsking call x × (r ≡ None) × (next ≡ Trying call aim)
+  Takes (Tries x purpose) next r = (call : QueueCall T) × Starts call x × IsAsking call x × (r ≡ None) × (next ≡ Trying call purpose)
   Takes (Works w) next r = (r ≡ None) × (next ≡ Working w)
   Takes (Ends x kept) next r = (r ≡ Some x) × (next ≡ Finished kept)
 
@@ -48,8 +48,8 @@ module _ {T W : Type 0} where
 
   -- the queue's call goes on, or has answered
   abbrev pub Heard : Purpose T W → QueueCall T → Option (QueueReply T) → Stage (QueueCall T) T W → Option (Reply T) → Type 0
-  Heard aim after None next r = (next ≡ Trying after aim) × (r ≡ None)
-  Heard aim after (Some x) next r = Takes (answered_next aim x) next r
+  Heard purpose after None next r = (next ≡ Trying after purpose) × (r ≡ None)
+  Heard purpose after (Some x) next r = Takes (answered_next purpose x) next r
 
 module _ {T W X : Type 0} (did : Deed T W → X → X → Type 0) where
   -- a listener is taken off, where one is held
@@ -78,8 +78,8 @@ module _ {T W X : Type 0} (did : Deed T W → X → X → Type 0) where
 
   -- one step of a call at this stage; one that has answered does nothing
   abbrev pub ChannelMakes : Stage (QueueCall T) T W → X → X → Mark → Stage (QueueCall T) T W → Option (Reply T) → Type 0
-  ChannelMakes (Trying call aim) s t m next r =
-      (after : QueueCall T) × (o : Option (QueueReply T)) × did (stepped call after o) s t × (m ≡ mark_of_queue (mark_of after)) × Heard aim after o next r
+  ChannelMakes (Trying call purpose) s t m next r =
+      (after : QueueCall T) × (o : Option (QueueReply T)) × did (stepped call after o) s t × (m ≡ mark_of_queue (mark_of after)) × Heard purpose after o next r
   ChannelMakes (Working w) s t m next r = WorkMakes w s t m next r
   ChannelMakes (Finished kept) s t m next r = (t ≡ s) × (m ≡ Nothing) × (next ≡ Finished kept) × (r ≡ None)
 

@@ -286,15 +286,15 @@ fn upgraded_next<T: Drop, W>(answer: QueueReply<T>, side: Side) -> NextStep<T, W
     }
 }
 
-/// What comes after the queue's answer to a call with this aim.
+/// What comes after the queue's answer to a call with this purpose.
 #[inline(always)]
 pub(crate) fn answered_next<T: Drop, W: Drop>(
-    aim: Purpose<T, W>,
+    purpose: Purpose<T, W>,
     answer: QueueReply<T>,
 ) -> NextStep<T, W>
-    ensures { result ≡ answered_next aim answer }
+    ensures { result ≡ answered_next purpose answer }
 {
-    match aim {
+    match purpose {
         Purpose::TrySend => sent_next(answer),
         Purpose::ForceSend => forced_next(answer),
         Purpose::TryRecv => received_next(answer),

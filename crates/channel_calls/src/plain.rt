@@ -51,7 +51,7 @@ impl<T: Drop, W: Drop> PlainChannel<T, W> {
     ghost use Rattle.concurrent_queue.specs.Made.{CanBeMade, IsNew};
     ghost use Rattle.concurrent_queue.specs.Plain.{contents_of};
     ghost use Rattle.concurrent_queue.specs.Step.{closed_in};
-    ghost use Rattle.channel_calls.specs.Parts.{new_roster, listeners, count};
+    ghost use Rattle.channel_calls.specs.Parts.{new_wait_lists, listeners, count};
     ghost use Rattle.channel_calls.specs.Plain.{parts_of};
 
     /// An open and empty channel over a queue of this form, with one sender, one receiver and no listeners. `Err` where
@@ -59,7 +59,7 @@ impl<T: Drop, W: Drop> PlainChannel<T, W> {
     pub fn new(form: QueueForm, alloc: Global) -> Result<PlainChannel<T, W>, AllocError>
         requires form { CanBeMade form }
         ensures queue { IfOk result (λ channel. IsNew form (parts_of channel).cells) }
-        ensures roster { IfOk result (λ channel. (parts_of channel).roster ≡ new_roster) }
+        ensures wait_lists { IfOk result (λ channel. (parts_of channel).wait_lists ≡ new_wait_lists) }
     {
         let cells = PlainCells::new(alloc, form)?;
         Ok(PlainChannel::over(cells, alloc))
@@ -67,7 +67,7 @@ impl<T: Drop, W: Drop> PlainChannel<T, W> {
 
     /// How many listeners of this list wait untold.
     pub fn waiting(&self, line: WaitList) -> usize
-        ensures { result ≡ length (listeners line (parts_of self.now).roster).waiting }
+        ensures { result ≡ length (listeners line (parts_of self.now).wait_lists).waiting }
     {
         match line {
             WaitList::Sends => self.sends.total() - self.sends.told(),
@@ -96,7 +96,7 @@ impl<T: Drop, W: Drop> PlainChannel<T, W> {
 
     /// How many handles of this kind live.
     fn handles(&self, side: Side) -> usize
-        ensures { result ≡ count side (parts_of self.now).roster }
+        ensures { result ≡ count side (parts_of self.now).wait_lists }
     {
         match side {
             Side::Senders => self.senders,
@@ -107,7 +107,7 @@ impl<T: Drop, W: Drop> PlainChannel<T, W> {
     /// A channel over the cells of this queue, with one sender, one receiver and no listeners.
     fn over(cells: PlainCells<T>, alloc: Global) -> PlainChannel<T, W>
         ensures cells { (parts_of result).cells ≡ contents_of cells }
-        ensures roster { (parts_of result).roster ≡ new_roster }
+        ensures wait_lists { (parts_of result).wait_lists ≡ new_wait_lists }
     {
         PlainChannel {
             cells,
@@ -130,7 +130,7 @@ impl<T: Drop, W: Drop> PlainChannel<T, W> {
     /// A number that none of the four lists of listeners is longer than: how many listen on the longest. So no step wakes
     /// more. Own to this project.
     pub fn most_listeners(&self) -> usize
-        ensures { (line : WaitList) → length (listeners line (parts_of self.now).roster).waiting ≤ result }
+        ensures { (line : WaitList) → length (listeners line (parts_of self.now).wait_lists).waiting ≤ result }
     {
         self.sends
             .total()

@@ -28,7 +28,7 @@ fn asks<T: Drop, W: Drop, C: ChannelWords<T, W>>(
 ) -> QueueReply<T>
     requires words { AsksWords question }
     requires form { (f : QueueForm) × C.has_form words.old f }
-    ensures comes { (aim : Purpose T W) → Comes C.did (turn.Tries question aim) words.old (answered_next aim result) words.new }
+    ensures comes { (purpose : Purpose T W) → Comes C.did (turn.Tries question purpose) words.old (answered_next purpose result) words.new }
     ensures answers { (f : QueueForm) → C.has_form words.old f → MayAnswer f question result }
     ensures form { (f : QueueForm) → C.has_form words.old f → C.has_form words.new f }
 {

@@ -41,8 +41,8 @@ pub(crate) fn takes<T: Drop, W: Drop>(turn: NextStep<T, W>, mark: Mark) -> Stepp
     ensures follows { (b : QueueForm) → FollowsTurn b turn result.stage result.reply }
 {
     match turn {
-        NextStep::Tries(ask, aim) => Stepped {
-            stage: Stage::Trying(QueueCall::new(ask), aim),
+        NextStep::Tries(ask, purpose) => Stepped {
+            stage: Stage::Trying(QueueCall::new(ask), purpose),
             mark,
             reply: None,
         },
@@ -78,20 +78,20 @@ fn goes_on<T, W>(stage: Stage<QueueCall<T>, T, W>, mark: Mark) -> Stepped<T, W>
 #[inline(always)]
 fn try_step<T: Drop, W: Drop, C: ChannelCells<T, W>>(
     mut call: QueueCall<T>,
-    aim: Purpose<T, W>,
+    purpose: Purpose<T, W>,
     cells: &mut C,
 ) -> Stepped<T, W>
-    ensures deed { ChannelMakes C.did (Stage.Trying call aim) cells.old cells.new result.mark result.stage result.reply }
-    ensures answers { (f : QueueForm) → C.has_form cells.old f → FollowsStage f (Stage.Trying call aim) result.stage result.reply }
+    ensures deed { ChannelMakes C.did (Stage.Trying call purpose) cells.old cells.new result.mark result.stage result.reply }
+    ensures answers { (f : QueueForm) → C.has_form cells.old f → FollowsStage f (Stage.Trying call purpose) result.stage result.reply }
     ensures form { (f : QueueForm) → C.has_form cells.old f → C.has_form cells.new f }
 {
     let answer = cells.step_queue(&mut call);
     let mark = Mark::of_queue(call.last_mark());
     match answer {
-        None => goes_on(Stage::Trying(call, aim), mark),
+        None => goes_on(Stage::Trying(call, purpose), mark),
         Some(answer) => {
             drop(call);
-            takes(answered_next(aim, answer), mark)
+            takes(answered_next(purpose, answer), mark)
         }
     }
 }
@@ -260,7 +260,7 @@ pub(crate) fn stage_step<T: Drop, W: Drop, C: ChannelCells<T, W>, S: Wakes<W>>(
     ensures form { (f : QueueForm) → C.has_form cells.old f → C.has_form cells.new f }
 {
     match stage {
-        Stage::Trying(call, aim) => try_step(call, aim, cells),
+        Stage::Trying(call, purpose) => try_step(call, purpose, cells),
         Stage::Working(work) => work_step(work, cells, sink),
         Stage::Finished(kept) => goes_on(Stage::Finished(kept), Mark::Nothing),
     }

@@ -13,7 +13,7 @@ use Rattle.channel_calls.specs.declared.ask.ChannelAsk.TheVariants as channel
 use Rattle.channel_calls.specs.declared.error.Refused.TheVariants as refused
 use Rattle.channel_calls.specs.declared.error.TryRecvError.TheVariants as try_recv_error
 use Rattle.channel_calls.specs.declared.reply.Reply.TheVariants as reply
-use Rattle.channel_calls.specs.declared.stage.Purpose.TheVariants as aim
+use Rattle.channel_calls.specs.declared.stage.Purpose.TheVariants as purpose
 use Rattle.channel_calls.specs.declared.stage.Closer.TheVariants as closer
 use Rattle.channel_steps.proofs.TryFacts.{ne_of, refusal_seen, full_once, unbounded_once, open_once, next_channel, behind_more}
 use Rattle.channel_steps.proofs.TurnFacts.{TurnAt, owes_nothing, ended}
@@ -166,86 +166,86 @@ module _ {T W : Type 0} where
 
     pub answered : (ds : List (MarkedMoment T W)) → IsBalanced c.queue → (x : ChannelAsk T W) (y : Purpose T W) (a : QueueAsk T) (m : QueueMark) (r : QueueReply T) (st : queue.Stage T)
         → TriesFor x y a ds seen → TriesAt c y a st ds seen → AnswersTo c.queue a m r st → Then x a st m ds (answered_next y r)
-    answered ds bal (channel.TrySend msg) aim.TrySend (ask.Push v) Nothing (Push (Ok u)) (appended None) e ev h = ((([], c ∷ seen, refl, ev), refl), owed_appended ds ev)
-    answered ds bal (channel.TrySend msg) aim.TrySend (ask.Push v) Nothing (Push (Err (push_error.Full w))) (trying b) e ev h = ((([], c ∷ seen, refl, (h.0 ∙ e, ev.0, full_once c.queue.capacity c.queue.items (c ∷ seen) h.1 (refusal_seen b c seen ev.1 h.2))), refl), owes_nothing ds ev.0)
-    answered ds bal (channel.TrySend msg) aim.TrySend (ask.Push v) Nothing (Push (Err (push_error.Closed w))) (trying b) e ev h = ((([], c ∷ seen, refl, (h.0 ∙ e, ev.0, inl h.1)), refl), owes_nothing ds ev.0)
-    answered ds bal (channel.TrySend msg) aim.TrySend (ask.Push v) Nothing (Push (Err (push_error.NoMemory w))) (trying b) e ev h = ((([], c ∷ seen, refl, (h.0 ∙ e, ev.0, unbounded_once c.queue.capacity (c ∷ seen) h.1 (refusal_seen b c seen ev.1 h.2))), refl), owes_nothing ds ev.0)
-    answered ds bal (channel.TrySend msg) aim.TrySend (ask.Push v) m r st e ev h = absurd h
-    answered ds bal (channel.ForceSend msg) aim.ForceSend (ask.ForcePush v) Nothing (Force (Ok None)) (appended None) e ev h = ((([], c ∷ seen, refl, ev), refl), owed_appended ds ev)
-    answered ds bal (channel.ForceSend msg) aim.ForceSend (ask.ForcePush v) Nothing (Force (Ok None)) (appended (Some d)) e ev h = absurd (let no : None ≡ Some d = h in cc)
-    answered ds bal (channel.ForceSend msg) aim.ForceSend (ask.ForcePush v) Nothing (Force (Ok (Some w))) (appended None) e ev h = absurd (let no : Some w ≡ None = h in cc)
-    answered ds bal (channel.ForceSend msg) aim.ForceSend (ask.ForcePush v) Nothing (Force (Ok (Some w))) (appended (Some d)) e ev h =
+    answered ds bal (channel.TrySend msg) purpose.TrySend (ask.Push v) Nothing (Push (Ok u)) (appended None) e ev h = ((([], c ∷ seen, refl, ev), refl), owed_appended ds ev)
+    answered ds bal (channel.TrySend msg) purpose.TrySend (ask.Push v) Nothing (Push (Err (push_error.Full w))) (trying b) e ev h = ((([], c ∷ seen, refl, (h.0 ∙ e, ev.0, full_once c.queue.capacity c.queue.items (c ∷ seen) h.1 (refusal_seen b c seen ev.1 h.2))), refl), owes_nothing ds ev.0)
+    answered ds bal (channel.TrySend msg) purpose.TrySend (ask.Push v) Nothing (Push (Err (push_error.Closed w))) (trying b) e ev h = ((([], c ∷ seen, refl, (h.0 ∙ e, ev.0, inl h.1)), refl), owes_nothing ds ev.0)
+    answered ds bal (channel.TrySend msg) purpose.TrySend (ask.Push v) Nothing (Push (Err (push_error.NoMemory w))) (trying b) e ev h = ((([], c ∷ seen, refl, (h.0 ∙ e, ev.0, unbounded_once c.queue.capacity (c ∷ seen) h.1 (refusal_seen b c seen ev.1 h.2))), refl), owes_nothing ds ev.0)
+    answered ds bal (channel.TrySend msg) purpose.TrySend (ask.Push v) m r st e ev h = absurd h
+    answered ds bal (channel.ForceSend msg) purpose.ForceSend (ask.ForcePush v) Nothing (Force (Ok None)) (appended None) e ev h = ((([], c ∷ seen, refl, ev), refl), owed_appended ds ev)
+    answered ds bal (channel.ForceSend msg) purpose.ForceSend (ask.ForcePush v) Nothing (Force (Ok None)) (appended (Some d)) e ev h = absurd (let no : None ≡ Some d = h in cc)
+    answered ds bal (channel.ForceSend msg) purpose.ForceSend (ask.ForcePush v) Nothing (Force (Ok (Some w))) (appended None) e ev h = absurd (let no : Some w ≡ None = h in cc)
+    answered ds bal (channel.ForceSend msg) purpose.ForceSend (ask.ForcePush v) Nothing (Force (Ok (Some w))) (appended (Some d)) e ev h =
         let same : Some w ≡ Some d = h in
         let k : w ≡ d = cc in
         ((([], c ∷ seen, refl, subst (λ (z : T). Replaced ds z ⊎ Displaced ds z) (sym k) ev), refl), ⊎_elim (λ z. owed_replaced ds d z) (λ z. owed_displaced ds d z) ev)
-    answered ds bal (channel.ForceSend msg) aim.ForceSend (ask.ForcePush v) Nothing (Force (Err (force_error.Closed w))) (trying b) e ev h = ((([], c ∷ seen, refl, (h.0 ∙ e, ev.0, inl h.1)), refl), owes_nothing ds ev.0)
-    answered ds bal (channel.ForceSend msg) aim.ForceSend (ask.ForcePush v) Nothing (Force (Err (force_error.NoMemory w))) (trying b) e ev h = ((([], c ∷ seen, refl, (h.0 ∙ e, ev.0, unbounded_once c.queue.capacity (c ∷ seen) h.1 (refusal_seen b c seen ev.1 h.2))), refl), owes_nothing ds ev.0)
-    answered ds bal (channel.ForceSend msg) aim.ForceSend (ask.ForcePush v) m r st e ev h = absurd h
-    answered ds bal channel.TryRecv aim.TryRecv ask.Pop Nothing (Pop (Ok w)) (taken v) f ev h = ((([], c ∷ seen, refl, subst (λ (z : T). Took ds z) (sym h) ev), refl), owed_took ds v ev)
-    answered ds bal channel.TryRecv aim.TryRecv ask.Pop Nothing (Pop (Err pop_error.Empty)) (trying b) f ev h = ((([], c ∷ seen, refl, (ev, inl h)), refl), owes_nothing ds ev)
-    answered ds bal channel.TryRecv aim.TryRecv ask.Pop Nothing (Pop (Err pop_error.Closed)) (trying b) f ev h = ((([], c ∷ seen, refl, (ev, inl h)), refl), owes_nothing ds ev)
-    answered ds bal channel.TryRecv aim.TryRecv ask.Pop m r st f ev h = absurd h
-    answered ds bal (channel.RecvMany n) (aim.RecvMany g) ask.Pop Nothing (Pop (Ok w)) (taken v) e ev h = gathered n g.more g.taken w ds ev.0 e ev.1 (subst (λ (z : T). Took ev.0 z) (sym h) ev.2)
-    answered ds bal (channel.RecvMany n) (aim.RecvMany g) ask.Pop Nothing (Pop (Err pop_error.Empty)) (trying b) e ev h = short n g.more g.taken ds ev.0 e ev.1 ev.2 try_recv_error.Empty h.1 (λ none. (none, omega (arith, e), inl h))
-    answered ds bal (channel.RecvMany n) (aim.RecvMany g) ask.Pop Nothing (Pop (Err pop_error.Closed)) (trying b) e ev h = short n g.more g.taken ds ev.0 e ev.1 ev.2 try_recv_error.Closed h.1 (λ none. (none, omega (arith, e), inl h))
-    answered ds bal (channel.RecvMany n) (aim.RecvMany g) ask.Pop m r st e ev h = absurd h
-    answered ds b channel.Close (aim.Close closer.Call) ask.Close m r st f ev h =
+    answered ds bal (channel.ForceSend msg) purpose.ForceSend (ask.ForcePush v) Nothing (Force (Err (force_error.Closed w))) (trying b) e ev h = ((([], c ∷ seen, refl, (h.0 ∙ e, ev.0, inl h.1)), refl), owes_nothing ds ev.0)
+    answered ds bal (channel.ForceSend msg) purpose.ForceSend (ask.ForcePush v) Nothing (Force (Err (force_error.NoMemory w))) (trying b) e ev h = ((([], c ∷ seen, refl, (h.0 ∙ e, ev.0, unbounded_once c.queue.capacity (c ∷ seen) h.1 (refusal_seen b c seen ev.1 h.2))), refl), owes_nothing ds ev.0)
+    answered ds bal (channel.ForceSend msg) purpose.ForceSend (ask.ForcePush v) m r st e ev h = absurd h
+    answered ds bal channel.TryRecv purpose.TryRecv ask.Pop Nothing (Pop (Ok w)) (taken v) f ev h = ((([], c ∷ seen, refl, subst (λ (z : T). Took ds z) (sym h) ev), refl), owed_took ds v ev)
+    answered ds bal channel.TryRecv purpose.TryRecv ask.Pop Nothing (Pop (Err pop_error.Empty)) (trying b) f ev h = ((([], c ∷ seen, refl, (ev, inl h)), refl), owes_nothing ds ev)
+    answered ds bal channel.TryRecv purpose.TryRecv ask.Pop Nothing (Pop (Err pop_error.Closed)) (trying b) f ev h = ((([], c ∷ seen, refl, (ev, inl h)), refl), owes_nothing ds ev)
+    answered ds bal channel.TryRecv purpose.TryRecv ask.Pop m r st f ev h = absurd h
+    answered ds bal (channel.RecvMany n) (purpose.RecvMany g) ask.Pop Nothing (Pop (Ok w)) (taken v) e ev h = gathered n g.more g.taken w ds ev.0 e ev.1 (subst (λ (z : T). Took ev.0 z) (sym h) ev.2)
+    answered ds bal (channel.RecvMany n) (purpose.RecvMany g) ask.Pop Nothing (Pop (Err pop_error.Empty)) (trying b) e ev h = short n g.more g.taken ds ev.0 e ev.1 ev.2 try_recv_error.Empty h.1 (λ none. (none, omega (arith, e), inl h))
+    answered ds bal (channel.RecvMany n) (purpose.RecvMany g) ask.Pop Nothing (Pop (Err pop_error.Closed)) (trying b) e ev h = short n g.more g.taken ds ev.0 e ev.1 ev.2 try_recv_error.Closed h.1 (λ none. (none, omega (arith, e), inl h))
+    answered ds bal (channel.RecvMany n) (purpose.RecvMany g) ask.Pop m r st e ev h = absurd h
+    answered ds b channel.Close (purpose.Close closer.Call) ask.Close m r st f ev h =
         subst (λ (xs : List (MarkedMoment T W)). Then channel.Close ask.Close st m xs (closed_next r closer.Call)) (sym f) (closed_none m r st h)
-    answered ds bal (channel.PollSend msg k t) (aim.Poll Sends key task) (ask.Push v) Nothing (Push (Ok u)) (appended None) e ev h = ((([], c ∷ seen, refl, ev), refl), owed_appended ds ev)
-    answered ds bal (channel.PollSend msg k t) (aim.Poll Sends None task) (ask.Push v) Nothing (Push (Err (push_error.Full w))) (trying b) e ev h = ((h.0 ∙ e, ev.0, full_once c.queue.capacity c.queue.items (c ∷ seen) h.1 (refusal_seen b c seen ev.1 h.2)), owes_nothing ds ev.0)
-    answered ds bal (channel.PollSend msg k t) (aim.Poll Sends (Some key) task) (ask.Push v) Nothing (Push (Err (push_error.Full w))) (trying b) e ev h = ((h.0 ∙ e, ev.0, λ n. full_once c.queue.capacity c.queue.items (c ∷ seen) h.1 (refusal_seen b c seen ev.1 h.2)), owes_nothing ds ev.0)
-    answered ds bal (channel.PollSend msg k t) (aim.Poll Sends key task) (ask.Push v) Nothing (Push (Err (push_error.Closed w))) (trying b) e ev h =
+    answered ds bal (channel.PollSend msg k t) (purpose.Poll Sends key task) (ask.Push v) Nothing (Push (Ok u)) (appended None) e ev h = ((([], c ∷ seen, refl, ev), refl), owed_appended ds ev)
+    answered ds bal (channel.PollSend msg k t) (purpose.Poll Sends None task) (ask.Push v) Nothing (Push (Err (push_error.Full w))) (trying b) e ev h = ((h.0 ∙ e, ev.0, full_once c.queue.capacity c.queue.items (c ∷ seen) h.1 (refusal_seen b c seen ev.1 h.2)), owes_nothing ds ev.0)
+    answered ds bal (channel.PollSend msg k t) (purpose.Poll Sends (Some key) task) (ask.Push v) Nothing (Push (Err (push_error.Full w))) (trying b) e ev h = ((h.0 ∙ e, ev.0, λ n. full_once c.queue.capacity c.queue.items (c ∷ seen) h.1 (refusal_seen b c seen ev.1 h.2)), owes_nothing ds ev.0)
+    answered ds bal (channel.PollSend msg k t) (purpose.Poll Sends key task) (ask.Push v) Nothing (Push (Err (push_error.Closed w))) (trying b) e ev h =
         ended c (channel.PollSend msg k t) [] ds (c ∷ seen) (over (reply.SendPoll (Ready (Err (refused.Plain (record { 0 = w }))))) None Sends key)
         (([], c ∷ seen, refl, (h.0 ∙ e, ev.0, inl h.1)), refl) (owes_nothing ds ev.0)
-    answered ds bal (channel.PollSend msg k t) (aim.Poll Sends key task) (ask.Push v) Nothing (Push (Err (push_error.NoMemory w))) (trying b) e ev h =
+    answered ds bal (channel.PollSend msg k t) (purpose.Poll Sends key task) (ask.Push v) Nothing (Push (Err (push_error.NoMemory w))) (trying b) e ev h =
         ended c (channel.PollSend msg k t) [] ds (c ∷ seen) (over (reply.SendPoll (Ready (Err (refused.NoMemory tt)))) (Some w) Sends key)
         (([], c ∷ seen, refl, (ev.0, open_once c.queue.capacity (c ∷ seen) (refusal_seen b c seen ev.1 h.2))), ap (λ (z : T). let kept : Returned T = leaving None (Some z) in kept) (h.0 ∙ e)) (owes_nothing ds ev.0)
-    answered ds bal (channel.PollSend msg k t) (aim.Poll Sends key task) (ask.Push v) m r st e ev h = absurd h
-    answered ds bal (channel.PollRecv k t) (aim.Poll Receives key task) ask.Pop Nothing (Pop (Ok w)) (taken v) f ev h = ((([], c ∷ seen, refl, subst (λ (z : T). Took ds z) (sym h) ev), refl), owed_took ds v ev)
-    answered ds bal (channel.PollRecv k t) (aim.Poll Receives None task) ask.Pop Nothing (Pop (Err pop_error.Empty)) (trying b) f ev h = ((tt, ev, inl h), owes_nothing ds ev)
-    answered ds bal (channel.PollRecv k t) (aim.Poll Receives (Some key) task) ask.Pop Nothing (Pop (Err pop_error.Empty)) (trying b) f ev h = ((tt, ev, λ n. inl h), owes_nothing ds ev)
-    answered ds bal (channel.PollRecv k t) (aim.Poll Receives key task) ask.Pop Nothing (Pop (Err pop_error.Closed)) (trying b) f ev h =
+    answered ds bal (channel.PollSend msg k t) (purpose.Poll Sends key task) (ask.Push v) m r st e ev h = absurd h
+    answered ds bal (channel.PollRecv k t) (purpose.Poll Receives key task) ask.Pop Nothing (Pop (Ok w)) (taken v) f ev h = ((([], c ∷ seen, refl, subst (λ (z : T). Took ds z) (sym h) ev), refl), owed_took ds v ev)
+    answered ds bal (channel.PollRecv k t) (purpose.Poll Receives None task) ask.Pop Nothing (Pop (Err pop_error.Empty)) (trying b) f ev h = ((tt, ev, inl h), owes_nothing ds ev)
+    answered ds bal (channel.PollRecv k t) (purpose.Poll Receives (Some key) task) ask.Pop Nothing (Pop (Err pop_error.Empty)) (trying b) f ev h = ((tt, ev, λ n. inl h), owes_nothing ds ev)
+    answered ds bal (channel.PollRecv k t) (purpose.Poll Receives key task) ask.Pop Nothing (Pop (Err pop_error.Closed)) (trying b) f ev h =
         ended c (channel.PollRecv k t) [] ds (c ∷ seen) (over (reply.RecvPoll (Ready (Err (refused.Plain (record {}))))) None Receives key) (([], c ∷ seen, refl, (ev, inl h)), refl) (owes_nothing ds ev)
-    answered ds bal (channel.PollRecv k t) (aim.Poll Receives key task) ask.Pop m r st f ev h = absurd h
-    answered ds bal (channel.PollClosed k t) (aim.Poll Closings key task) ask.IsClosed Nothing (Flag true) (trying b) f ev h =
+    answered ds bal (channel.PollRecv k t) (purpose.Poll Receives key task) ask.Pop m r st f ev h = absurd h
+    answered ds bal (channel.PollClosed k t) (purpose.Poll Closings key task) ask.IsClosed Nothing (Flag true) (trying b) f ev h =
         ended c (channel.PollClosed k t) [] ds (c ∷ seen) (over (reply.ClosedPoll (Ready (Ok tt))) None Closings key) (([], c ∷ seen, refl, (ev, inl h)), refl) (owes_nothing ds ev)
-    answered ds bal (channel.PollClosed k t) (aim.Poll Closings None task) ask.IsClosed Nothing (Flag false) (trying b) f ev h = ((tt, ev, inl h), owes_nothing ds ev)
-    answered ds bal (channel.PollClosed k t) (aim.Poll Closings (Some key) task) ask.IsClosed Nothing (Flag false) (trying b) f ev h = ((tt, ev, λ n. inl h), owes_nothing ds ev)
-    answered ds bal (channel.PollClosed k t) (aim.Poll Closings key task) ask.IsClosed m r st f ev h = absurd h
-    answered ds bal (channel.PollNext k t) (aim.Poll Streams key task) ask.Pop Nothing (Pop (Ok w)) (taken v) f ev h = ((([], c ∷ seen, refl, subst (λ (z : T). Took ds z) (sym h) ev), refl), owed_took ds v ev)
-    answered ds bal (channel.PollNext k t) (aim.Poll Streams None task) ask.Pop Nothing (Pop (Err pop_error.Empty)) (trying b) f ev h = ((tt, ev, tt), owes_nothing ds ev)
-    answered ds bal (channel.PollNext k t) (aim.Poll Streams (Some key) task) ask.Pop Nothing (Pop (Err pop_error.Empty)) (trying b) f ev h = ((tt, ev, λ n. tt), owes_nothing ds ev)
-    answered ds bal (channel.PollNext k t) (aim.Poll Streams key task) ask.Pop Nothing (Pop (Err pop_error.Closed)) (trying b) f ev h =
+    answered ds bal (channel.PollClosed k t) (purpose.Poll Closings None task) ask.IsClosed Nothing (Flag false) (trying b) f ev h = ((tt, ev, inl h), owes_nothing ds ev)
+    answered ds bal (channel.PollClosed k t) (purpose.Poll Closings (Some key) task) ask.IsClosed Nothing (Flag false) (trying b) f ev h = ((tt, ev, λ n. inl h), owes_nothing ds ev)
+    answered ds bal (channel.PollClosed k t) (purpose.Poll Closings key task) ask.IsClosed m r st f ev h = absurd h
+    answered ds bal (channel.PollNext k t) (purpose.Poll Streams key task) ask.Pop Nothing (Pop (Ok w)) (taken v) f ev h = ((([], c ∷ seen, refl, subst (λ (z : T). Took ds z) (sym h) ev), refl), owed_took ds v ev)
+    answered ds bal (channel.PollNext k t) (purpose.Poll Streams None task) ask.Pop Nothing (Pop (Err pop_error.Empty)) (trying b) f ev h = ((tt, ev, tt), owes_nothing ds ev)
+    answered ds bal (channel.PollNext k t) (purpose.Poll Streams (Some key) task) ask.Pop Nothing (Pop (Err pop_error.Empty)) (trying b) f ev h = ((tt, ev, λ n. tt), owes_nothing ds ev)
+    answered ds bal (channel.PollNext k t) (purpose.Poll Streams key task) ask.Pop Nothing (Pop (Err pop_error.Closed)) (trying b) f ev h =
         ended c (channel.PollNext k t) [] ds (c ∷ seen) (over (reply.Next (Ready None)) None Streams key) (([], c ∷ seen, refl, (ev, inl h)), refl) (owes_nothing ds ev)
-    answered ds bal (channel.PollNext k t) (aim.Poll Streams key task) ask.Pop m r st f ev h = absurd h
-    answered ds b channel.DropSender (aim.Close closer.Sender) ask.Close m r st f ev h = sender_left ds f m r st h
-    answered ds b (channel.DropReceiver k) (aim.Close (closer.Receiver key)) ask.Close m r st f ev h = receiver_left k key ds f m r st h
-    answered ds bal (channel.Upgrade side) (aim.Upgrade s) ask.IsClosed Nothing (Flag true) (trying b) e ev h = ((([], c ∷ seen, refl, (ev, inl (inl h))), refl), owes_nothing ds ev)
-    answered ds bal (channel.Upgrade side) (aim.Upgrade s) ask.IsClosed Nothing (Flag false) (trying b) e ev h = (((e, inl h), ev), owes_nothing ds ev)
-    answered ds bal (channel.Upgrade side) (aim.Upgrade s) ask.IsClosed m r st e ev h = absurd h
-    answered ds bal channel.IsClosed aim.Ask ask.IsClosed Nothing (Flag f) (trying b) t ev h = ((([], c ∷ seen, refl, (ev, inl h)), refl), owes_nothing ds ev)
-    answered ds bal channel.IsClosed aim.Ask ask.IsClosed m r st f ev h = absurd h
-    answered ds bal channel.IsEmpty aim.Ask ask.IsEmpty Nothing (Flag f) (trying b) t ev h = ((([], c ∷ seen, refl, (ev, inl h)), refl), owes_nothing ds ev)
-    answered ds bal channel.IsEmpty aim.Ask ask.IsEmpty Nothing (Flag true) (read n) f ev h = ((([], c ∷ seen, refl, (ev.0, inl (none_there h))), refl), owes_nothing ds ev.0)
-    answered ds bal channel.IsEmpty aim.Ask ask.IsEmpty Nothing (Flag false) (read n) f ev h = ((([], c ∷ seen, refl, (ev.0, some_there n h ev.1)), refl), owes_nothing ds ev.0)
-    answered ds bal channel.IsEmpty aim.Ask ask.IsEmpty m r st f ev h = absurd h
-    answered ds bal channel.IsFull aim.Ask ask.IsFull Nothing (Flag f) (trying s) t ev h = ((([], c ∷ seen, refl, (ev, inl h)), refl), owes_nothing ds ev)
-    answered ds bal channel.IsFull aim.Ask ask.IsFull Nothing (Flag true) (read n) f ev h = ((([], c ∷ seen, refl, (ev.0, inl h)), refl), owes_nothing ds ev.0)
-    answered ds bal channel.IsFull aim.Ask ask.IsFull Nothing (Flag false) (read n) f ev h = ((([], c ∷ seen, refl, (ev.0, room_there n h.0 h.1 h.2 bal ev.2)), refl), owes_nothing ds ev.0)
-    answered ds bal channel.IsFull aim.Ask ask.IsFull m r st f ev h = absurd h
-    answered ds bal channel.Len aim.Ask ask.Len Nothing (Count n) (trying s) f ev h = ((([], c ∷ seen, refl, (ev, inl h)), refl), owes_nothing ds ev)
-    answered ds bal channel.Len aim.Ask ask.Len Nothing (Count n) (measured i k) f ev h =
+    answered ds bal (channel.PollNext k t) (purpose.Poll Streams key task) ask.Pop m r st f ev h = absurd h
+    answered ds b channel.DropSender (purpose.Close closer.Sender) ask.Close m r st f ev h = sender_left ds f m r st h
+    answered ds b (channel.DropReceiver k) (purpose.Close (closer.Receiver key)) ask.Close m r st f ev h = receiver_left k key ds f m r st h
+    answered ds bal (channel.Upgrade side) (purpose.Upgrade s) ask.IsClosed Nothing (Flag true) (trying b) e ev h = ((([], c ∷ seen, refl, (ev, inl (inl h))), refl), owes_nothing ds ev)
+    answered ds bal (channel.Upgrade side) (purpose.Upgrade s) ask.IsClosed Nothing (Flag false) (trying b) e ev h = (((e, inl h), ev), owes_nothing ds ev)
+    answered ds bal (channel.Upgrade side) (purpose.Upgrade s) ask.IsClosed m r st e ev h = absurd h
+    answered ds bal channel.IsClosed purpose.Ask ask.IsClosed Nothing (Flag f) (trying b) t ev h = ((([], c ∷ seen, refl, (ev, inl h)), refl), owes_nothing ds ev)
+    answered ds bal channel.IsClosed purpose.Ask ask.IsClosed m r st f ev h = absurd h
+    answered ds bal channel.IsEmpty purpose.Ask ask.IsEmpty Nothing (Flag f) (trying b) t ev h = ((([], c ∷ seen, refl, (ev, inl h)), refl), owes_nothing ds ev)
+    answered ds bal channel.IsEmpty purpose.Ask ask.IsEmpty Nothing (Flag true) (read n) f ev h = ((([], c ∷ seen, refl, (ev.0, inl (none_there h))), refl), owes_nothing ds ev.0)
+    answered ds bal channel.IsEmpty purpose.Ask ask.IsEmpty Nothing (Flag false) (read n) f ev h = ((([], c ∷ seen, refl, (ev.0, some_there n h ev.1)), refl), owes_nothing ds ev.0)
+    answered ds bal channel.IsEmpty purpose.Ask ask.IsEmpty m r st f ev h = absurd h
+    answered ds bal channel.IsFull purpose.Ask ask.IsFull Nothing (Flag f) (trying s) t ev h = ((([], c ∷ seen, refl, (ev, inl h)), refl), owes_nothing ds ev)
+    answered ds bal channel.IsFull purpose.Ask ask.IsFull Nothing (Flag true) (read n) f ev h = ((([], c ∷ seen, refl, (ev.0, inl h)), refl), owes_nothing ds ev.0)
+    answered ds bal channel.IsFull purpose.Ask ask.IsFull Nothing (Flag false) (read n) f ev h = ((([], c ∷ seen, refl, (ev.0, room_there n h.0 h.1 h.2 bal ev.2)), refl), owes_nothing ds ev.0)
+    answered ds bal channel.IsFull purpose.Ask ask.IsFull m r st f ev h = absurd h
+    answered ds bal channel.Len purpose.Ask ask.Len Nothing (Count n) (trying s) f ev h = ((([], c ∷ seen, refl, (ev, inl h)), refl), owes_nothing ds ev)
+    answered ds bal channel.Len purpose.Ask ask.Len Nothing (Count n) (measured i k) f ev h =
         ((([], c ∷ seen, refl, (ev.0, inr (once_map (λ z. length z.queue.items ≡ k) (λ z. length z.queue.items ≡ n) (λ z e. e ∙ sym h.0) seen ev.1))), refl), owes_nothing ds ev.0)
-    answered ds bal channel.Len aim.Ask ask.Len m r st f ev h = absurd h
-    answered ds bal channel.Capacity aim.Ask ask.Capacity Nothing (Cap n) (trying s) f ev h = ((([], c ∷ seen, refl, (ev, inl (sym h))), refl), owes_nothing ds ev)
-    answered ds bal channel.Capacity aim.Ask ask.Capacity m r st f ev h = absurd h
-    answered ds bal channel.IsTerminated aim.IsTerminated ask.IsClosed Nothing (Flag true) (trying b) f ev h = ((inl h, ev), refl)
-    answered ds bal channel.IsTerminated aim.IsTerminated ask.IsClosed Nothing (Flag false) (trying b) f ev h = ((([], c ∷ seen, refl, (ev, inl (inl h))), refl), owes_nothing ds ev)
-    answered ds bal channel.IsTerminated aim.IsTerminated ask.IsClosed m r st f ev h = absurd h
-    answered ds bal channel.IsTerminated aim.Ask ask.IsEmpty Nothing (Flag true) (trying b) o ev h = ((([], c ∷ seen, refl, (ev, inl (h, inr o))), refl), owes_nothing ds ev)
-    answered ds bal channel.IsTerminated aim.Ask ask.IsEmpty Nothing (Flag false) (trying b) o ev h = ((([], c ∷ seen, refl, (ev, inl (inr h))), refl), owes_nothing ds ev)
-    answered ds bal channel.IsTerminated aim.Ask ask.IsEmpty Nothing (Flag true) (read n) o ev h = ((([], c ∷ seen, refl, (ev.0, inl (none_there h, inr o))), refl), owes_nothing ds ev.0)
-    answered ds bal channel.IsTerminated aim.Ask ask.IsEmpty Nothing (Flag false) (read n) o ev h =
+    answered ds bal channel.Len purpose.Ask ask.Len m r st f ev h = absurd h
+    answered ds bal channel.Capacity purpose.Ask ask.Capacity Nothing (Cap n) (trying s) f ev h = ((([], c ∷ seen, refl, (ev, inl (sym h))), refl), owes_nothing ds ev)
+    answered ds bal channel.Capacity purpose.Ask ask.Capacity m r st f ev h = absurd h
+    answered ds bal channel.IsTerminated purpose.IsTerminated ask.IsClosed Nothing (Flag true) (trying b) f ev h = ((inl h, ev), refl)
+    answered ds bal channel.IsTerminated purpose.IsTerminated ask.IsClosed Nothing (Flag false) (trying b) f ev h = ((([], c ∷ seen, refl, (ev, inl (inl h))), refl), owes_nothing ds ev)
+    answered ds bal channel.IsTerminated purpose.IsTerminated ask.IsClosed m r st f ev h = absurd h
+    answered ds bal channel.IsTerminated purpose.Ask ask.IsEmpty Nothing (Flag true) (trying b) o ev h = ((([], c ∷ seen, refl, (ev, inl (h, inr o))), refl), owes_nothing ds ev)
+    answered ds bal channel.IsTerminated purpose.Ask ask.IsEmpty Nothing (Flag false) (trying b) o ev h = ((([], c ∷ seen, refl, (ev, inl (inr h))), refl), owes_nothing ds ev)
+    answered ds bal channel.IsTerminated purpose.Ask ask.IsEmpty Nothing (Flag true) (read n) o ev h = ((([], c ∷ seen, refl, (ev.0, inl (none_there h, inr o))), refl), owes_nothing ds ev.0)
+    answered ds bal channel.IsTerminated purpose.Ask ask.IsEmpty Nothing (Flag false) (read n) o ev h =
         ((([], c ∷ seen, refl, (ev.0, once_map HasMessage (λ z. Open z ⊎ HasMessage z) (λ z k. inr k) (c ∷ seen) (some_there n h ev.1))), refl), owes_nothing ds ev.0)
-    answered ds bal channel.IsTerminated aim.Ask ask.IsEmpty m r st o ev h = absurd h
+    answered ds bal channel.IsTerminated purpose.Ask ask.IsEmpty m r st o ev h = absurd h
     answered ds b x y a m r st f ev h = absurd f

@@ -146,7 +146,7 @@ module _ {T W : Type 0} where
 
     -- where the others are quiet, fewer steps are left
     at_work : (ds : List (MarkedMoment T W)) (s : Stage (QueueCall T) T W) → StageAt before_it x.ask (phase x.inner s) ds x.seen → IsAtWork s
-    at_work ds (Trying call aim) h = tt
+    at_work ds (Trying call purpose) h = tt
     at_work ds (Working w) h = tt
     at_work ds (Finished kept) h = absurd h
 

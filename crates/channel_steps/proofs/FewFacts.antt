@@ -4,14 +4,14 @@ use Rattle.channel_steps.proofs.Words.{Queue, ActiveQueueCall, Fits, Parts, Phas
 use Rattle.channel_steps.proofs.LeftFacts.{wanted_after, wanted_by, wanted}
 use Rattle.concurrent_queue.specs.declared.call.QueueAsk.TheVariants as ask
 use Rattle.channel_calls.specs.declared.ask.ChannelAsk.TheVariants as channel
-use Rattle.channel_calls.specs.declared.stage.Purpose.TheVariants as aim
+use Rattle.channel_calls.specs.declared.stage.Purpose.TheVariants as purpose
 use Rattle.channel_steps.proofs.LeftFacts as left_facts
 
 module _ {T W : Type 0} where
   -- no more messages are wanted than the call asked for
   aimed : (x : ChannelAsk T W) (y : Purpose T W) (a : QueueAsk T) (ds : List (MarkedMoment T W)) (seen : List (Channel T W)) → TriesFor x y a ds seen → wanted_after y ≤ most_wanted x
-  aimed (channel.RecvMany n) (aim.RecvMany g) ask.Pop ds seen h = omega (arith, h)
-  aimed x (aim.RecvMany g) a ds seen h = absurd h
+  aimed (channel.RecvMany n) (purpose.RecvMany g) ask.Pop ds seen h = omega (arith, h)
+  aimed x (purpose.RecvMany g) a ds seen h = absurd h
   aimed x y a ds seen h = omega arith
 
   worked : (x : ChannelAsk T W) (w : ListStep T W) (ds : List (MarkedMoment T W)) (seen : List (Channel T W)) → WorkAt x w ds seen → wanted_by w ≤ most_wanted x
@@ -29,7 +29,7 @@ module _ {T W : Type 0} (parts : Parts T W) (q : Queue T) (now : Channel T W) wh
   few_behind l [] fits known k n there = absurd cc
   few_behind l (x ∷ xs) fits known zero n there =
       let first : party_left parts x.party ≡ n = cc there in
-      let few = left_facts.few_left parts.cells parts.roster q x.inner x.party.call.stage l (all_seats xs) fits in
+      let few = left_facts.few_left parts.cells parts.wait_lists q x.inner x.party.call.stage l (all_seats xs) fits in
       let k = known.0 in
       let w = wants now x.ask x.inner x.party.call.stage x.marks x.seen k.stands in
       omega (arith, first, few, w)

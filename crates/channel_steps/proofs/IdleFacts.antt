@@ -3,7 +3,7 @@ use Rattle.std.proofs.Common.{⊎_elim, arith, ◌≡◌, ◌<◌, ◌≤◌, �
 use Rattle.channel_steps.proofs.Words.{Phase, trying, displaced, appended, taken, read, measured, ActiveQueueCall, PhasesQuiet, phases, QueueAsk, QueueCall, Channel, phase, seats, ChannelAsk, Stage, Trying, Working, Finished, Purpose, IsQuiet, AllQuiet, TryAt, TriesAt, StageAt, MarkedMoment, ActiveCall, Configuration, Steps, ActiveCallWitness, sees, active_call_of, seats_of, all_seats, AllKnown, AreIdle, OthersQuiet, Entry}
 use Rattle.concurrent_queue.specs.Queue as queue
 use Rattle.concurrent_queue.specs.declared.call.QueueAsk.TheVariants as ask
-use Rattle.channel_calls.specs.declared.stage.Purpose.TheVariants as aim
+use Rattle.channel_calls.specs.declared.stage.Purpose.TheVariants as purpose
 use Rattle.channel_steps.proofs.QueueFacts.{grows}
 
 quiet_append : {T : Type 0} → (xs ys : List (ActiveQueueCall T)) → AllQuiet (phases xs) → AllQuiet (phases ys) → AllQuiet (phases (xs ++ ys))
@@ -28,7 +28,7 @@ module _ {T W : Type 0} where
   none_mine (d ∷ before) mine e = absurd cc
 
   idle_at : (now : Channel T W) (y : Purpose T W) (a : QueueAsk T) (s : queue.Stage T) (seen : List (Channel T W)) → TriesAt now y a s [] seen → IsQuiet s
-  idle_at now (aim.RecvMany r) a s seen h =
+  idle_at now (purpose.RecvMany r) a s seen h =
       idle_try now a s seen (subst (λ (ds : List (MarkedMoment T W)). TryAt now a s ds seen) (none_mine h.1.before h.0 h.1.all) h.2)
   idle_at now y a s seen h = idle_try now a s seen h
 

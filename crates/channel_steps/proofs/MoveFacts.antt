@@ -49,18 +49,18 @@ module _ {T W : Type 0} where
   worked_spares c (Insert w task) e r s (inr h) = spares_as c e _ h.1 (refl, tt)
   worked_spares c (Leave x) e r s h = spares_as c e _ h.0 (leaves_spares x.held c)
   worked_spares c (Lower side key) e r s h = spares_as c e _ h.0 (refl, other_down side)
-  worked_spares c (Raise side n making) e r s h = spares_as c e _ h.0 (raises_spares (is_raised side n c.roster) side n c)
+  worked_spares c (Raise side n making) e r s h = spares_as c e _ h.0 (raises_spares (is_raised side n c.wait_lists) side n c)
   worked_spares c w e r s h = spares_as c e _ h.0 (refl, tt)
 
   -- ---- where a call ends
 
   turned_ends : (turn : NextStep T W) (y : Reply T) (s : Stage (Phase T) T W) → Turned turn (Some y) s → (kept : Returned T) × (s ≡ Finished kept)
-  turned_ends (Tries x aim) y s h = absurd (let no : Some y ≡ None = h.0 in cc)
+  turned_ends (Tries x purpose) y s h = absurd (let no : Some y ≡ None = h.0 in cc)
   turned_ends (Works w) y s h = absurd (let no : Some y ≡ None = h.0 in cc)
   turned_ends (Ends x kept) y s h = (kept, h.1)
 
   moves_end : (c : Channel T W) (at : Stage (Phase T) T W) (e : Effect T W) (y : Reply T) (s : Stage (Phase T) T W) → Moves c at e (Some y) s → (kept : Returned T) × (s ≡ Finished kept)
-  moves_end c (Trying f aim) e y s h =
+  moves_end c (Trying f purpose) e y s h =
       ⊎_elim (λ k. absurd (let no : Some y ≡ None = k.2 in cc)) (λ k. turned_ends _ y s k.2) h.how
   moves_end c (Working w) e y s h = let b = work_lessens c e (Some y) s w h in turned_ends b.turn y s b.turned
   moves_end c (Finished kept) e y s h = absurd (let no : Some y ≡ None = h.1 in cc)

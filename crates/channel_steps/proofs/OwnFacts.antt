@@ -81,12 +81,12 @@ module _ {T W : Type 0} where
   raised_names false side n c e h = ap (λ (z : Effect T W). z.woken) h
 
   work_names : (c : Channel T W) (w : ListStep T W) (e : Effect T W) (r : Option (Reply T)) (s : Stage (Phase T) T W) → Worked c w e r s → WokenBy (telling (Working w)) (dropping (Working w)) c e.woken
-  work_names c (TellReceive y) e r s h = ap (λ (z : Effect T W). z.woken) h.0 ∙ sym (append-nil (told_one_wakes (listeners Receives c.roster)))
-  work_names c (TellSend y) e r s h = ap (λ (z : Effect T W). z.woken) h.0 ∙ sym (append-nil (told_one_wakes (listeners Sends c.roster)))
+  work_names c (TellReceive y) e r s h = ap (λ (z : Effect T W). z.woken) h.0 ∙ sym (append-nil (told_one_wakes (listeners Receives c.wait_lists)))
+  work_names c (TellSend y) e r s h = ap (λ (z : Effect T W). z.woken) h.0 ∙ sym (append-nil (told_one_wakes (listeners Sends c.wait_lists)))
   work_names c (Insert w task) e r s (inl h) = ap (λ (z : Effect T W). z.woken) h.2
   work_names c (Insert w task) e r s (inr h) = ap (λ (z : Effect T W). z.woken) h.1
   work_names c (Leave y) e r s h = left_names y.held c e h.0
-  work_names c (Raise side n m) e r s h = raised_names (is_raised side n c.roster) side n c e h.0
+  work_names c (Raise side n m) e r s h = raised_names (is_raised side n c.wait_lists) side n c e h.0
   work_names c w e r s h = ap (λ (z : Effect T W). z.woken) h.0
 
   pub names_of : (c : Channel T W) (at : Stage (Phase T) T W) (e : Effect T W) (r : Option (Reply T)) (s : Stage (Phase T) T W) → Moves c at e r s → WokenBy (telling at) (dropping at) c e.woken

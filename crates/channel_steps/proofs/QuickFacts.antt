@@ -5,7 +5,7 @@ use Rattle.concurrent_queue.specs.Queue as queue
 use Rattle.concurrent_queue.specs.declared.call.QueueAsk.TheVariants as ask
 use Rattle.concurrent_queue.specs.declared.call.QueueReply.TheVariants as answer
 use Rattle.channel_calls.specs.declared.ask.ChannelAsk.TheVariants as channel
-use Rattle.channel_calls.specs.declared.stage.Purpose.TheVariants as aim
+use Rattle.channel_calls.specs.declared.stage.Purpose.TheVariants as purpose
 use Rattle.channel_steps.proofs.SuitFacts.{IsQuickTry, IsQuickAim, quick_try}
 
 module _ {T : Type 0} where
@@ -71,7 +71,7 @@ module _ (T W : Type 0) where
   told_left Closings y = let h : left_after (let t : NextStep T W = ends_by (closer_ending y true) in t) ≤ 1 = ended_left W (closer_ending y true) in omega (arith, h)
   told_left w y = omega arith
 
-  lowered_left : (b : Bool) (side : Side) (key : Option Key) → left_after (let t : NextStep T W = (if b then Tries ask.Close (aim.Close (dropper side key)) else ends_by (closer_ending (dropper side key) false)) in t) < 7
+  lowered_left : (b : Bool) (side : Side) (key : Option Key) → left_after (let t : NextStep T W = (if b then Tries ask.Close (purpose.Close (dropper side key)) else ends_by (closer_ending (dropper side key) false)) in t) < 7
   lowered_left true side key = omega arith
   lowered_left false side key = let h : left_after (let t : NextStep T W = ends_by (closer_ending (dropper side key) false) in t) ≤ 1 = ended_left W (closer_ending (dropper side key) false) in omega (arith, h)
 
@@ -85,9 +85,9 @@ few_to_tell line = omega arith
 
 module _ {T W : Type 0} where
   quick_answers : (y : Purpose T W) (a : QueueAsk T) (s : queue.Stage T) (r : QueueReply T) → IsQuickAim y a → left_after (answered_next y r) < left_to_try a s
-  quick_answers (aim.Close c) ask.Close s r h = closed_left W r c
-  quick_answers aim.IsTerminated ask.IsClosed s r h = terminated_left W r
-  quick_answers aim.Ask a s r h = asked_less W a s r
+  quick_answers (purpose.Close c) ask.Close s r h = closed_left W r c
+  quick_answers purpose.IsTerminated ask.IsClosed s r h = terminated_left W r
+  quick_answers purpose.Ask a s r h = asked_less W a s r
   quick_answers y a s r h = absurd h
 
   never_for : (x : ChannelAsk T W) (w : Waiting T) → IsFor x w → IsQuick x → ⊥
@@ -122,7 +122,7 @@ module _ {T W : Type 0} where
   quick_works c x (Insert w task) e s ds seen h q g = absurd (never_for x w h.0 q)
   quick_works c x (Register w key task) e s ds seen h q g = absurd (never_for x w h.0 q)
   quick_works c x (Leave y) e s ds seen h q g = absurd (let no : None ≡ Some y.reply = g.1.0 in cc)
-  quick_works c x (Lower side key) e s ds seen h q g = step_less (Lower side key) (lowered_next side key (count side c.roster)) s g.1 (lowered_left T W (count side c.roster == 1) side key)
+  quick_works c x (Lower side key) e s ds seen h q g = step_less (Lower side key) (lowered_next side key (count side c.wait_lists)) s g.1 (lowered_left T W (count side c.wait_lists == 1) side key)
   quick_works c x (Count side) e s ds seen h q g = absurd (let no = g.1.0 in cc)
   quick_works c x (Load side m) e s ds seen h q g = absurd (never_makes x side m seen h.0 q)
   quick_works c x (Raise side n m) e s ds seen h q g = absurd (never_makes x side m seen h.0 q)

@@ -21,7 +21,7 @@ module _ {T W : Type 0} where
     round = subst (λ (ss : List (ActiveQueueCall T)). FitsAt blocks parts.cells q ss) (sym (append-nil others)) fits
 
     pub came : (turn : NextStep T W) (s : Stage (QueueCall T) T W) (r : Option (Reply T)) → IsTaken turn r s → Came turn blocks parts q others s r
-    came (Tries x aim) s r (call, starts, none, e) =
+    came (Tries x purpose) s r (call, starts, none, e) =
         record {
           inner = asked x;
           turned = (none, ap (λ (z : Stage (QueueCall T) T W). phase (asked x) z) e);

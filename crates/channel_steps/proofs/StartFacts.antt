@@ -1,7 +1,7 @@
 -- A channel that was just opened, and the number of calls under way.
 use Rattle.std.proofs.Common.{◌≡◌, ℕ, ◌==◌, Bool, true, false, List, [], ◌∷◌, map, length, refl, sym, ap, ◌∙◌, arith}
 use Rattle.std.proofs.lemmas.Bool.Decides.{nat_tests}
-use Rattle.channel_steps.proofs.Words.{QueueForm, Bounded, Unbounded, channel, Parts, WaitLists, capacity_of, IsNew, opened, new_roster, Party, new_configuration, Configuration, ActiveCallWitness, active_call_of, Represents, MayHave, IsQuietOrNot, EachConfigurationTellsQuiet}
+use Rattle.channel_steps.proofs.Words.{QueueForm, Bounded, Unbounded, channel, Parts, WaitLists, capacity_of, IsNew, opened, new_wait_lists, Party, new_configuration, Configuration, ActiveCallWitness, active_call_of, Represents, MayHave, IsQuietOrNot, EachConfigurationTellsQuiet}
 
 long_as : {A B : Type 0} (g : A → B) (xs : List A) → length (map g xs) ≡ length xs
 long_as g [] = refl
@@ -16,14 +16,14 @@ none_at_first (Bounded capacity) = refl
 none_at_first Unbounded = tt
 
 module _ {T W : Type 0} where
-  pub new_shown : (form : QueueForm) (parts : Parts T W) (parties : List (Party T W)) → IsNew form parts.cells → parts.roster ≡ new_roster → parties ≡ [] → Represents parts parties (new_configuration (capacity_of form))
-  new_shown form parts parties new roster none =
+  pub new_shown : (form : QueueForm) (parts : Parts T W) (parties : List (Party T W)) → IsNew form parts.cells → parts.wait_lists ≡ new_wait_lists → parties ≡ [] → Represents parts parties (new_configuration (capacity_of form))
+  new_shown form parts parties new wait_lists none =
       record {
         witnesses = [];
         queue = opened (capacity_of form);
         parties_are = none;
         under_way = refl;
-        now = sym (ap (λ (a : WaitLists W). channel (opened (capacity_of form)) (record { cells = parts.cells; roster = a })) roster);
+        now = sym (ap (λ (a : WaitLists W). channel (opened (capacity_of form)) (record { cells = parts.cells; wait_lists = a })) wait_lists);
         fits = new.1;
         bare = none_at_first parts.cells.form;
         known = tt;

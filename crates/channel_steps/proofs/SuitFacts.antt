@@ -3,7 +3,7 @@ use Rattle.std.proofs.Common.{◌≡◌, List, ◌∷◌, [], inr, refl, sym, ap
 use Rattle.channel_steps.proofs.Words.{message, QueueAsk, Channel, ChannelAsk, Purpose, Sends, Receives, Streams, Closings, Side, Senders, Receivers, MarkedMoment, LeftLast, IsQuick, TriesFor, brought}
 use Rattle.concurrent_queue.specs.declared.call.QueueAsk.TheVariants as ask
 use Rattle.channel_calls.specs.declared.ask.ChannelAsk.TheVariants as channel
-use Rattle.channel_calls.specs.declared.stage.Purpose.TheVariants as aim
+use Rattle.channel_calls.specs.declared.stage.Purpose.TheVariants as purpose
 use Rattle.channel_calls.specs.declared.stage.Closer.TheVariants as closer
 use Rattle.channel_steps.specs.every_run.Streams.{IsSending}
 
@@ -45,14 +45,14 @@ module _ {T W : Type 0} where
 
   -- a close, or what is left of a drop of the last handle
   abbrev pub IsClose : Purpose T W → Type 0
-  IsClose (aim.Close c) = Unit {0}
+  IsClose (purpose.Close c) = Unit {0}
   IsClose y = ⊥
 
   -- what a quick call asks it for
   abbrev pub IsQuickAim : Purpose T W → QueueAsk T → Type 0
-  IsQuickAim (aim.Close c) ask.Close = Unit {0}
-  IsQuickAim aim.IsTerminated ask.IsClosed = Unit {0}
-  IsQuickAim aim.Ask a = Unit {0}
+  IsQuickAim (purpose.Close c) ask.Close = Unit {0}
+  IsQuickAim purpose.IsTerminated ask.IsClosed = Unit {0}
+  IsQuickAim purpose.Ask a = Unit {0}
   IsQuickAim y a = ⊥
 
   -- a push is a sending call's, a pop one that takes, and a close a closing one's
@@ -76,25 +76,25 @@ module _ {T W : Type 0} where
   last_left side c x es seen e h = absurd h
 
   suits : (x : ChannelAsk T W) (y : Purpose T W) (a : QueueAsk T) (ds : List (MarkedMoment T W)) (seen : List (Channel T W)) → TriesFor x y a ds seen → Suits x y a ds seen
-  suits (channel.TrySend m) aim.TrySend (ask.Push v) ds seen h = (ap (λ (z : T). z ∷ []) h, tt, λ q. absurd q, λ c es e. h)
-  suits (channel.ForceSend m) aim.ForceSend (ask.ForcePush v) ds seen h = (ap (λ (z : T). z ∷ []) h, (tt, tt), λ q. absurd q, λ c es e. h)
-  suits channel.TryRecv aim.TryRecv ask.Pop ds seen h = (refl, tt, λ q. absurd q, λ c es e. h)
-  suits (channel.RecvMany n) (aim.RecvMany g) ask.Pop ds seen h = (refl, tt, λ q. absurd q, λ c es e. h)
-  suits channel.Close (aim.Close closer.Call) ask.Close ds seen h = (refl, tt, λ q. (tt, tt), λ c es e. e tt ∙ h)
-  suits (channel.PollSend m k t) (aim.Poll Sends key task) (ask.Push v) ds seen h = (ap (λ (z : T). z ∷ []) h, tt, λ q. absurd q, λ c es e. h)
-  suits (channel.PollRecv k t) (aim.Poll Receives key task) ask.Pop ds seen h = (refl, tt, λ q. absurd q, λ c es e. h)
-  suits (channel.PollClosed k t) (aim.Poll Closings key task) ask.IsClosed ds seen h = (refl, tt, λ q. absurd q, λ c es e. h)
-  suits (channel.PollNext k t) (aim.Poll Streams key task) ask.Pop ds seen h = (refl, tt, λ q. absurd q, λ c es e. h)
-  suits channel.DropSender (aim.Close closer.Sender) ask.Close ds seen h = (refl, tt, λ q. (tt, tt), λ c es e. last_left Senders c ds es seen (e tt) h)
-  suits (channel.DropReceiver k) (aim.Close (closer.Receiver key)) ask.Close ds seen h = (refl, tt, λ q. (tt, tt), λ c es e. last_left Receivers c ds es seen (e tt) h)
-  suits (channel.Upgrade side) (aim.Upgrade s) ask.IsClosed ds seen h = (refl, tt, λ q. absurd q, λ c es e. h)
-  suits channel.IsClosed aim.Ask ask.IsClosed ds seen h = (refl, tt, λ q. (tt, tt), λ c es e. h)
-  suits channel.IsEmpty aim.Ask ask.IsEmpty ds seen h = (refl, tt, λ q. (tt, tt), λ c es e. h)
-  suits channel.IsFull aim.Ask ask.IsFull ds seen h = (refl, tt, λ q. (tt, tt), λ c es e. h)
-  suits channel.Len aim.Ask ask.Len ds seen h = (refl, tt, λ q. absurd q, λ c es e. h)
-  suits channel.Capacity aim.Ask ask.Capacity ds seen h = (refl, tt, λ q. (tt, tt), λ c es e. h)
-  suits channel.IsTerminated aim.IsTerminated ask.IsClosed ds seen h = (refl, tt, λ q. (tt, tt), λ c es e. h)
-  suits channel.IsTerminated aim.Ask ask.IsEmpty ds seen h = (refl, tt, λ q. (tt, tt), λ c es e. inr h)
+  suits (channel.TrySend m) purpose.TrySend (ask.Push v) ds seen h = (ap (λ (z : T). z ∷ []) h, tt, λ q. absurd q, λ c es e. h)
+  suits (channel.ForceSend m) purpose.ForceSend (ask.ForcePush v) ds seen h = (ap (λ (z : T). z ∷ []) h, (tt, tt), λ q. absurd q, λ c es e. h)
+  suits channel.TryRecv purpose.TryRecv ask.Pop ds seen h = (refl, tt, λ q. absurd q, λ c es e. h)
+  suits (channel.RecvMany n) (purpose.RecvMany g) ask.Pop ds seen h = (refl, tt, λ q. absurd q, λ c es e. h)
+  suits channel.Close (purpose.Close closer.Call) ask.Close ds seen h = (refl, tt, λ q. (tt, tt), λ c es e. e tt ∙ h)
+  suits (channel.PollSend m k t) (purpose.Poll Sends key task) (ask.Push v) ds seen h = (ap (λ (z : T). z ∷ []) h, tt, λ q. absurd q, λ c es e. h)
+  suits (channel.PollRecv k t) (purpose.Poll Receives key task) ask.Pop ds seen h = (refl, tt, λ q. absurd q, λ c es e. h)
+  suits (channel.PollClosed k t) (purpose.Poll Closings key task) ask.IsClosed ds seen h = (refl, tt, λ q. absurd q, λ c es e. h)
+  suits (channel.PollNext k t) (purpose.Poll Streams key task) ask.Pop ds seen h = (refl, tt, λ q. absurd q, λ c es e. h)
+  suits channel.DropSender (purpose.Close closer.Sender) ask.Close ds seen h = (refl, tt, λ q. (tt, tt), λ c es e. last_left Senders c ds es seen (e tt) h)
+  suits (channel.DropReceiver k) (purpose.Close (closer.Receiver key)) ask.Close ds seen h = (refl, tt, λ q. (tt, tt), λ c es e. last_left Receivers c ds es seen (e tt) h)
+  suits (channel.Upgrade side) (purpose.Upgrade s) ask.IsClosed ds seen h = (refl, tt, λ q. absurd q, λ c es e. h)
+  suits channel.IsClosed purpose.Ask ask.IsClosed ds seen h = (refl, tt, λ q. (tt, tt), λ c es e. h)
+  suits channel.IsEmpty purpose.Ask ask.IsEmpty ds seen h = (refl, tt, λ q. (tt, tt), λ c es e. h)
+  suits channel.IsFull purpose.Ask ask.IsFull ds seen h = (refl, tt, λ q. (tt, tt), λ c es e. h)
+  suits channel.Len purpose.Ask ask.Len ds seen h = (refl, tt, λ q. absurd q, λ c es e. h)
+  suits channel.Capacity purpose.Ask ask.Capacity ds seen h = (refl, tt, λ q. (tt, tt), λ c es e. h)
+  suits channel.IsTerminated purpose.IsTerminated ask.IsClosed ds seen h = (refl, tt, λ q. (tt, tt), λ c es e. h)
+  suits channel.IsTerminated purpose.Ask ask.IsEmpty ds seen h = (refl, tt, λ q. (tt, tt), λ c es e. inr h)
   suits x y a ds seen h = absurd h
 
   module _ (x : ChannelAsk T W) (y : Purpose T W) (ds : List (MarkedMoment T W)) (seen : List (Channel T W)) where

@@ -4,7 +4,7 @@ use Rattle.std.proofs.lemmas.Bool.Decides.{nat_tests}
 use Rattle.channel_steps.proofs.Words.{Queue, trying, displaced, appended, taken, read, measured, is_full_at, message, ContinuesBy, QueueAsk, QueueMark, Nothing, Append, Take, TakeDisplaced, Replace, Close, mark_of_queue, Channel, Purpose, Mark, is_filled, IsOldest, marked, is_displaced, may_refuse_at, seen_after, MarkedMoment, with_marked, Open, HasRoom, Crowded, Refuses, HasMessage, Once, MadeRoom, Displaced, TryAt, HasTaken, AreBehind, TriesAt, IsBalanced}
 use Rattle.concurrent_queue.specs.Queue as queue
 use Rattle.concurrent_queue.specs.declared.call.QueueAsk.TheVariants as ask
-use Rattle.channel_calls.specs.declared.stage.Purpose.TheVariants as aim
+use Rattle.channel_calls.specs.declared.stage.Purpose.TheVariants as purpose
 use Rattle.channel_steps.specs.Moments.{Unbounded}
 use Rattle.channel_steps.proofs.QueueFacts.{Says, one_fewer}
 use Rattle.channel_calls.specs.declared.mark.Mark.TheVariants as mark
@@ -174,7 +174,7 @@ module _ {T W : Type 0} where
   pub goes_at : (c : Channel T W) (seen : List (Channel T W)) (y : Purpose T W) (a : QueueAsk T) (m : QueueMark) (s t : queue.Stage T) (ds : List (MarkedMoment T W))
       → ContinuesBy c.queue a m s t → IsBalanced c.queue → TriesAt c y a s ds seen
       → TriesAt (next_channel a s m c) y a t (with_marked ds (mark_of_queue m) c seen) (next_channel a s m c ∷ seen)
-  goes_at c seen (aim.RecvMany r) a m s t ds g h ev =
+  goes_at c seen (purpose.RecvMany r) a m s t ds g h ev =
       (with_marked ev.0 (mark_of_queue m) c seen, taken_on r.taken ds ev.0 (mark_of_queue m) c seen (next_channel a s m c) ev.1, goes c seen a m s t ev.0 g h ev.2)
   goes_at c seen y a m s t ds g h ev = goes c seen a m s t ds g h ev
 
@@ -215,7 +215,7 @@ module _ {T W : Type 0} where
     try_stays a s ds ev = absurd ev
 
     pub tries_stay : (y : Purpose T W) (a : QueueAsk T) (s : queue.Stage T) (ds : List (MarkedMoment T W)) → TriesAt c y a s ds seen → TriesAt c' y a s ds (c' ∷ seen)
-    tries_stay (aim.RecvMany r) a s ds ev =
+    tries_stay (purpose.RecvMany r) a s ds ev =
         let t = ev.1 in
         (ev.0, record { before = t.before; all = t.all; took = t.took; behind = behind_more ds seen c' t.behind }, try_stays a s ev.0 ev.2)
     tries_stay y a s ds ev = try_stays a s ds ev

@@ -8,7 +8,7 @@ module _ {T W : Type 0} where
   module _ (c : Channel T W) (x : ChannelAsk T W) (told : List Telling) (ds : List (MarkedMoment T W)) (seen : List (Channel T W)) where
     -- what is known of a call that takes this turn
     abbrev pub TurnAt : NextStep T W → Type 0
-    TurnAt (Tries a aim) = (TriesFor x aim a ds seen × TriesAt c aim a (trying false) ds seen) × (told ≡ [])
+    TurnAt (Tries a purpose) = (TriesFor x purpose a ds seen × TriesAt c purpose a (trying false) ds seen) × (told ≡ [])
     TurnAt (Works w) = WorkAt x w ds seen × (told ++ to_tell w ≡ owed ds)
     TurnAt (Ends y kept) = (Met x ds seen y × Keeps x y kept) × (told ++ [] ≡ owed ds)
 
@@ -18,9 +18,9 @@ module _ {T W : Type 0} where
     After (Some y) s = (kept : Returned T) × (s ≡ Finished kept) × Met x ds seen y × Keeps x y kept × (told ≡ owed ds)
 
     pub turned_at : (turn : NextStep T W) (r : Option (Reply T)) (s : Stage (Phase T) T W) → Turned turn r s → TurnAt turn → After r s
-    turned_at (Tries a aim) None s h k =
+    turned_at (Tries a purpose) None s h k =
         subst (λ (z : Stage (Phase T) T W). StageAt c x z ds seen × ToldAt told z ds) (sym h.1) k
-    turned_at (Tries a aim) (Some y) s h k = absurd (let no : Some y ≡ None = h.0 in cc)
+    turned_at (Tries a purpose) (Some y) s h k = absurd (let no : Some y ≡ None = h.0 in cc)
     turned_at (Works w) None s h k =
         subst (λ (z : Stage (Phase T) T W). StageAt c x z ds seen × ToldAt told z ds) (sym h.1) k
     turned_at (Works w) (Some y) s h k = absurd (let no : Some y ≡ None = h.0 in cc)

@@ -3,7 +3,7 @@ pub use Rattle.channel_calls.specs.Answered.{answered_next, asked_next, closed_n
 pub use Rattle.channel_calls.specs.Asks.{asks_listener, first, kept_by}
 pub use Rattle.channel_calls.specs.Marks.{down, mark_of_queue, up}
 pub use Rattle.channel_calls.specs.Moves.{Channel, Effect, Hastens, IsChannelStep, IsNewCall, IsStepOver, IsTaken, Made, Moves, OnePlace, TakesRoomFor, Tried, Turned, Worked, channel, leaves, on_count, phase, seats, untouched}
-pub use Rattle.channel_calls.specs.Parts.{Listeners, Parts, WaitLists, count, is_raised, listeners, new_roster, told_one_wakes, waits, with_listeners}
+pub use Rattle.channel_calls.specs.Parts.{Listeners, Parts, WaitLists, count, is_raised, listeners, new_wait_lists, told_one_wakes, waits, with_listeners}
 pub use Rattle.channel_calls.specs.Several.{Gathered, with_last}
 pub use Rattle.channel_calls.specs.Turns.{again, closer_ending, counted_next, dropper, ends_by, leaving, line_of, loaded_next, lowered_next, most, nothing_kept, pends_by, raised_next, refused_next, room_next, roomless, told_all_next, unlistened}
 pub use Rattle.channel_calls.specs.declared.ask.ChannelAsk.{ChannelAsk}

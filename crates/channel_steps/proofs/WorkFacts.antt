@@ -7,7 +7,7 @@ use Rattle.event_listener.specs.declared.error.ListenError.TheVariants as listen
 use Rattle.channel_calls.specs.declared.ask.ChannelAsk.TheVariants as channel
 use Rattle.channel_calls.specs.declared.mark.Mark.TheVariants.{Nothing}
 use Rattle.channel_calls.specs.declared.reply.Reply.TheVariants as reply
-use Rattle.channel_calls.specs.declared.stage.Purpose.TheVariants as aim
+use Rattle.channel_calls.specs.declared.stage.Purpose.TheVariants as purpose
 use Rattle.channel_calls.specs.declared.stage.Making.TheVariants as making
 use Rattle.channel_calls.specs.declared.stage.Waiting.TheVariants as waiting
 use Rattle.channel_steps.proofs.TryFacts.{eq_of, open_once}
@@ -83,54 +83,54 @@ module _ {T W : Type 0} where
   module _ (c d : Channel T W) (seen : List (Channel T W)) where
     -- ---- a handle is dropped
 
-    lowered_at : (x : ChannelAsk T W) (side : Side) (key : Option Key) (b : Bool) → (count side c.roster == 1) ≡ b → IsDropOf x side
-        → TurnAt d x [] (with_marked [] (down side) c seen) (d ∷ seen) (if b then Tries ask.Close (aim.Close (dropper side key)) else ends_by (closer_ending (dropper side key) false))
-    lowered_at channel.DropSender Senders key true e h = (((refl, eq_of (count Senders c.roster) 1 e, d ∷ [], refl), tt), refl)
-    lowered_at channel.DropSender Senders key false e h = ((([], d ∷ seen, refl, ((refl, inl (λ k. not_one (count Senders c.roster) e k)), refl)), refl), refl)
-    lowered_at (channel.DropReceiver k) Receivers key true e h = (((refl, eq_of (count Receivers c.roster) 1 e, d ∷ [], refl), tt), refl)
+    lowered_at : (x : ChannelAsk T W) (side : Side) (key : Option Key) (b : Bool) → (count side c.wait_lists == 1) ≡ b → IsDropOf x side
+        → TurnAt d x [] (with_marked [] (down side) c seen) (d ∷ seen) (if b then Tries ask.Close (purpose.Close (dropper side key)) else ends_by (closer_ending (dropper side key) false))
+    lowered_at channel.DropSender Senders key true e h = (((refl, eq_of (count Senders c.wait_lists) 1 e, d ∷ [], refl), tt), refl)
+    lowered_at channel.DropSender Senders key false e h = ((([], d ∷ seen, refl, ((refl, inl (λ k. not_one (count Senders c.wait_lists) e k)), refl)), refl), refl)
+    lowered_at (channel.DropReceiver k) Receivers key true e h = (((refl, eq_of (count Receivers c.wait_lists) 1 e, d ∷ [], refl), tt), refl)
     lowered_at (channel.DropReceiver k) Receivers key false e h =
         ended d (channel.DropReceiver k) [] (with_marked [] (down Receivers) c seen) (d ∷ seen) (closer_ending (dropper Receivers key) false)
-        (([], d ∷ seen, refl, ((refl, inl (λ j. not_one (count Receivers c.roster) e j)), refl)), refl) refl
+        (([], d ∷ seen, refl, ((refl, inl (λ j. not_one (count Receivers c.wait_lists) e j)), refl)), refl) refl
     lowered_at x side key b e h = absurd h
 
     -- ---- a handle is made
 
-    same_roster : (P : ℕ → Type 0) (side s : Side) → side ≡ s → d.roster ≡ c.roster → P (count side c.roster) → P (count s d.roster)
-    same_roster P side s e f h =
-        subst (λ (z : Side). P (count z d.roster)) e (subst (λ (a : WaitLists W). P (count side a)) (sym f) h)
+    same_wait_lists : (P : ℕ → Type 0) (side s : Side) → side ≡ s → d.wait_lists ≡ c.wait_lists → P (count side c.wait_lists) → P (count s d.wait_lists)
+    same_wait_lists P side s e f h =
+        subst (λ (z : Side). P (count z d.wait_lists)) e (subst (λ (a : WaitLists W). P (count side a)) (sym f) h)
 
-    cloned_at : (ds : List (MarkedMoment T W)) (s side : Side) (b : Bool) → nat_lt most (count side c.roster) ≡ b → side ≡ s → d.roster ≡ c.roster → ds ≡ []
-        → TurnAt d (channel.CloneHandle s) [] ds (d ∷ seen) (if b then Ends reply.TooMany nothing_kept else Works (Raise side (count side c.roster) making.Clone))
-    cloned_at ds s side true e h f k = ((([], d ∷ seen, refl, (k, inl (same_roster (λ n. most < n) side s h f (past_most (count side c.roster) e)))), refl), owes_nothing ds k)
-    cloned_at ds s side false e h f k = ((h, k, most_of (count side c.roster) e), owes_nothing ds k)
+    cloned_at : (ds : List (MarkedMoment T W)) (s side : Side) (b : Bool) → nat_lt most (count side c.wait_lists) ≡ b → side ≡ s → d.wait_lists ≡ c.wait_lists → ds ≡ []
+        → TurnAt d (channel.CloneHandle s) [] ds (d ∷ seen) (if b then Ends reply.TooMany nothing_kept else Works (Raise side (count side c.wait_lists) making.Clone))
+    cloned_at ds s side true e h f k = ((([], d ∷ seen, refl, (k, inl (same_wait_lists (λ n. most < n) side s h f (past_most (count side c.wait_lists) e)))), refl), owes_nothing ds k)
+    cloned_at ds s side false e h f k = ((h, k, most_of (count side c.wait_lists) e), owes_nothing ds k)
 
-    checked_at : (ds : List (MarkedMoment T W)) (s side : Side) (b : Bool) → nat_lt most (count side c.roster) ≡ b → side ≡ s → d.roster ≡ c.roster → 0 < count side c.roster → Once Open seen → ds ≡ []
-        → TurnAt d (channel.Upgrade s) [] ds (d ∷ seen) (if b then Ends reply.TooMany nothing_kept else Works (Raise side (count side c.roster) making.Upgrade))
+    checked_at : (ds : List (MarkedMoment T W)) (s side : Side) (b : Bool) → nat_lt most (count side c.wait_lists) ≡ b → side ≡ s → d.wait_lists ≡ c.wait_lists → 0 < count side c.wait_lists → Once Open seen → ds ≡ []
+        → TurnAt d (channel.Upgrade s) [] ds (d ∷ seen) (if b then Ends reply.TooMany nothing_kept else Works (Raise side (count side c.wait_lists) making.Upgrade))
     checked_at ds s side true e h f some o k =
-        ((([], d ∷ seen, refl, (k, inl (same_roster (λ n. most < n) side s h f (past_most (count side c.roster) e), inr o))), refl), owes_nothing ds k)
-    checked_at ds s side false e h f some o k = (((h, inr o), k, (some, most_of (count side c.roster) e)), owes_nothing ds k)
+        ((([], d ∷ seen, refl, (k, inl (same_wait_lists (λ n. most < n) side s h f (past_most (count side c.wait_lists) e), inr o))), refl), owes_nothing ds k)
+    checked_at ds s side false e h f some o k = (((h, inr o), k, (some, most_of (count side c.wait_lists) e)), owes_nothing ds k)
 
-    renewed_at : (ds : List (MarkedMoment T W)) (s side : Side) (z : Bool) → (count side c.roster == 0) ≡ z → side ≡ s → d.roster ≡ c.roster → Once Open seen → ds ≡ []
-        → TurnAt d (channel.Upgrade s) [] ds (d ∷ seen) (if z then Ends reply.NotMade nothing_kept else counted_next side making.Upgrade (count side c.roster))
-    renewed_at ds s side true e h f o k = ((([], d ∷ seen, refl, (k, inl (inr (same_roster (λ n. n ≡ 0) side s h f (eq_of (count side c.roster) 0 e))))), refl), owes_nothing ds k)
-    renewed_at ds s side false e h f o k = checked_at ds s side (nat_lt most (count side c.roster)) refl h f (some_of (count side c.roster) e) o k
+    renewed_at : (ds : List (MarkedMoment T W)) (s side : Side) (z : Bool) → (count side c.wait_lists == 0) ≡ z → side ≡ s → d.wait_lists ≡ c.wait_lists → Once Open seen → ds ≡ []
+        → TurnAt d (channel.Upgrade s) [] ds (d ∷ seen) (if z then Ends reply.NotMade nothing_kept else counted_next side making.Upgrade (count side c.wait_lists))
+    renewed_at ds s side true e h f o k = ((([], d ∷ seen, refl, (k, inl (inr (same_wait_lists (λ n. n ≡ 0) side s h f (eq_of (count side c.wait_lists) 0 e))))), refl), owes_nothing ds k)
+    renewed_at ds s side false e h f o k = checked_at ds s side (nat_lt most (count side c.wait_lists)) refl h f (some_of (count side c.wait_lists) e) o k
 
-    loaded_at : (ds : List (MarkedMoment T W)) (x : ChannelAsk T W) (side : Side) (m : Making) → d.roster ≡ c.roster → Makes x side m seen → ds ≡ []
-        → TurnAt d x [] ds (d ∷ seen) (loaded_next side m (count side c.roster))
-    loaded_at ds (channel.CloneHandle s) side making.Clone f h k = cloned_at ds s side (nat_lt most (count side c.roster)) refl h f k
-    loaded_at ds (channel.Upgrade s) side making.Upgrade f h k = renewed_at ds s side (count side c.roster == 0) refl h.0 f h.1 k
+    loaded_at : (ds : List (MarkedMoment T W)) (x : ChannelAsk T W) (side : Side) (m : Making) → d.wait_lists ≡ c.wait_lists → Makes x side m seen → ds ≡ []
+        → TurnAt d x [] ds (d ∷ seen) (loaded_next side m (count side c.wait_lists))
+    loaded_at ds (channel.CloneHandle s) side making.Clone f h k = cloned_at ds s side (nat_lt most (count side c.wait_lists)) refl h f k
+    loaded_at ds (channel.Upgrade s) side making.Upgrade f h k = renewed_at ds s side (count side c.wait_lists == 0) refl h.0 f h.1 k
     loaded_at ds x side m f h k = absurd h
 
-    raised_clone : (side : Side) → count side c.roster ≤ most → TurnAt d (channel.CloneHandle side) [] (with_marked [] (up side) c seen) (d ∷ seen) (raised_next side making.Clone true)
+    raised_clone : (side : Side) → count side c.wait_lists ≤ most → TurnAt d (channel.CloneHandle side) [] (with_marked [] (up side) c seen) (d ∷ seen) (raised_next side making.Clone true)
     raised_clone Senders h = ((([], d ∷ seen, refl, (refl, h)), refl), refl)
     raised_clone Receivers h = ((([], d ∷ seen, refl, (refl, h)), refl), refl)
 
-    raised_again : (side : Side) → 0 < count side c.roster → count side c.roster ≤ most → Once Open seen
+    raised_again : (side : Side) → 0 < count side c.wait_lists → count side c.wait_lists ≤ most → Once Open seen
         → TurnAt d (channel.Upgrade side) [] (with_marked [] (up side) c seen) (d ∷ seen) (raised_next side making.Upgrade true)
     raised_again Senders some h o = ((([], d ∷ seen, refl, (refl, some, h, o)), refl), refl)
     raised_again Receivers some h o = ((([], d ∷ seen, refl, (refl, some, h, o)), refl), refl)
 
-    raised_at : (x : ChannelAsk T W) (side : Side) (m : Making) (n : ℕ) → count side c.roster ≡ n → Makes x side m seen → MayRaise m n
+    raised_at : (x : ChannelAsk T W) (side : Side) (m : Making) (n : ℕ) → count side c.wait_lists ≡ n → Makes x side m seen → MayRaise m n
         → TurnAt d x [] (with_marked [] (up side) c seen) (d ∷ seen) (raised_next side m true)
     raised_at (channel.CloneHandle s) side making.Clone n e h k =
         subst (λ (z : Side). TurnAt d (channel.CloneHandle z) [] (with_marked [] (up side) c seen) (d ∷ seen) (raised_next side making.Clone true)) h
@@ -165,8 +165,8 @@ module _ {T W : Type 0} where
     mark_is : (e f : Effect T W) → e ≡ f → e.mark ≡ f.mark
     mark_is e f h = ap (λ (z : Effect T W). z.mark) h
 
-    roster_is : (e f : Effect T W) → e ≡ f → e.channel.roster ≡ f.channel.roster
-    roster_is e f h = ap (λ (z : Effect T W). z.channel.roster) h
+    wait_lists_is : (e f : Effect T W) → e ≡ f → e.channel.wait_lists ≡ f.channel.wait_lists
+    wait_lists_is e f h = ap (λ (z : Effect T W). z.channel.wait_lists) h
 
     left_mark : (o : Option ListenerRef) → (leaves o c).mark ≡ Nothing
     left_mark None = refl
@@ -184,25 +184,25 @@ module _ {T W : Type 0} where
         telling_step _ e r s (ends_by (closer_ending closer true)) m t
         (ended e.channel x (told ++ all_of Closings ∷ []) ds (e.channel ∷ seen) (closer_ending closer true) (answered_more x (closer_ending closer true) e.channel ds seen h) (then_tell _ [] k))
 
-    dropped : (side : Side) (key : Option Key) (e : Effect T W) (r : Option (Reply T)) (s : Stage (Phase T) T W) → e.mark ≡ down side → Turned (lowered_next side key (count side c.roster)) r s
+    dropped : (side : Side) (key : Option Key) (e : Effect T W) (r : Option (Reply T)) (s : Stage (Phase T) T W) → e.mark ≡ down side → Turned (lowered_next side key (count side c.wait_lists)) r s
         → IsDropOf x side → ds ≡ [] → told ≡ [] → AfterWork [] e r s
     dropped side key e r s m t h k n =
-        first_step (down side) e r s (lowered_next side key (count side c.roster)) m n t
-        (subst (λ (xs : List (MarkedMoment T W)). TurnAt e.channel x [] (with_marked xs (down side) c seen) (e.channel ∷ seen) (lowered_next side key (count side c.roster))) (sym k)
-        (lowered_at c e.channel seen x side key (count side c.roster == 1) refl h))
+        first_step (down side) e r s (lowered_next side key (count side c.wait_lists)) m n t
+        (subst (λ (xs : List (MarkedMoment T W)). TurnAt e.channel x [] (with_marked xs (down side) c seen) (e.channel ∷ seen) (lowered_next side key (count side c.wait_lists))) (sym k)
+        (lowered_at c e.channel seen x side key (count side c.wait_lists == 1) refl h))
 
-    counted : (side : Side) (e : Effect T W) → e.channel.roster ≡ c.roster → x ≡ channel.HandleCount side → ds ≡ []
-        → TurnAt e.channel x [] ds (e.channel ∷ seen) (Ends (reply.Count (count side c.roster)) nothing_kept)
+    counted : (side : Side) (e : Effect T W) → e.channel.wait_lists ≡ c.wait_lists → x ≡ channel.HandleCount side → ds ≡ []
+        → TurnAt e.channel x [] ds (e.channel ∷ seen) (Ends (reply.Count (count side c.wait_lists)) nothing_kept)
     counted side e f h k =
-        subst (λ (y : ChannelAsk T W). TurnAt e.channel y [] ds (e.channel ∷ seen) (Ends (reply.Count (count side c.roster)) nothing_kept)) (sym h)
+        subst (λ (y : ChannelAsk T W). TurnAt e.channel y [] ds (e.channel ∷ seen) (Ends (reply.Count (count side c.wait_lists)) nothing_kept)) (sym h)
         ((([], e.channel ∷ seen, refl, (k, inl (ap (λ (a : WaitLists W). count side a) f))), refl), owes_nothing ds k)
 
-    raising : (side : Side) (n : ℕ) (m : Making) (b : Bool) (e : Effect T W) (r : Option (Reply T)) (s : Stage (Phase T) T W) → is_raised side n c.roster ≡ b
+    raising : (side : Side) (n : ℕ) (m : Making) (b : Bool) (e : Effect T W) (r : Option (Reply T)) (s : Stage (Phase T) T W) → is_raised side n c.wait_lists ≡ b
         → e ≡ (if b then on_count side (n + 1) (up side) c else untouched c) → Turned (raised_next side m b) r s → Makes x side m seen → ds ≡ [] → MayRaise m n → told ≡ [] → AfterWork [] e r s
     raising side n m true e r s is f t h k may none =
         first_step (up side) e r s (raised_next side m true) (mark_is e _ f) none t
         (subst (λ (xs : List (MarkedMoment T W)). TurnAt e.channel x [] (with_marked xs (up side) c seen) (e.channel ∷ seen) (raised_next side m true)) (sym k)
-        (raised_at c e.channel seen x side m n (same_count (count side c.roster) n (nat_lt n (2 ^ 64 - 1)) is) h may))
+        (raised_at c e.channel seen x side m n (same_count (count side c.wait_lists) n (nat_lt n (2 ^ 64 - 1)) is) h may))
     raising side n m false e r s is f t h k may none =
         first_step Nothing e r s (Works (Load side m)) (mark_is e _ f) none t ((makes_more x side m e.channel seen h, k), owes_nothing ds k)
 
@@ -241,14 +241,14 @@ module _ {T W : Type 0} where
         first_step Nothing e r s (unlistened w g.0) (mark_is e _ g.1) none g.2 (not_listening e.channel ds seen x w g.0 h.0 h.1 (waits_more (line_of w) e.channel seen h.2))
     worked (Register w key task) e r s h k g =
         let none : told ≡ [] = told_nobody told ds k h.1 in
-        first_step Nothing e r s (if waits key (listeners (line_of w) c.roster) then pends_by w key else again w None task) (mark_is e _ g.0) none g.1
-        (registered e.channel ds seen x w key task (waits key (listeners (line_of w) c.roster)) h.0 h.1 (λ f. waits_more (line_of w) e.channel seen (h.2 f)))
+        first_step Nothing e r s (if waits key (listeners (line_of w) c.wait_lists) then pends_by w key else again w None task) (mark_is e _ g.0) none g.1
+        (registered e.channel ds seen x w key task (waits key (listeners (line_of w) c.wait_lists)) h.0 h.1 (λ f. waits_more (line_of w) e.channel seen (h.2 f)))
     worked (Leave y) e r s h k g =
         telling_step [] e r s (Ends y.reply (leaving None y.message)) (mark_is e _ g.0 ∙ left_mark y.held) g.1
         (answered_more x y e.channel ds seen h, subst (λ (ts : List Telling). ts ++ [] ≡ owed ds) (sym (append-nil told)) k)
     worked (Lower side key) e r s h k g = dropped side key e r s (mark_is e _ g.0) g.1 h.0 h.1 (told_nobody told ds k h.1)
     worked (Count side) e r s h k g =
-        first_step Nothing e r s (Ends (reply.Count (count side c.roster)) nothing_kept) (mark_is e _ g.0) (told_nobody told ds k h.1) g.1 (counted side e (roster_is e _ g.0) h.0 h.1)
+        first_step Nothing e r s (Ends (reply.Count (count side c.wait_lists)) nothing_kept) (mark_is e _ g.0) (told_nobody told ds k h.1) g.1 (counted side e (wait_lists_is e _ g.0) h.0 h.1)
     worked (Load side m) e r s h k g =
-        first_step Nothing e r s (loaded_next side m (count side c.roster)) (mark_is e _ g.0) (told_nobody told ds k h.1) g.1 (loaded_at c e.channel seen ds x side m (roster_is e _ g.0) h.0 h.1)
-    worked (Raise side n m) e r s h k g = raising side n m (is_raised side n c.roster) e r s refl g.0 g.1 h.0 h.1 h.2 (told_nobody told ds k h.1)
+        first_step Nothing e r s (loaded_next side m (count side c.wait_lists)) (mark_is e _ g.0) (told_nobody told ds k h.1) g.1 (loaded_at c e.channel seen ds x side m (wait_lists_is e _ g.0) h.0 h.1)
+    worked (Raise side n m) e r s h k g = raising side n m (is_raised side n c.wait_lists) e r s refl g.0 g.1 h.0 h.1 h.2 (told_nobody told ds k h.1)

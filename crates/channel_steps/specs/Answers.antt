@@ -120,7 +120,7 @@ module _ {T W : Type 0} where
 
   abbrev pub UpgradeRow : Side → List (MarkedMoment T W) → List (Channel T W) → Reply T → Type 0
   UpgradeRow side ds seen reply.Made = Upgraded side ds
-  UpgradeRow side ds seen reply.NotMade = (ds ≡ []) × Once (λ c. Shut c ⊎ (count side c.roster ≡ 0)) seen
+  UpgradeRow side ds seen reply.NotMade = (ds ≡ []) × Once (λ c. Shut c ⊎ (count side c.wait_lists ≡ 0)) seen
   UpgradeRow side ds seen reply.TooMany = (ds ≡ []) × Since Open (TooManyOf side) seen
   UpgradeRow side ds seen _ = ⊥
 
@@ -167,7 +167,7 @@ module _ {T W : Type 0} where
   Row (DropReceiver key) ds seen r = Dropped Receivers ds seen × (r ≡ reply.Unit)
   Row (CloneHandle side) ds seen r = CloneRow side ds seen r
   Row (Upgrade side) ds seen r = UpgradeRow side ds seen r
-  Row (HandleCount side) ds seen r = CountRow (λ c. count side c.roster) ds seen r
+  Row (HandleCount side) ds seen r = CountRow (λ c. count side c.wait_lists) ds seen r
   Row IsClosed ds seen r = FlagRow (λ c. c.queue.closed) ds seen r
   Row IsEmpty ds seen r = FlagRow is_empty ds seen r
   Row IsFull ds seen r = FlagRow (λ c. is_filled c.queue) ds seen r

@@ -9,7 +9,7 @@ use Rattle.channel_calls.specs.Turns.{most, line_of, leaving, closer_ending}
 use Rattle.channel_calls.specs.declared.ask.ChannelAsk.{ChannelAsk}
 use Rattle.channel_calls.specs.declared.ask.ChannelAsk.TheVariants.{TrySend, ForceSend, TryRecv, RecvMany, Close, PollSend, PollFinishedSend, PollRecv, PollClosed, PollNext, RefusePoll, GiveUp, DropSender, DropReceiver, CloneHandle, Upgrade, HandleCount, IsClosed, IsEmpty, IsFull, Len, Capacity, IsTerminated, SendIsTerminated, SameChannel, Make, DropWeak}
 use Rattle.channel_calls.specs.declared.stage.Purpose.{Purpose}
-use Rattle.channel_calls.specs.declared.stage.Purpose.TheVariants as aim
+use Rattle.channel_calls.specs.declared.stage.Purpose.TheVariants as purpose
 use Rattle.channel_calls.specs.declared.stage.Closer.TheVariants as closer
 use Rattle.channel_calls.specs.declared.stage.Ending.{Ending}
 use Rattle.channel_calls.specs.declared.stage.WaitList.{WaitList}
@@ -63,25 +63,25 @@ module _ {T W : Type 0} where
 
   -- the queue's call is one of this call, made for this
   abbrev pub TriesFor : ChannelAsk T W → Purpose T W → QueueAsk T → List (MarkedMoment T W) → List (Channel T W) → Type 0
-  TriesFor (TrySend m) aim.TrySend (ask.Push v) ds seen = v ≡ m
-  TriesFor (ForceSend m) aim.ForceSend (ask.ForcePush v) ds seen = v ≡ m
-  TriesFor TryRecv aim.TryRecv ask.Pop ds seen = Unit {0}
-  TriesFor (RecvMany n) (aim.RecvMany g) ask.Pop ds seen = n ≡ length g.taken + (g.more + 1)
-  TriesFor Close (aim.Close closer.Call) ask.Close ds seen = ds ≡ []
-  TriesFor (PollSend m k t) (aim.Poll Sends key task) (ask.Push v) ds seen = v ≡ m
-  TriesFor (PollRecv k t) (aim.Poll Receives key task) ask.Pop ds seen = Unit {0}
-  TriesFor (PollClosed k t) (aim.Poll Closings key task) ask.IsClosed ds seen = Unit {0}
-  TriesFor (PollNext k t) (aim.Poll Streams key task) ask.Pop ds seen = Unit {0}
-  TriesFor DropSender (aim.Close closer.Sender) ask.Close ds seen = LeftLast Senders ds seen
-  TriesFor (DropReceiver k) (aim.Close (closer.Receiver key)) ask.Close ds seen = LeftLast Receivers ds seen
-  TriesFor (Upgrade side) (aim.Upgrade s) ask.IsClosed ds seen = s ≡ side
-  TriesFor IsClosed aim.Ask ask.IsClosed ds seen = Unit {0}
-  TriesFor IsEmpty aim.Ask ask.IsEmpty ds seen = Unit {0}
-  TriesFor IsFull aim.Ask ask.IsFull ds seen = Unit {0}
-  TriesFor Len aim.Ask ask.Len ds seen = Unit {0}
-  TriesFor Capacity aim.Ask ask.Capacity ds seen = Unit {0}
-  TriesFor IsTerminated aim.IsTerminated ask.IsClosed ds seen = Unit {0}
-  TriesFor IsTerminated aim.Ask ask.IsEmpty ds seen = Once Shut seen
+  TriesFor (TrySend m) purpose.TrySend (ask.Push v) ds seen = v ≡ m
+  TriesFor (ForceSend m) purpose.ForceSend (ask.ForcePush v) ds seen = v ≡ m
+  TriesFor TryRecv purpose.TryRecv ask.Pop ds seen = Unit {0}
+  TriesFor (RecvMany n) (purpose.RecvMany g) ask.Pop ds seen = n ≡ length g.taken + (g.more + 1)
+  TriesFor Close (purpose.Close closer.Call) ask.Close ds seen = ds ≡ []
+  TriesFor (PollSend m k t) (purpose.Poll Sends key task) (ask.Push v) ds seen = v ≡ m
+  TriesFor (PollRecv k t) (purpose.Poll Receives key task) ask.Pop ds seen = Unit {0}
+  TriesFor (PollClosed k t) (purpose.Poll Closings key task) ask.IsClosed ds seen = Unit {0}
+  TriesFor (PollNext k t) (purpose.Poll Streams key task) ask.Pop ds seen = Unit {0}
+  TriesFor DropSender (purpose.Close closer.Sender) ask.Close ds seen = LeftLast Senders ds seen
+  TriesFor (DropReceiver k) (purpose.Close (closer.Receiver key)) ask.Close ds seen = LeftLast Receivers ds seen
+  TriesFor (Upgrade side) (purpose.Upgrade s) ask.IsClosed ds seen = s ≡ side
+  TriesFor IsClosed purpose.Ask ask.IsClosed ds seen = Unit {0}
+  TriesFor IsEmpty purpose.Ask ask.IsEmpty ds seen = Unit {0}
+  TriesFor IsFull purpose.Ask ask.IsFull ds seen = Unit {0}
+  TriesFor Len purpose.Ask ask.Len ds seen = Unit {0}
+  TriesFor Capacity purpose.Ask ask.Capacity ds seen = Unit {0}
+  TriesFor IsTerminated purpose.IsTerminated ask.IsClosed ds seen = Unit {0}
+  TriesFor IsTerminated purpose.Ask ask.IsEmpty ds seen = Once Shut seen
   TriesFor _ _ _ ds seen = ⊥
 
   -- a count that a question read still says something of the moments
@@ -119,7 +119,7 @@ module _ {T W : Type 0} where
     pub behind : AreBehind ds seen
 
   abbrev pub TriesAt : Channel T W → Purpose T W → QueueAsk T → queue.Stage T → List (MarkedMoment T W) → List (Channel T W) → Type 0
-  TriesAt now (aim.RecvMany g) a s ds seen = (mine : List (MarkedMoment T W)) × HasTaken g.taken ds mine seen × TryAt now a s mine seen
+  TriesAt now (purpose.RecvMany g) a s ds seen = (mine : List (MarkedMoment T W)) × HasTaken g.taken ds mine seen × TryAt now a s mine seen
   TriesAt now _ a s ds seen = TryAt now a s ds seen
 
   -- ---- while a list or a count has the next step
@@ -165,7 +165,7 @@ module _ {T W : Type 0} where
 
   -- by the stage of a call; one that has answered is under way no more
   abbrev pub StageAt : Channel T W → ChannelAsk T W → Stage (Phase T) T W → List (MarkedMoment T W) → List (Channel T W) → Type 0
-  StageAt now ask (Trying f aim) ds seen = TriesFor ask aim f.ask ds seen × TriesAt now aim f.ask f.stage ds seen
+  StageAt now ask (Trying f purpose) ds seen = TriesFor ask purpose f.ask ds seen × TriesAt now purpose f.ask f.stage ds seen
   StageAt now ask (Working w) ds seen = WorkAt ask w ds seen
   StageAt now ask (Finished kept) ds seen = ⊥
 
@@ -181,7 +181,7 @@ module _ {T W : Type 0} where
 
   -- what was told and what is left are what its marks owe; nothing is told while the queue has the next step
   abbrev pub ToldAt : List Telling → Stage (Phase T) T W → List (MarkedMoment T W) → Type 0
-  ToldAt told (Trying f aim) ds = told ≡ []
+  ToldAt told (Trying f purpose) ds = told ≡ []
   ToldAt told (Working w) ds = told ++ to_tell w ≡ owed ds
   ToldAt told (Finished kept) ds = ⊥
 
@@ -217,6 +217,6 @@ module _ {T W : Type 0} where
   quick_left_to_work _ = 1
 
   abbrev pub quick_steps_left : Stage (Phase T) T W → ℕ
-  quick_steps_left (Trying f aim) = left_to_try f.ask f.stage
+  quick_steps_left (Trying f purpose) = left_to_try f.ask f.stage
   quick_steps_left (Working w) = quick_left_to_work w
   quick_steps_left (Finished kept) = 0

@@ -8,7 +8,7 @@ use Rattle.channel_calls.specs.Turns.{line_of}
 use Rattle.channel_calls.specs.declared.ask.ChannelAsk.{ChannelAsk}
 use Rattle.channel_calls.specs.declared.ask.ChannelAsk.TheVariants.{RecvMany}
 use Rattle.channel_calls.specs.declared.stage.Purpose.{Purpose}
-use Rattle.channel_calls.specs.declared.stage.Purpose.TheVariants as aim
+use Rattle.channel_calls.specs.declared.stage.Purpose.TheVariants as purpose
 use Rattle.channel_calls.specs.declared.stage.Stage.{Stage}
 use Rattle.channel_calls.specs.declared.stage.Stage.TheVariants.{Trying, Working, Finished}
 use Rattle.channel_calls.specs.declared.stage.ListStep.{ListStep}
@@ -40,16 +40,16 @@ most_left more = one_try + told_try + one_try * more
 -- after a call of the queue, by what that is for: a poll that holds no listener listens and tries once more; one whose listener
 -- waits ends pending; one whose listener was told goes on without it. For each further message there is one more call of the queue.
 abbrev pub left_after_try : {T W : Type 0} → WaitLists W → Purpose T W → ℕ
-left_after_try a (aim.Poll line None task) = listening_try
-left_after_try a (aim.Poll line (Some key) task) = if waits key (listeners line a) then 3 else told_try
-left_after_try a aim.TrySend = 3
-left_after_try a aim.ForceSend = 3
-left_after_try a aim.TryRecv = 2
-left_after_try a (aim.RecvMany g) = 2 + one_try * g.more
-left_after_try a aim.Ask = 0
-left_after_try a (aim.Close c) = 5
-left_after_try a aim.IsTerminated = one_try
-left_after_try a (aim.Upgrade side) = 2
+left_after_try a (purpose.Poll line None task) = listening_try
+left_after_try a (purpose.Poll line (Some key) task) = if waits key (listeners line a) then 3 else told_try
+left_after_try a purpose.TrySend = 3
+left_after_try a purpose.ForceSend = 3
+left_after_try a purpose.TryRecv = 2
+left_after_try a (purpose.RecvMany g) = 2 + one_try * g.more
+left_after_try a purpose.Ask = 0
+left_after_try a (purpose.Close c) = 5
+left_after_try a purpose.IsTerminated = one_try
+left_after_try a (purpose.Upgrade side) = 2
 
 module _ {T W : Type 0} where
   -- on a list or a count, and after that
@@ -70,13 +70,13 @@ module _ {T W : Type 0} where
 
   -- by its stage
   abbrev pub steps_left : Contents T → WaitLists W → Stage (QueueCall T) T W → ℕ
-  steps_left c a (Trying call aim) = rank c call + 1 + left_after_try a aim
+  steps_left c a (Trying call purpose) = rank c call + 1 + left_after_try a purpose
   steps_left c a (Working w) = left_to_work a w
   steps_left c a (Finished kept) = 0
 
   -- the call of a party
   abbrev pub party_left : Parts T W → Party T W → ℕ
-  party_left parts p = steps_left parts.cells parts.roster p.call.stage
+  party_left parts p = steps_left parts.cells parts.wait_lists p.call.stage
 
   -- all calls under way, in the order in which they began
   abbrev pub all_left : Parts T W → List (Party T W) → List ℕ

@@ -65,7 +65,7 @@ module _ {T W : Type 0} where
 
   -- more handles of this kind than may be raised
   abbrev pub TooManyOf : Side → Channel T W → Type 0
-  TooManyOf side c = most < count side c.roster
+  TooManyOf side c = most < count side c.wait_lists
 
   -- ---- at which moments of a call; the newest stands first
 
@@ -131,21 +131,21 @@ module _ {T W : Type 0} where
 
   -- there is one more handle of this kind, and there were not too many
   abbrev pub CountRaised : Side → List (MarkedMoment T W) → Type 0
-  CountRaised side (d ∷ []) = (d.mark ≡ up side) × (count side d.before.roster ≤ most)
+  CountRaised side (d ∷ []) = (d.mark ≡ up side) × (count side d.before.wait_lists ≤ most)
   CountRaised side _ = ⊥
 
   -- and at least one, after a moment at which the channel was open
   abbrev pub Upgraded : Side → List (MarkedMoment T W) → Type 0
-  Upgraded side (d ∷ []) = (d.mark ≡ up side) × (0 < count side d.before.roster) × (count side d.before.roster ≤ most) × Once Open d.seen
+  Upgraded side (d ∷ []) = (d.mark ≡ up side) × (0 < count side d.before.wait_lists) × (count side d.before.wait_lists ≤ most) × Once Open d.seen
   Upgraded side _ = ⊥
 
   -- the last handle of this kind is gone
   abbrev pub LeftLast : Side → List (MarkedMoment T W) → List (Channel T W) → Type 0
-  LeftLast side (d ∷ []) seen = (d.mark ≡ down side) × (count side d.before.roster ≡ 1) × (newer : List (Channel T W)) × (seen ≡ newer ++ d.seen)
+  LeftLast side (d ∷ []) seen = (d.mark ≡ down side) × (count side d.before.wait_lists ≡ 1) × (newer : List (Channel T W)) × (seen ≡ newer ++ d.seen)
   LeftLast side _ seen = ⊥
 
   -- one handle of this kind is gone; where it was the last one, the channel was closed next, or was closed then
   abbrev pub Dropped : Side → List (MarkedMoment T W) → List (Channel T W) → Type 0
-  Dropped side (d ∷ []) seen = (d.mark ≡ down side) × ((count side d.before.roster ≡ 1 → ⊥) ⊎ OnceBehind Shut d seen)
-  Dropped side (d ∷ e ∷ []) seen = (d.mark ≡ down side) × (count side d.before.roster ≡ 1) × (e.mark ≡ Close) × Open e.before
+  Dropped side (d ∷ []) seen = (d.mark ≡ down side) × ((count side d.before.wait_lists ≡ 1 → ⊥) ⊎ OnceBehind Shut d seen)
+  Dropped side (d ∷ e ∷ []) seen = (d.mark ≡ down side) × (count side d.before.wait_lists ≡ 1) × (e.mark ≡ Close) × Open e.before
   Dropped side _ seen = ⊥

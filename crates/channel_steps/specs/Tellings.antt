@@ -70,13 +70,13 @@ module _ {T W : Type 0} where
   -- whom the removal of a listener wakes, which passes its notice on
   abbrev pub passed_on_by : ListenerRef → Channel T W → List W
   passed_on_by h c =
-      let l : Listeners W = listeners h.line c.roster in
+      let l : Listeners W = listeners h.line c.wait_lists in
       elim (told_as l h.key) [ Some notice ↦ passed_wakes notice (without h.key l) | None ↦ [] ]
 
   -- whom a step wakes: those whom its telling finds waiting, in order, or him to whom the listener that it drops passes its
   -- notice on; any other step wakes nobody
   abbrev pub WokenBy : List Telling → Option ListenerRef → Channel T W → List W → Type 0
-  WokenBy (more_of n line ∷ ts) h c names = names ≡ told_more_wakes n (listeners line c.roster)
-  WokenBy (all_of line ∷ ts) h c names = names ≡ told_all_wakes (listeners line c.roster)
+  WokenBy (more_of n line ∷ ts) h c names = names ≡ told_more_wakes n (listeners line c.wait_lists)
+  WokenBy (all_of line ∷ ts) h c names = names ≡ told_all_wakes (listeners line c.wait_lists)
   WokenBy [] (Some h) c names = names ≡ passed_on_by h c
   WokenBy [] None c names = names ≡ []

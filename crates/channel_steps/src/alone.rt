@@ -11,18 +11,8 @@ use crate::fast_path::{receive_alone, send_alone};
 use channel_calls::ask::ChannelAsk;
 use channel_calls::call::ChannelCall;
 use channel_calls::plain::PlainChannel;
-use channel_calls::reply::Reply;
-use channel_calls::stage::Returned;
+use channel_calls::whole::Completed;
 use event_listener::wakes::Wakes;
-
-/// What a call left at its end.
-#[derive(Drop)]
-pub struct Done<T> {
-    /// What it answers.
-    pub reply: Reply<T>,
-    /// What it leaves to its operation.
-    pub kept: Returned<T>,
-}
 
 /// Makes a call from its beginning to its end, and chooses each of its steps.
 fn step_alone<T: Drop, W: Drop, S: Wakes<W>>(
@@ -30,7 +20,7 @@ fn step_alone<T: Drop, W: Drop, S: Wakes<W>>(
     channel: &mut PlainChannel<T, W>,
     messages: &mut u64,
     sink: &mut S,
-) -> Done<T>
+) -> Completed<T>
     requires at_rest { IsAtRest (parts_of channel.old) }
     ensures alone { AnswersAlone S.wakes ask (parts_of channel.old) sink.old result (parts_of channel.new) sink.new }
     ensures configurations { RunsInConfigurations S.wakes ask (parts_of channel.old) sink.old messages.old
@@ -44,7 +34,7 @@ fn step_alone<T: Drop, W: Drop, S: Wakes<W>>(
         match reply {
             Some(reply) => {
                 let kept = call.into_kept();
-                return Done { reply, kept };
+                return Completed { reply, kept };
             }
             None => {}
         }
@@ -64,7 +54,7 @@ pub fn run_alone<T: Drop, W: Drop, S: Wakes<W>>(
     channel: &mut PlainChannel<T, W>,
     messages: &mut u64,
     sink: &mut S,
-) -> Done<T>
+) -> Completed<T>
     requires at_rest { IsAtRest (parts_of channel.old) }
     ensures alone { AnswersAlone S.wakes ask (parts_of channel.old) sink.old result (parts_of channel.new) sink.new }
     ensures configurations { RunsInConfigurations S.wakes ask (parts_of channel.old) sink.old messages.old

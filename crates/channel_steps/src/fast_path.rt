@@ -13,12 +13,12 @@ ghost use Rattle.channel_steps.specs.Count.{counted};
 ghost use Rattle.channel_steps.specs.solo.Run.{IsAtRest, AnswersAlone};
 ghost use Rattle.channel_steps.specs.solo.Configurations.{RunsInConfigurations};
 
-use crate::alone::Done;
 use channel_calls::cells::ChannelCells;
 use channel_calls::error::{Refused, TryRecvError, TrySendError};
 use channel_calls::plain::PlainChannel;
 use channel_calls::reply::Reply;
 use channel_calls::stage::{Returned, WaitList};
+use channel_calls::whole::Completed;
 use concurrent_queue::call::{QueueMark, QueueReply};
 use concurrent_queue::error::{PopError, PushError};
 use concurrent_queue::queue_call::QueueCall;
@@ -36,14 +36,14 @@ fn counted(messages: u64, mark: QueueMark) -> u64
 }
 
 /// A call answers this, and leaves nothing to an operation.
-fn answers<T>(reply: Reply<T>) -> Done<T>
+fn answers<T>(reply: Reply<T>) -> Completed<T>
     ensures { result ≡ record { reply = reply; kept = nothing_kept } }
 {
     let kept = Returned {
         key: None,
         message: None,
     };
-    Done { reply, kept }
+    Completed { reply, kept }
 }
 
 /// What a send that doesn't wait answers whose push is not in. None where it is.
@@ -85,7 +85,7 @@ pub(crate) fn send_alone<T: Drop, W: Drop, S: Wakes<W>>(
     channel: &mut PlainChannel<T, W>,
     messages: &mut u64,
     sink: &mut S,
-) -> Done<T>
+) -> Completed<T>
     requires at_rest { IsAtRest (parts_of channel.old) }
     ensures alone { AnswersAlone S.wakes (ask.TrySend message) (parts_of channel.old) sink.old result (parts_of channel.new) sink.new }
     ensures configurations { RunsInConfigurations S.wakes (ask.TrySend message) (parts_of channel.old) sink.old messages.old
@@ -111,7 +111,7 @@ pub(crate) fn receive_alone<T: Drop, W: Drop, S: Wakes<W>>(
     channel: &mut PlainChannel<T, W>,
     messages: &mut u64,
     sink: &mut S,
-) -> Done<T>
+) -> Completed<T>
     requires at_rest { IsAtRest (parts_of channel.old) }
     ensures alone { AnswersAlone S.wakes ask.TryRecv (parts_of channel.old) sink.old result (parts_of channel.new) sink.new }
     ensures configurations { RunsInConfigurations S.wakes ask.TryRecv (parts_of channel.old) sink.old messages.old

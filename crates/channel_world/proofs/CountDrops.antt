@@ -9,7 +9,7 @@ use Rattle.channel_calls.specs.declared.ask.ChannelAsk.{ChannelAsk}
 use Rattle.channel_calls.specs.declared.ask.ChannelAsk.TheVariants as ask
 use Rattle.channel_calls.specs.declared.reply.Reply.{Reply}
 use Rattle.channel_calls.specs.declared.stage.Purpose.{Purpose}
-use Rattle.channel_calls.specs.declared.stage.Purpose.TheVariants as aim
+use Rattle.channel_calls.specs.declared.stage.Purpose.TheVariants as purpose
 use Rattle.channel_calls.specs.declared.stage.Closer.{Closer}
 use Rattle.channel_calls.specs.declared.stage.Closer.TheVariants as closer
 use Rattle.channel_calls.specs.declared.stage.Ending.{Ending}
@@ -55,7 +55,7 @@ module _ (T : Type 0) where
   -- ---- a call at closing
 
   closes_by : (side : Side) (x : ChannelAsk T Waiter) (cl : Closer) (a : QueueAsk T) (ds : Deeds) (seen : Seen)
-      → TriesFor x (aim.Close cl) a ds seen → is_last_of side cl ≡ true → Drops side x × LeftLast side ds seen
+      → TriesFor x (purpose.Close cl) a ds seen → is_last_of side cl ≡ true → Drops side x × LeftLast side ds seen
   closes_by Senders ask.DropSender closer.Sender queue.Close ds seen k e = (tt, k)
   closes_by Receivers (ask.DropReceiver key) (closer.Receiver own) queue.Close ds seen k e = (tt, k)
   closes_by Receivers ask.DropSender closer.Sender queue.Close ds seen k e = absurd (let no : false ≡ true = e in cc)
@@ -66,7 +66,7 @@ module _ (T : Type 0) where
 
   closes : (side : Side) (c : Channel T Waiter) (x : ChannelAsk T Waiter) (at : Stage (Phase T) T Waiter) (ds : Deeds) (seen : Seen)
       → StageAt c x at ds seen → is_closing side at ≡ true → Drops side x × LeftLast side ds seen
-  closes side c x (Trying f (aim.Close cl)) ds seen k e = closes_by side x cl f.ask ds seen k.0 e
+  closes side c x (Trying f (purpose.Close cl)) ds seen k e = closes_by side x cl f.ask ds seen k.0 e
   closes side c x at ds seen k e = absurd (let no : false ≡ true = e in cc)
 
   -- ---- a drop that has no mark
@@ -85,8 +85,8 @@ module _ (T : Type 0) where
 
   untried : (side : Side) (x : ChannelAsk T Waiter) (a : Purpose T Waiter) (q : QueueAsk T) (ds : Deeds) (seen : Seen) → Drops side x
       → ds ≡ [] → TriesFor x a q ds seen → ⊥
-  untried Senders ask.DropSender (aim.Close closer.Sender) queue.Close ds seen d none k = no_last Senders ds seen none k
-  untried Receivers (ask.DropReceiver key) (aim.Close (closer.Receiver own)) queue.Close ds seen d none k =
+  untried Senders ask.DropSender (purpose.Close closer.Sender) queue.Close ds seen d none k = no_last Senders ds seen none k
+  untried Receivers (ask.DropReceiver key) (purpose.Close (closer.Receiver own)) queue.Close ds seen d none k =
       no_last Receivers ds seen none k
   untried Senders ask.DropSender a q ds seen d none k = k
   untried Receivers (ask.DropReceiver key) a q ds seen d none k = k

@@ -8,7 +8,7 @@ use Rattle.concurrent_queue.specs.declared.queue_call.QueueCall.{QueueCall}
 use Rattle.concurrent_queue.proofs.Interface.{shows}
 use Rattle.channel_calls.specs.Moves.{Channel, phase}
 use Rattle.channel_calls.specs.Parts.{count}
-use Rattle.channel_calls.specs.declared.stage.Purpose.TheVariants as aim
+use Rattle.channel_calls.specs.declared.stage.Purpose.TheVariants as purpose
 use Rattle.channel_calls.specs.declared.stage.Side.{Side}
 use Rattle.channel_calls.specs.declared.stage.Side.TheVariants.{Senders, Receivers}
 use Rattle.channel_calls.specs.declared.stage.Stage.{Stage}
@@ -75,7 +75,7 @@ module _ {T : Type 0} where
   low_so side f (Finished kept) = refl
 
   close_so : (side : Side) (f : Phase T) (s : Stage (QueueCall T) T Waiter) → is_closing side (phase f s) ≡ is_closing side s
-  close_so side f (Trying q (aim.Close c)) = refl
+  close_so side f (Trying q (purpose.Close c)) = refl
   close_so side f (Trying q a) = refl
   close_so side f (Working w) = refl
   close_so side f (Finished kept) = refl
@@ -100,8 +100,8 @@ module _ {T : Type 0} where
         ∙ (same_tally p q same sh.shows.witnesses
         ∙ ap (λ (ps : List (Party T Waiter)). tally (λ (x : Party T Waiter). q x.call.stage) ps) (sym sh.shows.parties_are))
 
-    count_shown : (side : Side) → count side s.now.roster ≡ count_in side (view_of w)
-    count_shown side = ap (λ (c : Channel T Waiter). count side c.roster) sh.shows.now
+    count_shown : (side : Side) → count side s.now.wait_lists ≡ count_in side (view_of w)
+    count_shown side = ap (λ (c : Channel T Waiter). count side c.wait_lists) sh.shows.now
 
     closed_shown : s.now.queue.closed ≡ closed_in (parts_in w).cells
     closed_shown =
@@ -121,7 +121,7 @@ module _ {T : Type 0} where
 
     pub open_has_both : OpenHasBoth (view_of w)
     open_has_both is_open side = by ((k.stands.kept.counted side).opened (closed_shown w k.configuration k.stands.shown ∙ is_open)) where
-      by : (1 ≤ count side k.configuration.now.roster) ⊎ (1 ≤ tally (λ (u : ActiveCall T Waiter). is_closing side u.at) k.configuration.under_way)
+      by : (1 ≤ count side k.configuration.now.wait_lists) ⊎ (1 ≤ tally (λ (u : ActiveCall T Waiter). is_closing side u.at) k.configuration.under_way)
           → (1 ≤ count_in side (view_of w)) ⊎ (1 ≤ to_close side (view_of w))
       by (inl h) = let now = count_shown w k.configuration k.stands.shown side in inl (omega (arith, h, now))
       by (inr h) =

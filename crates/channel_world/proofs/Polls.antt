@@ -43,17 +43,17 @@ as_many held (e ∷ es) (w ∷ ws) h = ap suc (as_many held es ws h.1)
 module _ {T : Type 0} (f : WorldState T) (kept : Stands f) (quiet : IsQuiet f) where
   -- as many stand untold in a line as wait on its list, where no call is under way
   pub as_many_wait : RestIsAWorld T → (line : WaitList)
-      → length (listeners line (parts_in f).roster).waiting ≡ length (untold line (at_rest f).waiting)
+      → length (listeners line (parts_in f).wait_lists).waiting ≡ length (untold line (at_rest f).waiting)
   as_many_wait rests line =
       let k = kept.stands in
       let s = kept.configuration in
       subst (λ (r : WaitLists Waiter). length (listeners line r).waiting ≡ length (untold line (at_rest f).waiting))
-      (ap (λ (c : Channel T Waiter). c.roster) k.shown.shows.now)
-      (subst (λ (x : State T). length (listeners line s.now.roster).waiting ≡ length (untold line x.waiting))
+      (ap (λ (c : Channel T Waiter). c.wait_lists) k.shown.shows.now)
+      (subst (λ (x : State T). length (listeners line s.now.wait_lists).waiting ≡ length (untold line x.waiting))
       (sym (at_rest_is f s k.shown quiet)) (shown s (rests (name_state_of f) s k.kept (none_under_way f s quiet k.shown)) line))
     where
       shown : (s : Configuration T Waiter) → IsWorld (name_state_of f) s → (l : WaitList)
-          → length (listeners l s.now.roster).waiting ≡ length (untold l (state_at (name_state_of f) s).waiting)
+          → length (listeners l s.now.wait_lists).waiting ≡ length (untold l (state_at (name_state_of f) s).waiting)
       shown s world Sends = let own = world.shows.lines Sends in as_many (held_of f.name_table) _ _ own.untold
       shown s world Receives = let own = world.shows.lines Receives in as_many (held_of f.name_table) _ _ own.untold
       shown s world Streams = let own = world.shows.lines Streams in as_many (held_of f.name_table) _ _ own.untold

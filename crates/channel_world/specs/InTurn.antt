@@ -97,8 +97,8 @@ module _ {T : Type 0} where
     pub messages : s.now.queue.items ≡ t.channel.messages
     pub capacity : s.now.queue.capacity ≡ t.channel.capacity
     pub closed : s.now.queue.closed ≡ t.channel.closed
-    pub senders : s.now.roster.senders ≡ t.channel.senders
-    pub receivers : s.now.roster.receivers ≡ t.channel.receivers
+    pub senders : s.now.wait_lists.senders ≡ t.channel.senders
+    pub receivers : s.now.wait_lists.receivers ≡ t.channel.receivers
 
   -- so is each in which the world stands
   abbrev pub StandsAsItsState : WorldView T → Type 0

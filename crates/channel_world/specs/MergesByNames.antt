@@ -11,7 +11,8 @@ use Rattle.channel_steps.specs.Run.{IsRun, Next, new_configuration}
 use Rattle.channel_steps.specs.declared.party.Entry.{Entry}
 use Rattle.channel_steps.specs.declared.run.Step.{Step as ChannelStep}
 use Rattle.channel_steps.specs.declared.run.Step.TheVariants as channel
-use Rattle.channel_steps.specs.every_run.Bridge.{MergeMoment, just_opened, Happening, Given, steps_of}
+use Rattle.channel_calls.specs.declared.whole.Completed.{Completed}
+use Rattle.channel_steps.specs.every_run.Bridge.{MergeMoment, just_opened, Happening, steps_of}
 use Rattle.channel_steps.specs.every_run.BridgeHeadline.{KeepsTheHeadline}
 use Rattle.channel_world_runs.specs.AskedBy.{IsOrListens, IsStepOf}
 use Rattle.channel_world_runs.specs.Bookkeeping.{asks}
@@ -72,7 +73,7 @@ module _ {T S : Type 0} (wakes : S → Waiter → S → Type 0) where
     pub owed : Owed (observation_at n.name_state.name_table n.merge.configuration)
 
   -- the run that a merge is, as its headline tells it, is one by names from the opening of a channel
-  pub record IsByNames {form : QueueForm} {events : List (Happening T Waiter)} {given : ℕ → List (Given T)} {sink : S}
+  pub record IsByNames {form : QueueForm} {events : List (Happening T Waiter)} {given : ℕ → List (Completed T)} {sink : S}
       {last : Parts T Waiter} {woken : S} (k : KeepsTheHeadline wakes form events given sink last woken) : Type 0 where
     pub at_first : Owed {T = T} (observation_at first_name_table (new_configuration (capacity_of form)))
     pub steps : List (NamedStep T)
@@ -85,6 +86,6 @@ module _ {T S : Type 0} (wakes : S → Waiter → S → Type 0) where
 -- a merge that keeps the headline, and whose begins are those of calls by names
 abbrev pub MergesByNamesAreRuns : (T S : Type 0) → (S → Waiter → S → Type 0) → Type 0
 MergesByNamesAreRuns T S wakes =
-    (form : QueueForm) (events : List (Happening T Waiter)) (given : ℕ → List (Given T)) (sink : S) (last : Parts T Waiter) (woken : S)
+    (form : QueueForm) (events : List (Happening T Waiter)) (given : ℕ → List (Completed T)) (sink : S) (last : Parts T Waiter) (woken : S)
     (k : KeepsTheHeadline wakes form events given sink last woken)
     → BeginByNames wakes first_name_state (just_opened form sink) (steps_of events) k.is.trace k.is.run.moments → IsByNames wakes k

@@ -2,7 +2,8 @@
 use Rattle.std.specs.Prelude.{ℕ, List}
 use Rattle.concurrent_queue.specs.declared.cells.QueueForm.{QueueForm}
 use Rattle.channel_calls.specs.Parts.{Parts}
-use Rattle.channel_steps.specs.every_run.Bridge.{just_opened, Given, steps_of}
+use Rattle.channel_calls.specs.declared.whole.Completed.{Completed}
+use Rattle.channel_steps.specs.every_run.Bridge.{just_opened, steps_of}
 use Rattle.channel_steps.specs.every_run.BridgeHeadline.{KeepsTheHeadline}
 use Rattle.channel_steps.specs.every_run.BridgeRow.{two_clones}
 use Rattle.channel_world_model.specs.declared.name.Waiter.{Waiter}
@@ -11,6 +12,6 @@ use Rattle.channel_world.specs.MergesByNames.{first_name_state, BeginByNames}
 -- its begins are what `MergesByNamesAreRuns` asks
 abbrev pub TwoClonesByNames : (T S : Type 0) → (S → Waiter → S → Type 0) → Type 0
 TwoClonesByNames T S wakes =
-    (form : QueueForm) (given : ℕ → List (Given T)) (sink : S) (last : Parts T Waiter) (woken : S)
+    (form : QueueForm) (given : ℕ → List (Completed T)) (sink : S) (last : Parts T Waiter) (woken : S)
     (k : KeepsTheHeadline wakes form two_clones given sink last woken)
     → BeginByNames wakes first_name_state (just_opened form sink) (steps_of two_clones) k.is.trace k.is.run.moments

@@ -6,7 +6,8 @@ use Rattle.channel_calls.specs.Parts.{Parts}
 use Rattle.channel_calls.specs.declared.ask.ChannelAsk.{ChannelAsk}
 use Rattle.channel_calls.specs.declared.ask.ChannelAsk.TheVariants.{CloneHandle}
 use Rattle.channel_calls.specs.declared.stage.Side.TheVariants.{Senders}
-use Rattle.channel_steps.specs.every_run.Bridge.{just_opened, Happening, Given}
+use Rattle.channel_calls.specs.declared.whole.Completed.{Completed}
+use Rattle.channel_steps.specs.every_run.Bridge.{just_opened, Happening}
 use Rattle.channel_steps.specs.every_run.BridgeRow.{two_clones}
 use Rattle.channel_steps.specs.every_run.Named.{KeepsItByNames, WakesNamed, name_of, steps_asking}
 use Rattle.channel_steps.specs.every_run.Tasks.{ask_by}
@@ -14,18 +15,18 @@ use Rattle.channel_world_model.specs.declared.name.Waiter.{Waiter}
 use Rattle.channel_world.specs.MergesByNames.{first_name_state, BeginByNames, IsByNames}
 
 -- what the begins of a merge have to be, where the calls ask this, with their names
-abbrev pub BeginsAreNamed : {T W S : Type 0} (wakes : S → W → S → Type 0) {form : QueueForm} {events : List (Happening T W)} {given : ℕ → List (Given T)} {sink : S}
+abbrev pub BeginsAreNamed : {T W S : Type 0} (wakes : S → W → S → Type 0) {form : QueueForm} {events : List (Happening T W)} {given : ℕ → List (Completed T)} {sink : S}
     {last : Parts T W} {woken : S} {named : List (ChannelAsk T (W × Waiter))} → KeepsItByNames wakes form events given sink last woken named → Type 0
 BeginsAreNamed wakes {form} {events} {given} {sink} {last} {woken} {named} k =
     BeginByNames (WakesNamed wakes) first_name_state (just_opened form sink) (steps_asking events (map (λ a. ask_by name_of a) named)) k.headline.is.trace k.headline.is.run.moments
 
 abbrev pub NamedMergesAreRuns : (T W S : Type 0) → (S → W → S → Type 0) → Type 0
 NamedMergesAreRuns T W S wakes =
-    (form : QueueForm) (events : List (Happening T W)) (given : ℕ → List (Given T)) (sink : S) (last : Parts T W) (woken : S) (named : List (ChannelAsk T (W × Waiter)))
+    (form : QueueForm) (events : List (Happening T W)) (given : ℕ → List (Completed T)) (sink : S) (last : Parts T W) (woken : S) (named : List (ChannelAsk T (W × Waiter)))
     (k : KeepsItByNames wakes form events given sink last woken named) → BeginsAreNamed wakes k → IsByNames (WakesNamed wakes) k.headline
 
 -- so are those of two clones at once, which have no tasks
 abbrev pub TwoClonesAreNamed : (T W S : Type 0) → (S → W → S → Type 0) → Type 0
 TwoClonesAreNamed T W S wakes =
-    (form : QueueForm) (given : ℕ → List (Given T)) (sink : S) (last : Parts T W) (woken : S)
+    (form : QueueForm) (given : ℕ → List (Completed T)) (sink : S) (last : Parts T W) (woken : S)
     (k : KeepsItByNames wakes form two_clones given sink last woken (CloneHandle Senders ∷ CloneHandle Senders ∷ [])) → BeginsAreNamed wakes k

@@ -69,7 +69,7 @@ module _ {T : Type 0} where
 
   -- the count of senders or of receivers
   abbrev pub count_in : Side → WorldView T → ℕ
-  count_in side w = count side (world_state.parts_in w.inside).roster
+  count_in side w = count side (world_state.parts_in w.inside).wait_lists
 
   -- how many drops of strong handles of this side are under way whose next step lowers the count; what they drop lives under no name
   abbrev pub to_lower : Side → WorldView T → ℕ

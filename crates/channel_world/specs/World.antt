@@ -36,8 +36,8 @@ module _ {T : Type 0} where
     messages = items_in p.cells;
     capacity = capacity_of p.cells.form;
     closed = closed_in p.cells;
-    senders = p.roster.senders;
-    receivers = p.roster.receivers;
+    senders = p.wait_lists.senders;
+    receivers = p.wait_lists.receivers;
   }
 
   -- The state of a world with no call under way. While calls are made one at a time this is all that a world is.
@@ -45,7 +45,7 @@ module _ {T : Type 0} where
   at_rest f = record {
     channel = channel_of (parts_in f);
     names = names_of f.name_table;
-    waiting = waiting_in (parts_in f).roster (woken_in f.name_table f.order);
+    waiting = waiting_in (parts_in f).wait_lists (woken_in f.name_table f.order);
   }
 
   -- how many a call may wake at most

@@ -83,12 +83,12 @@ module _ (T W : Type 0) where
   left side z key n r s false e low last h = inl (not_one n e low)
 
   pub last_closes : (side : Side) (c : Channel T W) (at : Stage (Phase T) T W) (e : Effect T W) (r : Option (Reply T))
-      (s : Stage (Phase T) T W) → Moves c at e r s → is_lowering side at ≡ true → 1 ≤ count side c.roster
-      → Left side r s (count side e.channel.roster)
+      (s : Stage (Phase T) T W) → Moves c at e r s → is_lowering side at ≡ true → 1 ≤ count side c.wait_lists
+      → Left side r s (count side e.channel.wait_lists)
   last_closes Senders c (Working (Lower Senders key)) e r s h sure low =
-      subst (λ (x : Effect T W). Left Senders r s (count Senders x.channel.roster)) (sym h.0)
-      (left Senders Senders key (count Senders c.roster) r s (count Senders c.roster == 1) refl low refl h.1)
+      subst (λ (x : Effect T W). Left Senders r s (count Senders x.channel.wait_lists)) (sym h.0)
+      (left Senders Senders key (count Senders c.wait_lists) r s (count Senders c.wait_lists == 1) refl low refl h.1)
   last_closes Receivers c (Working (Lower Receivers key)) e r s h sure low =
-      subst (λ (x : Effect T W). Left Receivers r s (count Receivers x.channel.roster)) (sym h.0)
-      (left Receivers Receivers key (count Receivers c.roster) r s (count Receivers c.roster == 1) refl low refl h.1)
+      subst (λ (x : Effect T W). Left Receivers r s (count Receivers x.channel.wait_lists)) (sym h.0)
+      (left Receivers Receivers key (count Receivers c.wait_lists) r s (count Receivers c.wait_lists == 1) refl low refl h.1)
   last_closes side c at e r s h sure low = absurd (let no : false ≡ true = sure in cc)

@@ -87,8 +87,8 @@ module _ {T : Type 0} where
       new : ActiveCall T Waiter
       new = start.call_begun q.0 a n.at s.now
 
-      same_count : count side t.now.roster ≡ count side s.now.roster
-      same_count = ap (λ (x : Channel T Waiter). count side x.roster) n.now
+      same_count : count side t.now.wait_lists ≡ count side s.now.wait_lists
+      same_count = ap (λ (x : Channel T Waiter). count side x.wait_lists) n.now
 
       low : bit (is_lowering side n.at) ≡ bit (asks_lowering side (asks b.name_table c))
       low = ap bit first.0
@@ -103,11 +103,11 @@ module _ {T : Type 0} where
           ≡ tally (λ (u : ActiveCall T Waiter). is_lowering side u.at) s.under_way + bit (is_lowering side n.at)
       lowering = all (λ (u : ActiveCall T Waiter). is_lowering side u.at)
 
-      opened : Open t.now → (1 ≤ count side t.now.roster) ⊎ (1 ≤ tally (λ (u : ActiveCall T Waiter). is_closing side u.at) t.under_way)
+      opened : Open t.now → (1 ≤ count side t.now.wait_lists) ⊎ (1 ≤ tally (λ (u : ActiveCall T Waiter). is_closing side u.at) t.under_way)
       opened o = by (was.opened (ap (λ (x : Channel T Waiter). x.queue.closed) (sym n.now) ∙ o))
         where
-          by : (1 ≤ count side s.now.roster) ⊎ (1 ≤ tally (λ (u : ActiveCall T Waiter). is_closing side u.at) s.under_way)
-              → (1 ≤ count side t.now.roster) ⊎ (1 ≤ tally (λ (u : ActiveCall T Waiter). is_closing side u.at) t.under_way)
+          by : (1 ≤ count side s.now.wait_lists) ⊎ (1 ≤ tally (λ (u : ActiveCall T Waiter). is_closing side u.at) s.under_way)
+              → (1 ≤ count side t.now.wait_lists) ⊎ (1 ≤ tally (λ (u : ActiveCall T Waiter). is_closing side u.at) t.under_way)
           by (inl h) = inl (omega (arith, same_count, h))
           by (inr h) = let closing = all (λ (u : ActiveCall T Waiter). is_closing side u.at) in inr (omega (arith, closing, h))
 
@@ -197,33 +197,33 @@ module _ {T : Type 0} where
     was : CountsSide side b s
     was = counted side
 
-    enough : bit (is_lowering side st.mine.at) ≤ count side s.now.roster
+    enough : bit (is_lowering side st.mine.at) ≤ count side s.now.wait_lists
     enough = let c = was.counts in let w = tally_was (λ at. is_lowering side at) in omega (arith, c, w)
 
-    pub turned : Turns T Waiter side st.mine.at (count side s.now.roster) r st.at_now (count side t.now.roster)
+    pub turned : Turns T Waiter side st.mine.at (count side s.now.wait_lists) r st.at_now (count side t.now.wait_lists)
     turned =
         let k = own_known in
         turns T Waiter side s.now st.mine.ask st.mine.at effect r st.at_now st.mine.marks st.mine.seen k.stands enough st.moves
 
     -- no less than before, unless it is lowered
-    no_less : (x : Option (Reply T)) → Turns T Waiter side st.mine.at (count side s.now.roster) x st.at_now (count side t.now.roster)
-        → is_lowering side st.mine.at ≡ false → count side s.now.roster ≤ count side t.now.roster
+    no_less : (x : Option (Reply T)) → Turns T Waiter side st.mine.at (count side s.now.wait_lists) x st.at_now (count side t.now.wait_lists)
+        → is_lowering side st.mine.at ≡ false → count side s.now.wait_lists ≤ count side t.now.wait_lists
     no_less None h e = let n : bit (is_lowering side st.mine.at) ≡ 0 = ap bit e in let f = h.0 in omega (arith, f, n)
     no_less (Some y) h e = let n : bit (is_lowering side st.mine.at) ≡ 0 = ap bit e in omega (arith, h, n)
 
     abbrev Opened : Type 0
-    Opened = (1 ≤ count side t.now.roster) ⊎ (1 ≤ tally (λ (u : ActiveCall T Waiter). is_closing side u.at) t.under_way)
+    Opened = (1 ≤ count side t.now.wait_lists) ⊎ (1 ≤ tally (λ (u : ActiveCall T Waiter). is_closing side u.at) t.under_way)
 
     closes_now : (x : Option (Reply T)) → x ≡ None → is_closing side st.at_now ≡ true
         → 1 ≤ tally (λ (u : ActiveCall T Waiter). is_closing side u.at) (unless_ended mine_now x)
     closes_now None e h = let one : bit (is_closing side st.at_now) ≡ 1 = ap bit h in omega (arith, one)
     closes_now (Some y) e h = absurd (let no : Some y ≡ None = e in cc)
 
-    had_one : 1 ≤ count side s.now.roster → (is_lowering side st.mine.at ≡ true) ⊎ (is_lowering side st.mine.at ≡ false) → Opened
+    had_one : 1 ≤ count side s.now.wait_lists → (is_lowering side st.mine.at ≡ true) ⊎ (is_lowering side st.mine.at ≡ false) → Opened
     had_one h (inr e) = let l = no_less r turned e in inl (omega (arith, h, l))
     had_one h (inl e) = by (last_closes T Waiter side s.now st.mine.at effect r st.at_now st.moves e h)
       where
-        by : (1 ≤ count side t.now.roster) ⊎ ((r ≡ None) × (is_closing side st.at_now ≡ true)) → Opened
+        by : (1 ≤ count side t.now.wait_lists) ⊎ ((r ≡ None) × (is_closing side st.at_now ≡ true)) → Opened
         by (inl g) = inl g
         by (inr g) =
             let one = closes_now r g.0 g.1 in
@@ -249,7 +249,7 @@ module _ {T : Type 0} where
     pub still_opened : Open t.now → Opened
     still_opened is_open = by (was.opened (open_before s.now.queue.closed refl is_open))
       where
-        by : (1 ≤ count side s.now.roster) ⊎ (1 ≤ tally (λ (u : ActiveCall T Waiter). is_closing side u.at) s.under_way) → Opened
+        by : (1 ≤ count side s.now.wait_lists) ⊎ (1 ≤ tally (λ (u : ActiveCall T Waiter). is_closing side u.at) s.under_way) → Opened
         by (inl h) = had_one h (one_of (is_lowering side st.mine.at))
         by (inr h) = had_closer is_open h (one_of (is_closing side st.mine.at))
 

@@ -98,10 +98,10 @@ module _ (T W : Type 0) where
 
   module _ (side : Side) (c : Channel T W) where
     abbrev was : ℕ
-    was = count side c.roster
+    was = count side c.wait_lists
 
     abbrev Out : Stage (Phase T) T W → Option (Reply T) → Stage (Phase T) T W → Effect T W → Type 0
-    Out at r s e = Turns side at was r s (count side e.channel.roster)
+    Out at r s e = Turns side at was r s (count side e.channel.wait_lists)
 
     as_it : (at : Stage (Phase T) T W) (r : Option (Reply T)) (s : Stage (Phase T) T W) (e e' : Effect T W) → e ≡ e'
         → Out at r s e' → Out at r s e
@@ -110,9 +110,9 @@ module _ (T W : Type 0) where
     -- a step on a list
     lists : (at : Stage (Phase T) T W) (t : NextStep T W) (r : Option (Reply T)) (s : Stage (Phase T) T W) (line : WaitList) (l : Listeners W)
         → is_lowering side at ≡ false → Turned t r s → Stays T W side (is_raising side at) t
-        → Turns side at was r s (count side (with_listeners line l c.roster))
+        → Turns side at was r s (count side (with_listeners line l c.wait_lists))
     lists at t r s line l low h k =
-        let same = lines_count side line l c.roster in
+        let same = lines_count side line l c.wait_lists in
         let none : bit (is_lowering side at) ≡ 0 = ap bit low in
         taken side at t r s was _ h k (omega (arith, same, none))
 
@@ -127,11 +127,11 @@ module _ (T W : Type 0) where
         → Turned (Ends y.reply (leaving None y.message)) r s → Out (Working (Leave y)) r s (leaves o c)
     left y None r s h = still (Working (Leave y)) (Ends y.reply (leaving None y.message)) r s refl h refl
     left y (Some k) r s h =
-        lists (Working (Leave y)) (Ends y.reply (leaving None y.message)) r s k.line (removed k.key true (listeners k.line c.roster)) refl h refl
+        lists (Working (Leave y)) (Ends y.reply (leaving None y.message)) r s k.line (removed k.key true (listeners k.line c.wait_lists)) refl h refl
 
     asks : (w : Waiting T) (key : Key) (task : W) (b : Bool) (r : Option (Reply T)) (s : Stage (Phase T) T W)
         → Turned (if b then pends_by w key else again w None task) r s
-        → Out (Working (Register w key task)) r s (on_line (line_of w) (registration key task (listeners (line_of w) c.roster)) [] c)
+        → Out (Working (Register w key task)) r s (on_line (line_of w) (registration key task (listeners (line_of w) c.wait_lists)) [] c)
     asks w key task true r s h = lists (Working (Register w key task)) (pends_by w key) r s (line_of w) _ refl h refl
     asks w key task false r s h = lists (Working (Register w key task)) (again w None task) r s (line_of w) _ refl h refl
 
@@ -139,7 +139,7 @@ module _ (T W : Type 0) where
         → Inserts w task c e r s → Out (Working (Insert w task)) r s e
     inserts w task e r s (inl (key, new, same, t)) =
         as_it (Working (Insert w task)) r s e _ same
-        (lists (Working (Insert w task)) (again w (Some key) task) r s (line_of w) (listened key (listeners (line_of w) c.roster)) refl t refl)
+        (lists (Working (Insert w task)) (again w (Some key) task) r s (line_of w) (listened key (listeners (line_of w) c.wait_lists)) refl t refl)
     inserts w task e r s (inr (error, same, t)) =
         as_it (Working (Insert w task)) r s e _ same (still (Working (Insert w task)) (unlistened w error) r s refl t refl)
 
@@ -147,12 +147,12 @@ module _ (T W : Type 0) where
     roomed n r s (inl t) = still (Working (TakeRoom n)) (room_next n) r s refl t ((room_has T W n).1 side)
     roomed n r s (inr t) = still (Working (TakeRoom n)) roomless r s refl t.1 refl
 
-    raised : (s : Side) (n : ℕ) (m : Making) (b : Bool) (r : Option (Reply T)) (at : Stage (Phase T) T W) → is_raised s n c.roster ≡ b
+    raised : (s : Side) (n : ℕ) (m : Making) (b : Bool) (r : Option (Reply T)) (at : Stage (Phase T) T W) → is_raised s n c.wait_lists ≡ b
         → Turned (raised_next s m b) r at
         → Out (Working (Raise s n m)) r at (if b then on_count s (n + 1) (up s) c else untouched c)
     raised s n m true None at e h = absurd (let no : None ≡ Some _ = h.0 in cc)
     raised s n m true (Some y) at e h =
-        let more = raised_count side s n c.roster (was_read s n c.roster e) in
+        let more = raised_count side s n c.wait_lists (was_read s n c.wait_lists e) in
         let made : bit (same_side side s && is_made (Some y)) ≡ bit (same_side side s && true) =
         ap (λ (o : Option (Reply T)). bit (same_side side s && is_made o)) h.0 in
         omega (arith, more, made)
@@ -174,19 +174,19 @@ module _ (T W : Type 0) where
         (lists (Working (TellAll line x)) (told_all_next line x) r s line _ refl h.1 ((told_all_has T W line x None).1 side))
     works (Insert w task) e r s low h = inserts w task e r s h
     works (Register w key task) e r s low h =
-        as_it (Working (Register w key task)) r s e _ h.0 (asks w key task (waits key (listeners (line_of w) c.roster)) r s h.1)
+        as_it (Working (Register w key task)) r s e _ h.0 (asks w key task (waits key (listeners (line_of w) c.wait_lists)) r s h.1)
     works (Leave y) e r s low h = as_it (Working (Leave y)) r s e _ h.0 (left y y.held r s h.1)
     works (Lower s key) e r at low h =
         as_it (Working (Lower s key)) r at e _ h.0
-        (taken side (Working (Lower s key)) (lowered_next s key (count s c.roster)) r at was _ h.1
-        ((lowered_has T W s key (count s c.roster) None).1 side) (lowered_count side s c.roster low))
+        (taken side (Working (Lower s key)) (lowered_next s key (count s c.wait_lists)) r at was _ h.1
+        ((lowered_has T W s key (count s c.wait_lists) None).1 side) (lowered_count side s c.wait_lists low))
     works (Count s) e r at low h =
-        as_it (Working (Count s)) r at e _ h.0 (still (Working (Count s)) (Ends (reply.Count (count s c.roster)) nothing_kept) r at refl h.1 refl)
+        as_it (Working (Count s)) r at e _ h.0 (still (Working (Count s)) (Ends (reply.Count (count s c.wait_lists)) nothing_kept) r at refl h.1 refl)
     works (Load s m) e r at low h =
         as_it (Working (Load s m)) r at e _ h.0
-        (still (Working (Load s m)) (loaded_next s m (count s c.roster)) r at refl h.1 ((loaded_has T W s m (count s c.roster)).1 side))
+        (still (Working (Load s m)) (loaded_next s m (count s c.wait_lists)) r at refl h.1 ((loaded_has T W s m (count s c.wait_lists)).1 side))
     works (Raise s n m) e r at low h =
-        as_it (Working (Raise s n m)) r at e _ h.0 (raised s n m (is_raised s n c.roster) r at refl h.1)
+        as_it (Working (Raise s n m)) r at e _ h.0 (raised s n m (is_raised s n c.wait_lists) r at refl h.1)
 
     goes_on : (f f' : Phase T) (a : Purpose T W) → is_raising side (Trying f' a) ≡ is_raising side (Trying f a)
     goes_on f f' purpose.TrySend = refl

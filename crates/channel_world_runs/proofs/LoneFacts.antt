@@ -6,7 +6,7 @@ use Rattle.channel_calls.specs.declared.reply.Reply.{Reply}
 use Rattle.channel_steps.specs.solo.Alone.{Alone}
 use Rattle.channel_steps.specs.solo.Run.{HasNextPosition, IsAtRest}
 use Rattle.channel_steps.specs.solo.Configurations.{LoneRun, RunsInConfigurations}
-use Rattle.channel_steps.specs.declared.alone.Done.{Done}
+use Rattle.channel_calls.specs.declared.whole.Completed.{Completed}
 use Rattle.channel_world_model.specs.declared.call.Call.{Call}
 use Rattle.channel_world_model.specs.declared.name.Waiter.{Waiter}
 use Rattle.channel_world_model.specs.declared.run.Done.{Done as Answered}
@@ -93,7 +93,7 @@ module _ {T : Type 0} where
     by true e = one (room e)
     by false e = none sh.positions
 
-  pub is_called : (c : Call T) (old new : WorldState T) (a : ChannelAsk T Waiter) (d : Done T) (empty full : Sink) (fresh : List Waiter) (room came : ℕ)
+  pub is_called : (c : Call T) (old new : WorldState T) (a : ChannelAsk T Waiter) (d : Completed T) (empty full : Sink) (fresh : List Waiter) (room came : ℕ)
       → RunsInConfigurations Hears a (parts_in old) empty old.messages d (parts_in new) full new.messages
       → a ≡ asks old.name_table c → IsQuiet old → IsQuiet new → BringsWithin c old → came ≡ accepted_by (brings old.name_table c) d.reply
       → new.accepted ≡ min (old.accepted + came) (2 ^ 64 - 1) → new.has_one_place ≡ old.has_one_place

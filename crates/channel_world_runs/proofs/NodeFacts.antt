@@ -82,7 +82,7 @@ module _ {T : Type 0} where
   abbrev pub MayWait : ListenerRef → Parts T Waiter → Type 0
   MayWait h p = h.line ≡ Sends → is_some (capacity_of p.cells.form) ≡ true
 
-  module _ (p : Parts T Waiter) (h : ListenerRef) (there : IsThere h p.roster) (bound : MayWait h p) where
+  module _ (p : Parts T Waiter) (h : ListenerRef) (there : IsThere h p.wait_lists) (bound : MayWait h p) where
     by_operation : (key : Option Key) (op : OpId) (x : Operation T) (s : PollState) → key ≡ key_of s → operation_status x s ≡ waits h true
         → HasNode (poll_asked key op (Some x)) p
     by_operation key op (live.Send g None) Rests e f = absurd (let no : rests Sends ≡ waits h true = f in cc)
@@ -92,15 +92,15 @@ module _ {T : Type 0} where
     by_operation key op (live.Send g (Some m)) (IsPolled z) e f = absurd (let no : polled Sends ≡ waits h true = f in cc)
     by_operation key op (live.Send g (Some m)) (Waits own z) e f =
         let same = same_held Sends own z h f in
-        (rw e (subst (λ (x : ListenerRef). IsThere x p.roster) (sym same) there), bound (ap (λ (x : ListenerRef). x.line) (sym same)))
+        (rw e (subst (λ (x : ListenerRef). IsThere x p.wait_lists) (sym same) there), bound (ap (λ (x : ListenerRef). x.line) (sym same)))
     by_operation key op (live.Receive g) Rests e f = absurd (let no : rests Receives ≡ waits h true = f in cc)
     by_operation key op (live.Receive g) (IsPolled z) e f = absurd (let no : polled Receives ≡ waits h true = f in cc)
     by_operation key op (live.Receive g) (Waits own z) e f =
-        rw e (subst (λ (x : ListenerRef). IsThere x p.roster) (sym (same_held Receives own z h f)) there)
+        rw e (subst (λ (x : ListenerRef). IsThere x p.wait_lists) (sym (same_held Receives own z h f)) there)
     by_operation key op (live.Closing g) Rests e f = absurd (let no : rests Closings ≡ waits h true = f in cc)
     by_operation key op (live.Closing g) (IsPolled z) e f = absurd (let no : polled Closings ≡ waits h true = f in cc)
     by_operation key op (live.Closing g) (Waits own z) e f =
-        rw e (subst (λ (x : ListenerRef). IsThere x p.roster) (sym (same_held Closings own z h f)) there)
+        rw e (subst (λ (x : ListenerRef). IsThere x p.wait_lists) (sym (same_held Closings own z h f)) there)
 
     operation_node : (r : NameTable T) (op : OpId) (o : Option (Option (OperationEntry T))) → lookup (nat_eq op.0) r.operations ≡ o
         → status_by (λ (x : OperationEntry T). operation_status x.operation x.poll_state) o ≡ waits h true → HasNode (asks r (call.Poll op)) p
@@ -115,11 +115,11 @@ module _ {T : Type 0} where
 
     -- a receiver that is pending as a stream
     by_stream : (k : HandleKind) (s : PollState) (key : Option Key) → key ≡ key_of s → stream_status k s ≡ waits h true
-        → IsOnList Streams key p.roster
+        → IsOnList Streams key p.wait_lists
     by_stream handle_kind.Receiver Rests key e f = absurd (let no : rests Streams ≡ waits h true = f in cc)
     by_stream handle_kind.Receiver (IsPolled z) key e f = absurd (let no : polled Streams ≡ waits h true = f in cc)
     by_stream handle_kind.Receiver (Waits own z) key e f =
-        rw e (subst (λ (x : ListenerRef). IsThere x p.roster) (sym (same_held Streams own z h f)) there)
+        rw e (subst (λ (x : ListenerRef). IsThere x p.wait_lists) (sym (same_held Streams own z h f)) there)
     by_stream x s key e f = absurd (no_stream s h f)
 
     stream_node : (r : NameTable T) (receiver : HandleId) (o : Option (Option HandleEntry)) → lookup (nat_eq receiver.0) r.handles ≡ o
@@ -146,8 +146,8 @@ module _ {T : Type 0} where
       by : (cap : Option ℕ) → s.now.queue.capacity ≡ cap → is_some (capacity_of (parts_in f).cells.form) ≡ true
       by (Some n) e = ap (λ (o : Option ℕ). is_some o) (sym same ∙ e)
       by None e =
-          let sent : IsAmong h.key (keys_of s.now.roster.sends.told) =
-          subst (λ (l : WaitList). IsAmong h.key (keys_of (listeners l s.now.roster).told)) line told in
+          let sent : IsAmong h.key (keys_of s.now.wait_lists.sends.told) =
+          subst (λ (l : WaitList). IsAmong h.key (keys_of (listeners l s.now.wait_lists).told)) line told in
           absurd (subst (λ (l : Listeners Waiter). IsAmong h.key (keys_of l.told)) (unlisted e) sent)
 
   -- what is pending and was woken
@@ -156,9 +156,9 @@ module _ {T : Type 0} where
   has_node f s w sh kept woken =
       let h = woken_waits (status f.name_table w) (among_filter (λ v. was_woken (status f.name_table v)) w f.order woken).0 in
       let told : IsTold h.0 s.now = kept.woken.told w h.0 h.1 in
-      let lists : s.now.roster ≡ (parts_in f).roster = ap (λ (c : Channel T Waiter). c.roster) sh.shows.now in
+      let lists : s.now.wait_lists ≡ (parts_in f).wait_lists = ap (λ (c : Channel T Waiter). c.wait_lists) sh.shows.now in
       woken_node (parts_in f) h.0
-      (told_listed h.0 (parts_in f).roster
+      (told_listed h.0 (parts_in f).wait_lists
       (subst (λ (a : WaitLists Waiter). IsAmong h.0.key (keys_of (listeners h.0.line a).told)) lists told))
       (may_wait f s sh kept.sound.unlisted.unlisted h.0 told) f.name_table w h.1
 

@@ -224,9 +224,9 @@ module _ {T : Type 0} where
       among_right k (woken_key line (status r v)) (woken_keys line r ws) (in_woken line k r w ws i e)
 
   -- the told listeners of a list are no more than its woken pending names and the calls that have one of it in hand
-  pub told_few : (b : NameState T) (s : Configuration T Waiter) (line : WaitList) → Owned b s → length (listeners line s.now.roster).told ≤ woken_on line b.name_table + hands line s.under_way
+  pub told_few : (b : NameState T) (s : Configuration T Waiter) (line : WaitList) → Owned b s → length (listeners line s.now.wait_lists).told ≤ woken_on line b.name_table + hands line s.under_way
   told_few b s line o =
-      let l = listeners line s.now.roster in
+      let l = listeners line s.now.wait_lists in
       let parts = none_parts (keys_of l.told) (keys_of l.waiting) (o.once line) in
       let most = no_more (keys_of l.told) (woken_keys line b.name_table (all_names b.name_table) ++ hand_keys line s.under_way) parts.left (λ k i. held_so k i) in
       let both = length-append (woken_keys line b.name_table (all_names b.name_table)) (hand_keys line s.under_way) in
@@ -244,8 +244,8 @@ module _ {T : Type 0} where
       entry_key k x (e ∷ es) (inl f) = inl (ap (λ (y : Key × _). y.0) f)
       entry_key k x (e ∷ es) (inr i) = inr (entry_key k x es i)
 
-      held_so : (k : Key) → IsAmong k (keys_of (listeners line s.now.roster).told) → IsAmong k (woken_keys line b.name_table (all_names b.name_table) ++ hand_keys line s.under_way)
-      held_so k i = by (o.held h (among_left k (keys_of (listeners line s.now.roster).told) (keys_of (listeners line s.now.roster).waiting) i))
+      held_so : (k : Key) → IsAmong k (keys_of (listeners line s.now.wait_lists).told) → IsAmong k (woken_keys line b.name_table (all_names b.name_table) ++ hand_keys line s.under_way)
+      held_so k i = by (o.held h (among_left k (keys_of (listeners line s.now.wait_lists).told) (keys_of (listeners line s.now.wait_lists).waiting) i))
         where
           h : ListenerRef
           h = record { line = line; key = k }
@@ -253,8 +253,8 @@ module _ {T : Type 0} where
           at_name : (w : Waiter) (x : Bool) → status b.name_table w ≡ waits (record { line = line; key = k }) x → IsAmong k (woken_keys line b.name_table (all_names b.name_table) ++ hand_keys line s.under_way)
           at_name w true e = among_left k (woken_keys line b.name_table (all_names b.name_table)) (hand_keys line s.under_way) (in_woken line k b.name_table w (all_names b.name_table) (named_there b.name_table w (record { line = line; key = k }) true e) e)
           at_name w false e =
-              let parts = none_parts (keys_of (listeners line s.now.roster).told) (keys_of (listeners line s.now.roster).waiting) (o.once line) in
-              absurd (parts.apart k i (entry_key k (Some w) (listeners line s.now.roster).waiting (o.unwoken w (record { line = line; key = k }) e)))
+              let parts = none_parts (keys_of (listeners line s.now.wait_lists).told) (keys_of (listeners line s.now.wait_lists).waiting) (o.once line) in
+              absurd (parts.apart k i (entry_key k (Some w) (listeners line s.now.wait_lists).waiting (o.unwoken w (record { line = line; key = k }) e)))
 
           by : (x : Holder) × HoldsIn (status b.name_table) s.under_way x (record { line = line; key = k }) → IsAmong k (woken_keys line b.name_table (all_names b.name_table) ++ hand_keys line s.under_way)
           by (named w, e) = at_name w e.0 e.1

@@ -96,7 +96,7 @@ module _ {T : Type 0} where
   module _ (b : NameState T) (s : Configuration T Waiter) (o : Owned b s) (sound : WakeInvariant s) where
     -- the listener of one that is pending waits, and no call has it in hand
     waiting : (line : WaitList) (w : Waiter) (key : Key) → status b.name_table w ≡ waits (this line key) false → Waits line key s.now
-    waiting line w key e = is_in key w (listeners line s.now.roster).waiting (o.unwoken w (this line key) e)
+    waiting line w key e = is_in key w (listeners line s.now.wait_lists).waiting (o.unwoken w (this line key) e)
 
     in_no_hand : (P : ActiveCall T Waiter → Type 0) (line : WaitList) (w : Waiter) (key : Key) → status b.name_table w ≡ waits (this line key) false → ((u : ActiveCall T Waiter) → P u → holding u.at ≡ Some (this line key)) → Any P s.under_way → ⊥
     in_no_hand P line w key e f i =

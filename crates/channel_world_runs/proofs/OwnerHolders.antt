@@ -22,7 +22,7 @@ pub record Passes (holds holds' : Holder → ListenerRef → Type 0) (had has : 
   pub new : (h : ListenerRef) → has ≡ Some h → holds' taker h
 
 module _ {T W : Type 0} (c d : Channel T W) (names : List W) (had has : Option ListenerRef) (holds holds' : Holder → ListenerRef → Type 0) (giver taker : Holder)
-    (lists : Lists c.roster d.roster names had has) (how : (has ≡ had) ⊎ ((had ≡ None) ⊎ (has ≡ None))) (pass : Passes holds holds' had has giver taker) (a : Accounted holds c) where
+    (lists : Lists c.wait_lists d.wait_lists names had has) (how : (has ≡ had) ⊎ ((had ≡ None) ⊎ (has ≡ None))) (pass : Passes holds holds' had has giver taker) (a : Accounted holds c) where
   nothing : (h : ListenerRef) (o : Option ListenerRef) → o ≡ Some h → o ≡ None → ⊥
   nothing h o e f = absurd (let never : Some h ≡ None = sym e ∙ f in cc)
 

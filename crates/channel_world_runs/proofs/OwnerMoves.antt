@@ -142,7 +142,7 @@ module _ (T W : Type 0) where
   pub record Turnout (x : ChannelAsk T W) (c : Channel T W) (at : Stage (Phase T) T W) (e : Effect T W) (r : Option (Reply T))
       (s : Stage (Phase T) T W) : Type 0 where
     pub has : Option ListenerRef
-    pub lists : Lists c.roster e.channel.roster e.woken (holding at) has
+    pub lists : Lists c.wait_lists e.channel.wait_lists e.woken (holding at) has
     pub how : OneAtMost (holding at) has
     pub own : (h : ListenerRef) → has ≡ Some h → (holding at ≡ Some h) ⊎ ((task : W) × (wait_of x ≡ Some (h.line, task)))
     pub next : Then x at r s has e.channel
@@ -185,7 +185,7 @@ module _ (T W : Type 0) where
 
     -- what is in hand stays so
     on_it_goes : (at : Stage (Phase T) T W) (r : Option (Reply T)) (s : Stage (Phase T) T W) (e : Effect T W) (t : NextStep T W)
-        → Lists c.roster e.channel.roster e.woken (holding at) (holding at) → Turned t r s
+        → Lists c.wait_lists e.channel.wait_lists e.woken (holding at) (holding at) → Turned t r s
         → Has T W (holding at) (task_at at) t → Out at r s e
     on_it_goes at r s e t l h k = record {
       has = holding at;
@@ -196,16 +196,16 @@ module _ (T W : Type 0) where
     }
 
     raised : (b : Bool) (side : Side) (n : ℕ) (had : Option ListenerRef) → let e : Effect T W =
-        if b then on_count side (n + 1) (up side) c else untouched c in Lists c.roster e.channel.roster e.woken had had
-    raised true side n had = counts side (n + 1) c.roster [] had
-    raised false side n had = still c.roster [] had
+        if b then on_count side (n + 1) (up side) c else untouched c in Lists c.wait_lists e.channel.wait_lists e.woken had had
+    raised true side n had = counts side (n + 1) c.wait_lists [] had
+    raised false side n had = still c.wait_lists [] had
 
     left : (y : Ending T) (o : Option ListenerRef) (r : Option (Reply T)) (s : Stage (Phase T) T W) → y.held ≡ o
         → Turned (Ends y.reply (leaving None y.message)) r s → Out (Working (Leave y)) r s (leaves o c)
     left y None r s same h =
         record {
           has = None;
-          lists = subst (λ (o : Option ListenerRef). Lists c.roster c.roster [] o None) (sym same) (still c.roster [] None);
+          lists = subst (λ (o : Option ListenerRef). Lists c.wait_lists c.wait_lists [] o None) (sym same) (still c.wait_lists [] None);
           how = inr (inr refl);
           own = λ h e. absurd (no_held h e);
           next = taken x (Working (Leave y)) (Ends y.reply (leaving None y.message)) r s None c h (refl, refl);
@@ -213,11 +213,11 @@ module _ (T W : Type 0) where
     left y (Some k) r s same h =
         record {
           has = None;
-          lists = subst (λ (o : Option ListenerRef). Lists c.roster (leaves (Some k) c).channel.roster
-              (removed_wakes k.key true (listeners k.line c.roster)) o None) (sym same)
-              (drops k.line k.key (removed k.key true (listeners k.line c.roster))
-              (removed_wakes k.key true (listeners k.line c.roster)) c.roster
-              (list.one_removed k.line k.key (listeners k.line c.roster)));
+          lists = subst (λ (o : Option ListenerRef). Lists c.wait_lists (leaves (Some k) c).channel.wait_lists
+              (removed_wakes k.key true (listeners k.line c.wait_lists)) o None) (sym same)
+              (drops k.line k.key (removed k.key true (listeners k.line c.wait_lists))
+              (removed_wakes k.key true (listeners k.line c.wait_lists)) c.wait_lists
+              (list.one_removed k.line k.key (listeners k.line c.wait_lists)));
           how = inr (inr refl);
           own = λ h e. absurd (no_held h e);
           next = taken x (Working (Leave y)) (Ends y.reply (leaving None y.message)) r s None (leaves (Some k) c).channel
@@ -241,14 +241,14 @@ module _ (T W : Type 0) where
 
     asked : (w : Waiting T) (key : Key) (task : W) (b : Bool) (r : Option (Reply T)) (s : Stage (Phase T) T W) (l : Listeners W)
         → IsFor x w → Bears (Some task) (wait_of x)
-        → list.Asked (line_of w) key task (listeners (line_of w) c.roster) l b
+        → list.Asked (line_of w) key task (listeners (line_of w) c.wait_lists) l b
         → Turned (if b then pends_by w key else again w None task) r s
         → Out (Working (Register w key task)) r s (on_line (line_of w) l [] c)
     asked w key task true None s l f b h t = absurd (let no : None ≡ Some _ = t.0 in cc)
     asked w key task true (Some y) s l f b h t =
         record {
           has = on (line_of w) key;
-          lists = tells (line_of w) l [] c.roster (on (line_of w) key) h.list;
+          lists = tells (line_of w) l [] c.wait_lists (on (line_of w) key) h.list;
           how = inl refl;
           own = λ h e. inl e;
           next = (
@@ -262,14 +262,14 @@ module _ (T W : Type 0) where
               refl,
               own_task w task f b,
               subst (λ (ls : Listeners W). IsAmong (key, Some task) ls.waiting)
-                  (sym (same_list (line_of w) l c.roster)) h.task_now,
+                  (sym (same_list (line_of w) l c.wait_lists)) h.task_now,
             ),
           );
         }
     asked w key task false r s l f b h t =
         record {
           has = None;
-          lists = drops (line_of w) key l [] c.roster h;
+          lists = drops (line_of w) key l [] c.wait_lists h;
           how = inr (inr refl);
           own = λ h e. absurd (no_held h e);
           next = taken x (Working (Register w key task)) (again w None task) r s None (on_line (line_of w) l [] c).channel t
@@ -289,8 +289,8 @@ module _ (T W : Type 0) where
         as_it (Working (Insert w task)) r s e _ same (
         record {
           has = on (line_of w) key;
-          lists = comes (line_of w) key (listened key (listeners (line_of w) c.roster)) [] c.roster
-              (list.one_listens (line_of w) key (listeners (line_of w) c.roster) new);
+          lists = comes (line_of w) key (listened key (listeners (line_of w) c.wait_lists)) [] c.wait_lists
+              (list.one_listens (line_of w) key (listeners (line_of w) c.wait_lists) new);
           how = inr (inl refl);
           own = λ i e. inr (own_line w key i k e);
           next = taken x (Working (Insert w task)) (again w (Some key) task) r s (on (line_of w) key) _ t (refl, inr refl);
@@ -298,7 +298,7 @@ module _ (T W : Type 0) where
         )
     inserts w task k e r s (inr (error, same, t)) =
         as_it (Working (Insert w task)) r s e _ same
-        (on_it_goes (Working (Insert w task)) r s (untouched c) (unlistened w error) (still c.roster [] None) t (refl, refl))
+        (on_it_goes (Working (Insert w task)) r s (untouched c) (unlistened w error) (still c.wait_lists [] None) t (refl, refl))
 
     lowers : (side : Side) (key : Option Key) (n : ℕ)
         → Has T W (work_holds {T = T} {W = W} (Lower side key)) None (lowered_next side key n)
@@ -306,8 +306,8 @@ module _ (T W : Type 0) where
     lowers Receivers key n = (lowered_has T W Receivers key n None).0
 
     roomed : (n : ℕ) (r : Option (Reply T)) (s : Stage (Phase T) T W) → TakesRoomFor n r s → Out (Working (TakeRoom n)) r s (untouched c)
-    roomed n r s (inl t) = on_it_goes (Working (TakeRoom n)) r s (untouched c) (room_next n) (still c.roster [] None) t (room_has T W n).0
-    roomed n r s (inr t) = on_it_goes (Working (TakeRoom n)) r s (untouched c) roomless (still c.roster [] None) t.1 (refl, refl)
+    roomed n r s (inl t) = on_it_goes (Working (TakeRoom n)) r s (untouched c) (room_next n) (still c.wait_lists [] None) t (room_has T W n).0
+    roomed n r s (inr t) = on_it_goes (Working (TakeRoom n)) r s (untouched c) roomless (still c.wait_lists [] None) t.1 (refl, refl)
 
     works : (w : ListStep T W) (e : Effect T W) (r : Option (Reply T)) (s : Stage (Phase T) T W) (ds : List (MarkedMoment T W))
         (seen : List (Channel T W)) → StageAt c x (Working w) ds seen → Bears (work_task w) (wait_of x) → Worked c w e r s
@@ -315,50 +315,50 @@ module _ (T W : Type 0) where
     works (TellReceive y) e r s ds seen k b h =
         as_it (Working (TellReceive y)) r s e _ h.0
         (on_it_goes (Working (TellReceive y)) r s _ (Works (TellStreams y))
-        (tells Receives (told_one (listeners Receives c.roster)) (told_one_wakes (listeners Receives c.roster)) c.roster
-        y.held (list.one_told Receives (listeners Receives c.roster) y.held)) h.1 (refl, inl refl))
+        (tells Receives (told_one (listeners Receives c.wait_lists)) (told_one_wakes (listeners Receives c.wait_lists)) c.wait_lists
+        y.held (list.one_told Receives (listeners Receives c.wait_lists) y.held)) h.1 (refl, inl refl))
     works (TellStreams y) e r s ds seen k b h =
         as_it (Working (TellStreams y)) r s e _ h.0
         (on_it_goes (Working (TellStreams y)) r s _ _
-        (tells Streams (told_all (listeners Streams c.roster)) (told_all_wakes (listeners Streams c.roster)) c.roster y.held
-        (list.all_told Streams (listeners Streams c.roster) y.held)) h.1 (ends_has T W y None).0)
+        (tells Streams (told_all (listeners Streams c.wait_lists)) (told_all_wakes (listeners Streams c.wait_lists)) c.wait_lists y.held
+        (list.all_told Streams (listeners Streams c.wait_lists) y.held)) h.1 (ends_has T W y None).0)
     works (TellSend y) e r s ds seen k b h =
         as_it (Working (TellSend y)) r s e _ h.0
         (on_it_goes (Working (TellSend y)) r s _ _
-        (tells Sends (told_one (listeners Sends c.roster)) (told_one_wakes (listeners Sends c.roster)) c.roster y.held
-        (list.one_told Sends (listeners Sends c.roster) y.held)) h.1 (ends_has T W y None).0)
+        (tells Sends (told_one (listeners Sends c.wait_lists)) (told_one_wakes (listeners Sends c.wait_lists)) c.wait_lists y.held
+        (list.one_told Sends (listeners Sends c.wait_lists) y.held)) h.1 (ends_has T W y None).0)
     works (TellSends n y) e r s ds seen k b h =
         as_it (Working (TellSends n y)) r s e _ h.0
         (on_it_goes (Working (TellSends n y)) r s _ _
-        (tells Sends (told_more n (listeners Sends c.roster)) (told_more_wakes n (listeners Sends c.roster)) c.roster y.held
-        (list.more_told Sends n (listeners Sends c.roster) y.held)) h.1 (ends_has T W y None).0)
+        (tells Sends (told_more n (listeners Sends c.wait_lists)) (told_more_wakes n (listeners Sends c.wait_lists)) c.wait_lists y.held
+        (list.more_told Sends n (listeners Sends c.wait_lists) y.held)) h.1 (ends_has T W y None).0)
     works (TakeRoom n) e r s ds seen k b h = as_it (Working (TakeRoom n)) r s e _ h.0 (roomed n r s h.1)
     works (TellAll line closer) e r s ds seen k b h =
         as_it (Working (TellAll line closer)) r s e _ h.0
         (on_it_goes (Working (TellAll line closer)) r s _ _
-        (tells line (told_all (listeners line c.roster)) (told_all_wakes (listeners line c.roster)) c.roster _
-        (list.all_told line (listeners line c.roster) _)) h.1 (told_all_has T W line closer None).0)
+        (tells line (told_all (listeners line c.wait_lists)) (told_all_wakes (listeners line c.wait_lists)) c.wait_lists _
+        (list.all_told line (listeners line c.wait_lists) _)) h.1 (told_all_has T W line closer None).0)
     works (Insert w task) e r s ds seen k b h = inserts w task k.0 e r s h
     works (Register w key task) e r s ds seen k b h =
         as_it (Working (Register w key task)) r s e _ h.0
-        (asked w key task (waits key (listeners (line_of w) c.roster)) r s
-        (registration key task (listeners (line_of w) c.roster)) k.0 b
-        (list.one_asks (line_of w) key task (listeners (line_of w) c.roster)) h.1)
+        (asked w key task (waits key (listeners (line_of w) c.wait_lists)) r s
+        (registration key task (listeners (line_of w) c.wait_lists)) k.0 b
+        (list.one_asks (line_of w) key task (listeners (line_of w) c.wait_lists)) h.1)
     works (Leave y) e r s ds seen k b h = as_it (Working (Leave y)) r s e _ h.0 (left y y.held r s refl h.1)
     works (Lower side key) e r s ds seen k b h =
         as_it (Working (Lower side key)) r s e _ h.0
-        (on_it_goes (Working (Lower side key)) r s _ _ (counts side (count side c.roster - 1) c.roster [] _) h.1
-        (lowers side key (count side c.roster)))
+        (on_it_goes (Working (Lower side key)) r s _ _ (counts side (count side c.wait_lists - 1) c.wait_lists [] _) h.1
+        (lowers side key (count side c.wait_lists)))
     works (Count side) e r s ds seen k b h = as_it (Working (Count side)) r s e _ h.0
-        (on_it_goes (Working (Count side)) r s (untouched c) (Ends (reply.Count (count side c.roster)) (leaving None None))
-        (still c.roster [] None) h.1 (refl, refl))
+        (on_it_goes (Working (Count side)) r s (untouched c) (Ends (reply.Count (count side c.wait_lists)) (leaving None None))
+        (still c.wait_lists [] None) h.1 (refl, refl))
     works (Load side making) e r s ds seen k b h = as_it (Working (Load side making)) r s e _ h.0
-        (on_it_goes (Working (Load side making)) r s (untouched c) _ (still c.roster [] None) h.1
-        (loaded_has T W side making (count side c.roster)).0)
+        (on_it_goes (Working (Load side making)) r s (untouched c) _ (still c.wait_lists [] None) h.1
+        (loaded_has T W side making (count side c.wait_lists)).0)
     works (Raise side n making) e r s ds seen k b h =
         as_it (Working (Raise side n making)) r s e _ h.0
-        (on_it_goes (Working (Raise side n making)) r s _ _ (raised (is_raised side n c.roster) side n None) h.1
-        (raised_has T W side making (is_raised side n c.roster)))
+        (on_it_goes (Working (Raise side n making)) r s _ _ (raised (is_raised side n c.wait_lists) side n None) h.1
+        (raised_has T W side making (is_raised side n c.wait_lists)))
 
     goes_on : (f f' : Phase T) (purpose : Purpose T W) (r : Option (Reply T)) (s : Stage (Phase T) T W) (d : Channel T W) → r ≡ None
         → s ≡ Trying f' purpose → Then x (Trying f purpose) r s (holding (Trying f purpose)) d
@@ -378,14 +378,14 @@ module _ (T W : Type 0) where
             as_it (Trying f purpose) r s e (queued f h.mark c) h.effect
             (record {
               has = holding (Trying f purpose);
-              lists = still c.roster [] (holding (Trying f purpose));
+              lists = still c.wait_lists [] (holding (Trying f purpose));
               how = inl refl;
               own = λ i e. inl e;
               next = goes_on f g.0 purpose r s (queued f h.mark c).channel g.2 g.3;
             })
         tried (inr g) =
             as_it (Trying f purpose) r s e (queued f h.mark c) h.effect
-            (on_it_goes (Trying f purpose) r s (queued f h.mark c) _ (still c.roster [] (holding (Trying f purpose))) g.2
+            (on_it_goes (Trying f purpose) r s (queued f h.mark c) _ (still c.wait_lists [] (holding (Trying f purpose))) g.2
             (answered_has T W f c.queue x purpose f.ask h.mark g.0 f.stage ds seen k.0 g.1).0)
     turnout (Working w) e r s ds seen k b h = works w e r s ds seen k b h
     turnout (Finished kept) e r s ds seen k b h = absurd k

@@ -109,7 +109,7 @@ module _ {T : Type 0} where
     mid_order = all_moved_last names b.order
 
     -- whoever is pending, and for whom a listener waits on this list, was not woken
-    own : (line : WaitList) → AreOwn line b.name_table (listeners line s.now.roster).waiting
+    own : (line : WaitList) → AreOwn line b.name_table (listeners line s.now.wait_lists).waiting
     own line key v j h c e = (is, by c e)
       where
         is : h ≡ at_line line key
@@ -118,16 +118,16 @@ module _ {T : Type 0} where
         by : (d : Bool) → status b.name_table v ≡ waits h d → d ≡ false
         by false f = refl
         by true f =
-            let both = none_parts (keys_of (listeners line s.now.roster).told) (keys_of (listeners line s.now.roster).waiting)
+            let both = none_parts (keys_of (listeners line s.now.wait_lists).told) (keys_of (listeners line s.now.wait_lists).waiting)
             (o.once line) in
             absurd (both.apart key (subst (λ (x : ListenerRef). IsTold x s.now) is (w.told v h f))
-            (key_of_entry (key, Some v) (listeners line s.now.roster).waiting j))
+            (key_of_entry (key, Some v) (listeners line s.now.wait_lists).waiting j))
 
     places : HavePlaces b.name_table b.order
     places v h c e = i.placed v (inl (h, c, e))
 
-    before : (line : WaitList) → Within (gathered (key_on line b.name_table) b.order) (keys_of (listeners line s.now.roster).told)
-    before line = subst (λ (ks : List Key). Within ks (keys_of (listeners line s.now.roster).told))
+    before : (line : WaitList) → Within (gathered (key_on line b.name_table) b.order) (keys_of (listeners line s.now.wait_lists).told)
+    before line = subst (λ (ks : List Key). Within ks (keys_of (listeners line s.now.wait_lists).told))
         (keys_are line b.name_table b.order) (i.lines line)
 
     -- the listener in hand is nobody's who is pending
@@ -142,20 +142,20 @@ module _ {T : Type 0} where
     first_told : Within (gathered (key_on told.at b.name_table) b.order) told.here.first
     first_told = by told.here.stay
       where
-        by : (told.here.first ≡ keys_of (listeners told.at s.now.roster).told) ⊎
+        by : (told.here.first ≡ keys_of (listeners told.at s.now.wait_lists).told) ⊎
             ((key : Key) × (holding st.mine.at ≡ on told.at key)
-            × (told.here.first ≡ keys_of (remove_entry (same_key key) (listeners told.at s.now.roster).told)))
+            × (told.here.first ≡ keys_of (remove_entry (same_key key) (listeners told.at s.now.wait_lists).told)))
             → Within (gathered (key_on told.at b.name_table) b.order) told.here.first
         by (inl same) =
             subst (λ (ks : List Key). Within (gathered (key_on told.at b.name_table) b.order) ks) (sym same) (before told.at)
         by (inr (key, had, same)) = subst (λ (ks : List Key). Within (gathered (key_on told.at b.name_table) b.order) ks) (sym same)
-            (within_cut key (listeners told.at s.now.roster).told (gathered (key_on told.at b.name_table) b.order)
+            (within_cut key (listeners told.at s.now.wait_lists).told (gathered (key_on told.at b.name_table) b.order)
             (in_hand told.at key had) (before told.at))
 
-    here : Within (gathered (key_on told.at mid_name_table) mid_order) (keys_of (listeners told.at t.now.roster).told)
+    here : Within (gathered (key_on told.at mid_name_table) mid_order) (keys_of (listeners told.at t.now.wait_lists).told)
     here =
         let es = told.here.more in
-        let once = none_parts (keys_of (listeners told.at s.now.roster).told) (keys_of (listeners told.at s.now.roster).waiting)
+        let once = none_parts (keys_of (listeners told.at s.now.wait_lists).told) (keys_of (listeners told.at s.now.wait_lists).waiting)
         (o.once told.at) in
         let all = woken_here told.at es b.name_table b.order told.here.first (told.here.once once.right)
         (λ key v j. own told.at key v (told.here.waited (key, Some v) j)) places first_told in
@@ -165,10 +165,10 @@ module _ {T : Type 0} where
         subst (λ (ks : List Key). Within (gathered (key_on told.at mid_name_table) mid_order) ks) (sym told.here.told) named
 
     elsewhere : (line : WaitList) → (line ≡ told.at → ⊥)
-        → Within (gathered (key_on line mid_name_table) mid_order) (keys_of (listeners line t.now.roster).told)
+        → Within (gathered (key_on line mid_name_table) mid_order) (keys_of (listeners line t.now.wait_lists).told)
     elsewhere line other =
         let same = woken_elsewhere line names b.name_table b.order not_on in
-        subst (λ (ks : List Key). Within ks (keys_of (listeners line t.now.roster).told)) (sym same)
+        subst (λ (ks : List Key). Within ks (keys_of (listeners line t.now.wait_lists).told)) (sym same)
         (subst (λ (ks : List Key). Within (gathered (key_on line b.name_table) b.order) ks) (sym (told.others line other))
         (before line))
       where
@@ -178,13 +178,13 @@ module _ {T : Type 0} where
             let its = own told.at who.0 v (told.here.waited (who.0, Some v) who.1) h c e in
             other (sym is ∙ ap (λ (x : ListenerRef). x.line) its.0)
 
-    mid_within : (line : WaitList) → Within (gathered (key_on line mid_name_table) mid_order) (keys_of (listeners line t.now.roster).told)
+    mid_within : (line : WaitList) → Within (gathered (key_on line mid_name_table) mid_order) (keys_of (listeners line t.now.wait_lists).told)
     mid_within line = by (line_or line told.at)
       where
         by : (line ≡ told.at) ⊎ (line ≡ told.at → ⊥)
-            → Within (gathered (key_on line mid_name_table) mid_order) (keys_of (listeners line t.now.roster).told)
+            → Within (gathered (key_on line mid_name_table) mid_order) (keys_of (listeners line t.now.wait_lists).told)
         by (inl same) =
-            subst (λ (l : WaitList). Within (gathered (key_on l mid_name_table) mid_order) (keys_of (listeners l t.now.roster).told))
+            subst (λ (l : WaitList). Within (gathered (key_on l mid_name_table) mid_order) (keys_of (listeners l t.now.wait_lists).told))
             (sym same) here
         by (inr other) = elsewhere line other
 
@@ -210,7 +210,7 @@ module _ {T : Type 0} where
   goes_order b s t p m kp names o known st w i = record {
     placed = mid_placed b s t p m None kp names o known st w i;
     once = mid_once b s t p m None kp names o known st w i;
-    lines = λ line. subst (λ (ks : List Key). Within ks (keys_of (listeners line t.now.roster).told))
+    lines = λ line. subst (λ (ks : List Key). Within ks (keys_of (listeners line t.now.wait_lists).told))
         (sym (keys_are line (all_woken names b.name_table) (all_moved_last names b.order)))
         (mid_within b s t p m None kp names o known st w i line);
   }
@@ -282,19 +282,19 @@ module _ {T : Type 0} where
             (mid_placed b s t p m (Some y) kp names o known st w i v
             (needs_same (status name_table2 v) (status name_table1 v) (others_stand v other) n))
 
-    ended_within : (line : WaitList) → Within (gathered (key_on line name_table2) order2) (keys_of (listeners line t.now.roster).told)
+    ended_within : (line : WaitList) → Within (gathered (key_on line name_table2) order2) (keys_of (listeners line t.now.wait_lists).told)
     ended_within line =
-        let mid = subst (λ (ks : List Key). Within ks (keys_of (listeners line t.now.roster).told))
+        let mid = subst (λ (ks : List Key). Within ks (keys_of (listeners line t.now.wait_lists).told))
         (sym (gathered_same (key_on line name_table2) (key_on line name_table1) order1 (same_keys line)))
         (mid_within b s t p m (Some y) kp names o known st w i line) in
         within_both (gathered (key_on line name_table2) order2) (gathered (key_on line name_table2) order1)
-        (keys_of (listeners line t.now.roster).told) (fewer_settled (key_on line name_table2) pt.agent.on_return kept.key order1) mid
+        (keys_of (listeners line t.now.wait_lists).told) (fewer_settled (key_on line name_table2) pt.agent.on_return kept.key order1) mid
 
     ends_order : InOrder end_name_state t
     ends_order = record {
       placed = ended_placed;
       once = once_settled pt.agent.on_return kept.key order1 (mid_once b s t p m (Some y) kp names o known st w i);
-      lines = λ line. subst (λ (ks : List Key). Within ks (keys_of (listeners line t.now.roster).told))
+      lines = λ line. subst (λ (ks : List Key). Within ks (keys_of (listeners line t.now.wait_lists).told))
           (sym (keys_are line name_table2 order2)) (ended_within line);
     }
 

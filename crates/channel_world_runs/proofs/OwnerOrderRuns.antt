@@ -67,13 +67,13 @@ module _ {T : Type 0} where
   record Sorted (r : NameTable T) (ws : List Waiter) (c : Channel T Waiter) : Type 0 where
     pub places : (v : Waiter) → NeedsPlace (status r v) → IsAmong v ws
     pub once : NoneTwice ws
-    pub lines : (line : WaitList) → Within (gathered (key_on line r) ws) (keys_of (listeners line c.roster).told)
+    pub lines : (line : WaitList) → Within (gathered (key_on line r) ws) (keys_of (listeners line c.wait_lists).told)
 
   sorted_of : (b : NameState T) (s : Configuration T Waiter) → InOrder b s → Sorted b.name_table b.order s.now
   sorted_of b s i = record {
     places = i.placed;
     once = i.once;
-    lines = λ line. subst (λ (ks : List Key). Within ks (keys_of (listeners line s.now.roster).told))
+    lines = λ line. subst (λ (ks : List Key). Within ks (keys_of (listeners line s.now.wait_lists).told))
         (keys_are line b.name_table b.order) (i.lines line);
   }
 
@@ -81,7 +81,7 @@ module _ {T : Type 0} where
   of_sorted b s h = record {
     placed = h.places;
     once = h.once;
-    lines = λ line. subst (λ (ks : List Key). Within ks (keys_of (listeners line s.now.roster).told))
+    lines = λ line. subst (λ (ks : List Key). Within ks (keys_of (listeners line s.now.wait_lists).told))
         (sym (keys_are line b.name_table b.order)) (h.lines line);
   }
 
@@ -109,7 +109,7 @@ module _ {T : Type 0} where
     places = λ v n. by v n (f v);
     once = h.once;
     lines = λ line. within_both (gathered (key_on line r') ws) (gathered (key_on line r) ws)
-        (keys_of (listeners line c.roster).told) (less r r' line ws (λ v. busy v (f v))) (h.lines line);
+        (keys_of (listeners line c.wait_lists).told) (less r r' line ws (λ v. busy v (f v))) (h.lines line);
   }
     where
       busy : (v : Waiter) → (status r' v ≡ status r v) ⊎ (status r' v ≡ retired) → (status r' v ≡ status r v) ⊎ IsBusy (status r' v)
@@ -126,9 +126,9 @@ module _ {T : Type 0} where
   polls r r' ws c w x s busy h = record {
     places = λ v n. by v n (waiter_or v w);
     once = once_placed w ws h.once;
-    lines = λ line. place_within (is_among w ws) (key_on line r') w ws (keys_of (listeners line c.roster).told)
+    lines = λ line. place_within (is_among w ws) (key_on line r') w ws (keys_of (listeners line c.wait_lists).told)
         (busy_keyless line (status r' w) (subst IsBusy (sym s.there) busy))
-        (within_both (gathered (key_on line r') ws) (gathered (key_on line r) ws) (keys_of (listeners line c.roster).told)
+        (within_both (gathered (key_on line r') ws) (gathered (key_on line r) ws) (keys_of (listeners line c.wait_lists).told)
         (less r r' line ws (set_less r r' w x s busy)) (h.lines line));
   }
     where
@@ -143,8 +143,8 @@ module _ {T : Type 0} where
     places = λ v n. by v n (waiter_or v w);
     once = once_without w ws h.once;
     lines = λ line. within_both (gathered (key_on line r') (without_waiter w ws)) (gathered (key_on line r') ws)
-        (keys_of (listeners line c.roster).told) (gathered_fewer (key_on line r') w ws)
-        (within_both (gathered (key_on line r') ws) (gathered (key_on line r) ws) (keys_of (listeners line c.roster).told)
+        (keys_of (listeners line c.wait_lists).told) (gathered_fewer (key_on line r') w ws)
+        (within_both (gathered (key_on line r') ws) (gathered (key_on line r) ws) (keys_of (listeners line c.wait_lists).told)
         (less r r' line ws (set_less r r' w retired s tt)) (h.lines line));
   }
     where

@@ -223,7 +223,7 @@ module _ {T : Type 0} where
         → Suits P' (on_return_of b.name_table c) (wait_of (asks b.name_table c)) → Owned (name_state_begun q c b) t
     begun_owned had giver taker pass keep own sane unwoken suits =
         let whole = accounted s.now s.now [] had had (HoldsIn P s.under_way) (HoldsIn P' calls) giver taker
-        (still s.now.roster [] had) (inl refl) pass before in
+        (still s.now.wait_lists [] had) (inl refl) pass before in
         subst (λ (us : List (ActiveCall T Waiter)). Owned (name_state_begun q c b)
         (record { now = t.now; blocks = t.blocks; under_way = us; gone = t.gone; came = t.came })) (sym n.under_way) (
         subst (λ (d : Channel T Waiter). Owned (name_state_begun q c b)

@@ -115,8 +115,8 @@ module _ {T : Type 0} where
   suits_name p z line v wait s w = absurd (let no : None ≡ Some (line, v) = sym s ∙ w in cc)
 
   listed_of : (h : ListenerRef) (w : Waiter) (c : Channel T Waiter) → WaitsToWake h w c → IsListed h c
-  listed_of h w c i = among_right h.key (keys_of (listeners h.line c.roster).told)
-      (keys_of (listeners h.line c.roster).waiting) (key_of_entry (h.key, Some w) (listeners h.line c.roster).waiting i)
+  listed_of h w c i = among_right h.key (keys_of (listeners h.line c.wait_lists).told)
+      (keys_of (listeners h.line c.wait_lists).waiting) (key_of_entry (h.key, Some w) (listeners h.line c.wait_lists).waiting i)
 
   -- ---- a call makes a step
 

@@ -64,8 +64,8 @@ module _ {T W : Type 0} where
   -- a step that wakes these, by a call with this listener in hand, tells on one list, in its order, and on no other
   pub record TellsInTurn (c d : Channel T W) (names : List W) (had : Option ListenerRef) : Type 0 where
     pub at : WaitList
-    pub here : InTurn at (listeners at c.roster) (listeners at d.roster) names had
-    pub others : (line : WaitList) → (line ≡ at → ⊥) → keys_of (listeners line d.roster).told ≡ keys_of (listeners line c.roster).told
+    pub here : InTurn at (listeners at c.wait_lists) (listeners at d.wait_lists) names had
+    pub others : (line : WaitList) → (line ≡ at → ⊥) → keys_of (listeners line d.wait_lists).told ≡ keys_of (listeners line c.wait_lists).told
 
   -- A channel after a step that wakes these, by a call with this listener in hand, which may be to wake this task: those who were
   -- told are told still, but for the one in hand; a listener that waits waited for the same, or is the one in hand, and waits for
@@ -77,7 +77,7 @@ module _ {T W : Type 0} where
     pub turns : TellsInTurn c d names had
 
   as_before : (c d : Channel T W) (had : Option ListenerRef) (task : Option W)
-      → ((line : WaitList) → listeners line d.roster ≡ listeners line c.roster) → Follows c d [] had task
+      → ((line : WaitList) → listeners line d.wait_lists ≡ listeners line c.wait_lists) → Follows c d [] had task
   as_before c d had task f =
       record {
         told = λ h other i. subst (λ (l : Listeners W). IsAmong h.key (keys_of l.told)) (sym (f h.line)) i;
@@ -85,24 +85,24 @@ module _ {T W : Type 0} where
         woken = λ w i. absurd i;
         turns = record {
           at = Sends;
-          here = none_told Sends (listeners Sends c.roster) (listeners Sends d.roster) had
+          here = none_told Sends (listeners Sends c.wait_lists) (listeners Sends d.wait_lists) had
               (ap (λ (l : Listeners W). keys_of l.told) (f Sends));
           others = λ line other. ap (λ (l : Listeners W). keys_of l.told) (f line);
         };
       }
 
   on_one : (at : WaitList) (l : Listeners W) (names : List W) (c : Channel T W) (had : Option ListenerRef) (task : Option W)
-      → Tells at (listeners at c.roster) l names had task → InTurn at (listeners at c.roster) l names had
+      → Tells at (listeners at c.wait_lists) l names had task → InTurn at (listeners at c.wait_lists) l names had
       → Follows c (on_line at l names c).channel names had task
   on_one at l names c had task t i =
       record {
-        told = λ h other i. told_on h.line at l names c.roster had task t h.key other i;
-        tasks = λ h w i. tasks_on h.line at l names c.roster had task t h.key w i;
-        woken = λ w i. woken_on at l names c.roster had task t w i;
+        told = λ h other i. told_on h.line at l names c.wait_lists had task t h.key other i;
+        tasks = λ h w i. tasks_on h.line at l names c.wait_lists had task t h.key w i;
+        woken = λ w i. woken_on at l names c.wait_lists had task t w i;
         turns = record {
           at = at;
-          here = subst (λ (x : Listeners W). InTurn at (listeners at c.roster) x names had) (sym (same_list at l c.roster)) i;
-          others = λ line other. ap (λ (x : Listeners W). keys_of x.told) (other_list line at l c.roster other);
+          here = subst (λ (x : Listeners W). InTurn at (listeners at c.wait_lists) x names had) (sym (same_list at l c.wait_lists)) i;
+          others = λ line other. ap (λ (x : Listeners W). keys_of x.told) (other_list line at l c.wait_lists other);
         };
       }
 
@@ -114,32 +114,32 @@ module _ {T W : Type 0} where
     as_it had task e e' same h = subst (λ (x : Effect T W). After had task x) (sym same) h
 
     tells_one_more : (at : WaitList) (had : Option ListenerRef)
-        → Follows c (on_line at (told_one (listeners at c.roster)) (told_one_wakes (listeners at c.roster)) c).channel
-        (told_one_wakes (listeners at c.roster)) had None
-    tells_one_more at had = on_one at (told_one (listeners at c.roster)) (told_one_wakes (listeners at c.roster)) c had None
-        (passes at had None (record { additional = true; tag = tt }) (listeners at c.roster))
-        (one_passed at (record { additional = true; tag = tt }) (listeners at c.roster) had)
+        → Follows c (on_line at (told_one (listeners at c.wait_lists)) (told_one_wakes (listeners at c.wait_lists)) c).channel
+        (told_one_wakes (listeners at c.wait_lists)) had None
+    tells_one_more at had = on_one at (told_one (listeners at c.wait_lists)) (told_one_wakes (listeners at c.wait_lists)) c had None
+        (passes at had None (record { additional = true; tag = tt }) (listeners at c.wait_lists))
+        (one_passed at (record { additional = true; tag = tt }) (listeners at c.wait_lists) had)
 
     tells_several : (at : WaitList) (n : ℕ) (had : Option ListenerRef)
-        → Follows c (on_line at (told_more n (listeners at c.roster)) (told_more_wakes n (listeners at c.roster)) c).channel
-        (told_more_wakes n (listeners at c.roster)) had None
-    tells_several at n had = on_one at (told_more n (listeners at c.roster)) (told_more_wakes n (listeners at c.roster)) c had None
-        (more_pass at had None n (listeners at c.roster)) (more_passed at n (listeners at c.roster) had)
+        → Follows c (on_line at (told_more n (listeners at c.wait_lists)) (told_more_wakes n (listeners at c.wait_lists)) c).channel
+        (told_more_wakes n (listeners at c.wait_lists)) had None
+    tells_several at n had = on_one at (told_more n (listeners at c.wait_lists)) (told_more_wakes n (listeners at c.wait_lists)) c had None
+        (more_pass at had None n (listeners at c.wait_lists)) (more_passed at n (listeners at c.wait_lists) had)
 
     tells_them_all : (at : WaitList) (had : Option ListenerRef)
-        → Follows c (on_line at (told_all (listeners at c.roster)) (told_all_wakes (listeners at c.roster)) c).channel
-        (told_all_wakes (listeners at c.roster)) had None
-    tells_them_all at had = on_one at (told_all (listeners at c.roster)) (told_all_wakes (listeners at c.roster)) c had None
-        (all_pass at had None (listeners at c.roster)) (all_passed at (listeners at c.roster) had)
+        → Follows c (on_line at (told_all (listeners at c.wait_lists)) (told_all_wakes (listeners at c.wait_lists)) c).channel
+        (told_all_wakes (listeners at c.wait_lists)) had None
+    tells_them_all at had = on_one at (told_all (listeners at c.wait_lists)) (told_all_wakes (listeners at c.wait_lists)) c had None
+        (all_pass at had None (listeners at c.wait_lists)) (all_passed at (listeners at c.wait_lists) had)
 
     left : (o : Option ListenerRef) → After o None (leaves o c)
     left None = as_before c c None None (λ line. refl)
-    left (Some k) = on_one k.line (removed k.key true (listeners k.line c.roster))
-        (removed_wakes k.key true (listeners k.line c.roster)) c (on k.line k.key) None
-        (leaves_list k.line k.key (listeners k.line c.roster)) (one_left k.line k.key (listeners k.line c.roster))
+    left (Some k) = on_one k.line (removed k.key true (listeners k.line c.wait_lists))
+        (removed_wakes k.key true (listeners k.line c.wait_lists)) c (on k.line k.key) None
+        (leaves_list k.line k.key (listeners k.line c.wait_lists)) (one_left k.line k.key (listeners k.line c.wait_lists))
 
     counts : (side : Side) (n : ℕ) (m : Mark) (had : Option ListenerRef) → After had None (on_count side n m c)
-    counts side n m had = as_before c (on_count side n m c).channel had None (λ line. counted_list line side n c.roster)
+    counts side n m had = as_before c (on_count side n m c).channel had None (λ line. counted_list line side n c.wait_lists)
 
     raised : (b : Bool) (side : Side) (n : ℕ) → After None None (if b then on_count side (n + 1) (up side) c else untouched c)
     raised true side n = counts side (n + 1) (up side) None
@@ -148,9 +148,9 @@ module _ {T W : Type 0} where
     inserts : (w : Waiting T) (task : W) (e : Effect T W) (r : Option (Reply T)) (s : Stage (Phase T) T W)
         → Inserts w task c e r s → After None (Some task) e
     inserts w task e r s (inl (key, new, same, t)) =
-        as_it None (Some task) e _ same (on_one (line_of w) (listened key (listeners (line_of w) c.roster)) [] c None
-        (Some task) (comes_in (line_of w) key (listeners (line_of w) c.roster) (Some task))
-        (one_came (line_of w) key (listeners (line_of w) c.roster) None))
+        as_it None (Some task) e _ same (on_one (line_of w) (listened key (listeners (line_of w) c.wait_lists)) [] c None
+        (Some task) (comes_in (line_of w) key (listeners (line_of w) c.wait_lists) (Some task))
+        (one_came (line_of w) key (listeners (line_of w) c.wait_lists) None))
     inserts w task e r s (inr (error, same, t)) =
         as_it None (Some task) e _ same (as_before c c None (Some task) (λ line. refl))
 
@@ -164,15 +164,15 @@ module _ {T W : Type 0} where
     works (Insert w task) e r s h = inserts w task e r s h
     works (Register w key task) e r s h =
         as_it (on (line_of w) key) (Some task) e _ h.0
-        (on_one (line_of w) (registration key task (listeners (line_of w) c.roster)) [] c (on (line_of w) key) (Some task)
-        (registers_on (line_of w) key task (listeners (line_of w) c.roster))
-        (one_asked (line_of w) key task (listeners (line_of w) c.roster)))
+        (on_one (line_of w) (registration key task (listeners (line_of w) c.wait_lists)) [] c (on (line_of w) key) (Some task)
+        (registers_on (line_of w) key task (listeners (line_of w) c.wait_lists))
+        (one_asked (line_of w) key task (listeners (line_of w) c.wait_lists)))
     works (Leave y) e r s h = as_it y.held None e _ h.0 (left y.held)
     works (Lower Senders key) e r s h =
-        as_it None None e _ h.0 (counts Senders (count Senders c.roster - 1) (down Senders) None)
+        as_it None None e _ h.0 (counts Senders (count Senders c.wait_lists - 1) (down Senders) None)
     works (Lower Receivers key) e r s h =
-        as_it _ None e _ h.0 (counts Receivers (count Receivers c.roster - 1) (down Receivers) _)
-    works (Raise side n making) e r s h = as_it None None e _ h.0 (raised (is_raised side n c.roster) side n)
+        as_it _ None e _ h.0 (counts Receivers (count Receivers c.wait_lists - 1) (down Receivers) _)
+    works (Raise side n making) e r s h = as_it None None e _ h.0 (raised (is_raised side n c.wait_lists) side n)
     works x e r s h = as_it None None e _ h.0 (as_before c c None None (λ line. refl))
 
     -- any step

@@ -146,7 +146,7 @@ module _ {T : Type 0} where
   waits_out : (w : Waiting T) (key : Option Key) (task : Waiter) (c : Channel T Waiter) (o : Outcome T Waiter) → WaitsOrGoesOn w key task c o
       → Accepts c o
   waits_out w None task c o h = listens_out w task c o h
-  waits_out w (Some key) task c o h = registers_out (waits key (listeners (line_of w) c.roster)) w key task c o h
+  waits_out w (Some key) task c o h = registers_out (waits key (listeners (line_of w) c.wait_lists)) w key task c o h
 
   polls_by : (b f : Bool) (m : T) (key : Option Key) (task : Waiter) (c : Channel T Waiter) (o : Outcome T Waiter)
       → Where b (o ≡ ends [] (over (reply.SendPoll (poll.Ready (Err (refused.Plain (record { 0 = m }))))) None Sends key) c)
@@ -172,7 +172,7 @@ module _ {T : Type 0} where
       → Where b (AsksListener (waiting.Send m) key task c o (λ (d : Channel T Waiter). PollsSend m None task d o)) (PollsSend m key task c o) → Accepts c o
   poll_out false m key task c o h = tries_out m key task c o h
   poll_out true m None task c o h = tries_out m None task c o h
-  poll_out true m (Some key) task c o h = asks_out (waits key (listeners Sends c.roster)) m key task c o h
+  poll_out true m (Some key) task c o h = asks_out (waits key (listeners Sends c.wait_lists)) m key task c o h
 
   alone_accepts : (a : ChannelAsk T Waiter) (c : Channel T Waiter) (o : Outcome T Waiter) → Alone a c o
       → (length (brought a) ≡ 0) ⊎ Accepts c o

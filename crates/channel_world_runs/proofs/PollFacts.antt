@@ -4,7 +4,7 @@ use Rattle.channel_calls.specs.Parts.{Parts}
 use Rattle.channel_calls.specs.declared.ask.ChannelAsk.{ChannelAsk}
 use Rattle.channel_steps.specs.solo.Alone.{Alone}
 use Rattle.channel_steps.specs.solo.Configurations.{RunsInConfigurations}
-use Rattle.channel_steps.specs.declared.alone.Done.{Done}
+use Rattle.channel_calls.specs.declared.whole.Completed.{Completed}
 use Rattle.channel_world_model.specs.declared.call.Call.{Call}
 use Rattle.channel_world_model.specs.declared.name.Waiter.{Waiter}
 use Rattle.channel_steps.specs.Configuration.{Represents}
@@ -25,7 +25,7 @@ pub record Heard (empty full : Sink) : Type 0 where
   pub capacity : vec_capacity empty.names ≤ vec_capacity full.names
 
 module _ {T : Type 0} where
-  pub names_heard : (c : Call T) (old : WorldState T) (a : ChannelAsk T Waiter) (d : Done T) (empty full : Sink) (after : Parts T Waiter)
+  pub names_heard : (c : Call T) (old : WorldState T) (a : ChannelAsk T Waiter) (d : Completed T) (empty full : Sink) (after : Parts T Waiter)
       (messages room : ℕ)
       → RunsInConfigurations Hears a (parts_in old) empty old.messages d after full messages → a ≡ asks old.name_table c
       → Stands old → IsQuiet old → length empty.names.items + room ≤ vec_capacity empty.names

@@ -338,22 +338,22 @@ module _ {T W : Type 0} where
   worked c (Insert w task) e r s (inr h) =
       works c (Insert w task) e (untouched c) r s (unlistened w h.0) h.1 refl refl h.2 (no_more 0 _ refl)
   worked c (Register w key task) e r s h =
-      let b = waits key (listeners (line_of w) c.roster) in
+      let b = waits key (listeners (line_of w) c.wait_lists) in
       works c (Register w key task) e (registers (line_of w) key task c) r s (if b then pends_by w key else again w None task) h.0 refl
       refl h.1 (registered_yet b w key task)
   worked c (Leave x) e r s h =
       works c (Leave x) e (leaves x.held c) r s (Ends x.reply (leaving None x.message)) h.0 (left_queue x.held c) (left_plain x.held c)
       h.1 (omega arith)
   worked c (Lower side key) e r s h =
-      works c (Lower side key) e (lowers side c) r s (lowered_next side key (count side c.roster)) h.0 (lowered_queue side c)
-      (lowered_plain side c) h.1 (no_more _ 0 (lowered_yet T W (count side c.roster == 1) (dropper side key)))
+      works c (Lower side key) e (lowers side c) r s (lowered_next side key (count side c.wait_lists)) h.0 (lowered_queue side c)
+      (lowered_plain side c) h.1 (no_more _ 0 (lowered_yet T W (count side c.wait_lists == 1) (dropper side key)))
   worked c (Count side) e r s h =
-      works c (Count side) e (untouched c) r s (Ends (reply.Count (count side c.roster)) nothing_kept) h.0 refl refl h.1 (omega arith)
+      works c (Count side) e (untouched c) r s (Ends (reply.Count (count side c.wait_lists)) nothing_kept) h.0 refl refl h.1 (omega arith)
   worked c (Load side m) e r s h =
-      works c (Load side m) e (untouched c) r s (loaded_next side m (count side c.roster)) h.0 refl refl h.1
-      (no_more _ 0 (loaded_yet T W side m (count side c.roster)))
+      works c (Load side m) e (untouched c) r s (loaded_next side m (count side c.wait_lists)) h.0 refl refl h.1
+      (no_more _ 0 (loaded_yet T W side m (count side c.wait_lists)))
   worked c (Raise side n m) e r s h =
-      let b = is_raised side n c.roster in
+      let b = is_raised side n c.wait_lists in
       works c (Raise side n m) e (raises side n c) r s (raised_next side m b) h.0 (raised_queue b side n c) (raised_plain b side n c) h.1
       (no_more _ 0 (raised_yet T W side m b))
 

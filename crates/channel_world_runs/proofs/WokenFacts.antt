@@ -86,9 +86,9 @@ module _ {W : Type 0} where
     by (Some notice) = omega (arith, few_passed notice (without key l), few_left key l.waiting)
 
 -- no step wakes more than listen on the longest list
-module _ {T W : Type 0} (n : ℕ) (c : Channel T W) (most : (line : WaitList) → length (listeners line c.roster).waiting ≤ n) where
+module _ {T W : Type 0} (n : ℕ) (c : Channel T W) (most : (line : WaitList) → length (listeners line c.wait_lists).waiting ≤ n) where
   pub few_woken : (ts : List Telling) (h : Option ListenerRef) (names : List W) → WokenBy ts h c names → length names ≤ n
-  few_woken (more_of k line ∷ ts) h names e = let len = ap length e in omega (arith, len, few_more k (listeners line c.roster), most line)
-  few_woken (all_of line ∷ ts) h names e = let len = ap length e in omega (arith, len, few_tasks (listeners line c.roster).waiting, most line)
-  few_woken [] (Some h) names e = let len = ap length e in omega (arith, len, few_removed h.key (listeners h.line c.roster), most h.line)
+  few_woken (more_of k line ∷ ts) h names e = let len = ap length e in omega (arith, len, few_more k (listeners line c.wait_lists), most line)
+  few_woken (all_of line ∷ ts) h names e = let len = ap length e in omega (arith, len, few_tasks (listeners line c.wait_lists).waiting, most line)
+  few_woken [] (Some h) names e = let len = ap length e in omega (arith, len, few_removed h.key (listeners h.line c.wait_lists), most h.line)
   few_woken [] None names e = let len = ap length e in omega (arith, len)

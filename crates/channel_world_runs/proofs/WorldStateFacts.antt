@@ -227,7 +227,7 @@ module _ {T : Type 0} where
       → PartySteps Hears (parts_in old) c.party empty e.reply (parts_in new) d.party full → e.mark ≡ d.party.call.mark
       → d.activity ≡ activity_after d.party.call.mark c.activity
       → new.calls.items ≡ after_step old.calls.items k d e.reply
-      → empty.names.items ≡ [] → ((line : WaitList) → length (listeners line (parts_in old).roster).waiting ≤ n)
+      → empty.names.items ≡ [] → ((line : WaitList) → length (listeners line (parts_in old).wait_lists).waiting ≤ n)
       → n ≤ vec_capacity empty.names → e.woken.items ≡ full.names.items
       → name_state_of new ≡ name_state_ended k (agent_of c) e.reply (left_by d.party e.reply) (with_woken full.names.items (name_state_of old))
       → new.messages ≡ counted old.messages e.mark → came ≡ brought_in e.mark
@@ -243,8 +243,8 @@ module _ {T : Type 0} where
       let made : StepsAt Hears (parts_in old) (parties_of old) k empty entry (parts_in new) (parties_of new) full =
       rw (mark, left) (steps (parties_of old) k (get-map party_in old.calls.items k c there)) in
       let h = made s c.party range sh.shows (get-map party_in old.calls.items k c there) in
-      let wait_lists : (parts_in old).roster ≡ s.now.roster = sym (ap (λ (c : Channel T Waiter). c.roster) sh.shows.now) in
-      let most_now : ((line : WaitList) → length (listeners line s.now.roster).waiting ≤ n) =
+      let wait_lists : (parts_in old).wait_lists ≡ s.now.wait_lists = sym (ap (λ (c : Channel T Waiter). c.wait_lists) sh.shows.now) in
+      let most_now : ((line : WaitList) → length (listeners line s.now.wait_lists).waiting ≤ n) =
       subst (λ (r : WaitLists Waiter). (line : WaitList) → length (listeners line r).waiting ≤ n) wait_lists most in
       let few = few_woken n s.now most_now (telling h.steps.step.mine.at) (dropping h.steps.step.mine.at) h.names h.steps.step.named in
       let start : vec_len empty.names ≡ length empty.names.items = empty.names.ok.0 in

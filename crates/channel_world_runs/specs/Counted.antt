@@ -86,8 +86,8 @@ module _ {T : Type 0} where
   -- the channel is open it is one at least, or the drop of the last one is to close it. Those that may raise it are those that
   -- make such a handle.
   pub record CountsSide (side : Side) (b : NameState T) (s : Configuration T Waiter) : Type 0 where
-    pub counts : count side s.now.roster ≡ live_on side b.name_table.handles + tally (λ (u : ActiveCall T Waiter). is_lowering side u.at) s.under_way
-    pub opened : Open s.now → (1 ≤ count side s.now.roster) ⊎ (1 ≤ tally (λ (u : ActiveCall T Waiter). is_closing side u.at) s.under_way)
+    pub counts : count side s.now.wait_lists ≡ live_on side b.name_table.handles + tally (λ (u : ActiveCall T Waiter). is_lowering side u.at) s.under_way
+    pub opened : Open s.now → (1 ≤ count side s.now.wait_lists) ⊎ (1 ≤ tally (λ (u : ActiveCall T Waiter). is_closing side u.at) s.under_way)
     pub makers : map (λ (a : Agent T). makes_strong side a.on_return) b.agents ≡ map (λ (u : ActiveCall T Waiter). is_raising side u.at) s.under_way
 
   abbrev pub Counted : NameState T → Configuration T Waiter → Type 0

@@ -47,4 +47,4 @@ module _ {T : Type 0} where
   pub record InOrder (b : NameState T) (s : Configuration T Waiter) : Type 0 where
     pub placed : (w : Waiter) → NeedsPlace (status b.name_table w) → IsAmong w b.order
     pub once : NoneTwice b.order
-    pub lines : (line : WaitList) → Within (woken_keys line b.name_table b.order) (keys_of (listeners line s.now.roster).told)
+    pub lines : (line : WaitList) → Within (woken_keys line b.name_table b.order) (keys_of (listeners line s.now.wait_lists).told)

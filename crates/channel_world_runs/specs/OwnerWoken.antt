@@ -18,7 +18,7 @@ IsAway p = (p ≡ retired) ⊎ ((line : WaitList) × (p ≡ polled line))
 module _ {T W : Type 0} where
   -- the listener was told
   abbrev pub IsTold : ListenerRef → Channel T W → Type 0
-  IsTold h c = IsAmong h.key (keys_of (listeners h.line c.roster).told)
+  IsTold h c = IsAmong h.key (keys_of (listeners h.line c.wait_lists).told)
 
 module _ {T : Type 0} where
   -- the listener of whatever is pending and was woken is told

@@ -233,14 +233,14 @@ module _ {W : Type 0} where
 module _ {T W : Type 0} where
   -- the listener is told or waits
   abbrev pub IsListed : ListenerRef → Channel T W → Type 0
-  IsListed h c = IsAmong h.key (keys (listeners h.line c.roster))
+  IsListed h c = IsAmong h.key (keys (listeners h.line c.wait_lists))
 
   -- it waits, to wake this task
   abbrev pub WaitsToWake : ListenerRef → W → Channel T W → Type 0
-  WaitsToWake h task c = IsAmong (h.key, Some task) (listeners h.line c.roster).waiting
+  WaitsToWake h task c = IsAmong (h.key, Some task) (listeners h.line c.wait_lists).waiting
 
   abbrev pub NoneListedTwice : Channel T W → Type 0
-  NoneListedTwice c = (line : WaitList) → NoneTwice (keys (listeners line c.roster))
+  NoneListedTwice c = (line : WaitList) → NoneTwice (keys (listeners line c.wait_lists))
 
 -- ---- owners
 

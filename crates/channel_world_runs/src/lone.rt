@@ -4,7 +4,8 @@ use crate::beginning::Begun;
 use crate::position::accepted_by;
 use crate::woken::Woken;
 use crate::world_state::WorldState;
-use channel_steps::alone::{Done as Ended, run_alone};
+use channel_calls::whole::Completed;
+use channel_steps::alone::run_alone;
 use channel_world_model::call::Call;
 use channel_world_model::run::Done;
 
@@ -38,7 +39,7 @@ impl<T: Drop> WorldState<T> {
             return Err(call);
         }
         let Begun { ask, on_return } = self.name_table.begin(call, self.alloc)?;
-        let Ended { reply, kept } = run_alone(
+        let Completed { reply, kept } = run_alone(
             ask,
             &mut self.channel,
             &mut self.messages,

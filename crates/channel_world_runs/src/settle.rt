@@ -6,7 +6,8 @@ use crate::position::accepted_by;
 use crate::woken::Woken;
 use crate::world_state::WorldState;
 use channel_calls::reply::Reply;
-use channel_steps::alone::{Done as Ended, run_alone};
+use channel_calls::whole::Completed;
+use channel_steps::alone::run_alone;
 use channel_world_model::name::{HandleKind, Waiter};
 
 /// What a poll left.
@@ -87,7 +88,7 @@ impl<T: Drop> WorldState<T> {
         let brings = self.name_table.brings_polled(name);
         let mut sink = Woken { names };
         let Begun { ask, on_return } = self.name_table.begin_poll(name);
-        let Ended { reply, kept } = run_alone(
+        let Completed { reply, kept } = run_alone(
             ask,
             &mut self.channel,
             &mut self.messages,

@@ -23,7 +23,8 @@ use Rattle.channel_calls.specs.declared.reply.Reply.TheVariants as reply
 use Rattle.channel_calls.specs.declared.stage.Returned.{Returned}
 use Rattle.channel_calls.specs.declared.stage.Side.{Side}
 use Rattle.channel_calls.specs.declared.stage.Stage.{Stage}
-use Rattle.channel_steps.specs.every_run.Bridge.{Act, Event, begins, does, Given, Acts, Along}
+use Rattle.channel_calls.specs.declared.whole.Completed.{Completed}
+use Rattle.channel_steps.specs.every_run.Bridge.{Act, Event, begins, does, Acts, Along}
 use Rattle.channel_steps.specs.every_run.BridgeBlocks.{InCalls, IsLeft, Rested}
 use Rattle.async_channel.specs.Counts.{Clones, Upgrades}
 use Rattle.async_channel.specs.Handles.{Handle}
@@ -37,7 +38,7 @@ module _ {T W X : Type 0} (cells_did : cell.Deed T → X → X → Type 0) (saw 
   abbrev pub HasEvents : QueueForm → ChannelAsk T W → X → Reply T → Returned T → X → Type 0
   HasEvents form ask s r kept t =
       (os : List (Act T W)) × Along saw cells_did os s t
-      × ((xs : List (Event T W)) (more : List (Given T)) → Acts form None xs more → Acts form None (begins ask ∷ map does os ++ xs) (record { reply = r; kept = kept } ∷ more))
+      × ((xs : List (Event T W)) (more : List (Completed T)) → Acts form None xs more → Acts form None (begins ask ∷ map does os ++ xs) (record { reply = r; kept = kept } ∷ more))
 
   -- they are the last events of a party whose call makes no more steps
   abbrev pub HasLastEvents : QueueForm → ChannelAsk T W → X → X → Type 0

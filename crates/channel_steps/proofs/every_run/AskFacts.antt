@@ -3,7 +3,7 @@ use Rattle.std.proofs.Common.{◌≡◌, List, Option, None, Some, ◌⊎◌, re
 use Rattle.channel_steps.proofs.every_run.Words.{Phase, Continues, Answers, QueueAsk, QueueMark, QueueReply, Key, answered_next, Channel, Effect, leaves, Turned, leaving, ChannelAsk, Reply, Purpose, Ending, ListenerRef, WaitList, Sends, Receives, Streams, Closings, Stage, Trying, Working, NextStep, Works, Ends, Leave, TriesFor, MarkedMoment, removes, Waits, WaitApart}
 use Rattle.concurrent_queue.specs.declared.call.QueueAsk.TheVariants as ask
 use Rattle.channel_calls.specs.declared.ask.ChannelAsk.TheVariants as channel
-use Rattle.channel_calls.specs.declared.stage.Purpose.TheVariants as aim
+use Rattle.channel_calls.specs.declared.stage.Purpose.TheVariants as purpose
 use Rattle.channel_steps.proofs.every_run.ListFacts.{removed_leaves}
 
 module _ {T : Type 0} where
@@ -25,7 +25,7 @@ module _ {T W : Type 0} where
 
   -- ---- what a poll asks
 
-  pub poll_asks : (x : ChannelAsk T W) (line : WaitList) (o : Option Key) (task : W) (a : QueueAsk T) (ds : List (MarkedMoment T W)) (seen : List (Channel T W)) → TriesFor x (aim.Poll line o task) a ds seen → Polls line a
+  pub poll_asks : (x : ChannelAsk T W) (line : WaitList) (o : Option Key) (task : W) (a : QueueAsk T) (ds : List (MarkedMoment T W)) (seen : List (Channel T W)) → TriesFor x (purpose.Poll line o task) a ds seen → Polls line a
   poll_asks (channel.PollSend m k t) Sends o task (ask.Push v) ds seen h = (v, refl)
   poll_asks (channel.PollRecv k t) Receives o task ask.Pop ds seen h = refl
   poll_asks (channel.PollNext k t) Streams o task ask.Pop ds seen h = refl
@@ -41,10 +41,10 @@ module _ {T W : Type 0} where
   leaves_next x (Some k) h r s e t = t
 
   left_line : (line : WaitList) (key : Key) (c : Channel T W) → WaitApart line c → Waits line key (removes (held_by line key) c).channel → ⊥
-  left_line Sends key c apart w = removed_leaves key c.roster.sends apart w
-  left_line Receives key c apart w = removed_leaves key c.roster.receives apart w
-  left_line Streams key c apart w = removed_leaves key c.roster.streams apart w
-  left_line Closings key c apart w = removed_leaves key c.roster.closings apart w
+  left_line Sends key c apart w = removed_leaves key c.wait_lists.sends apart w
+  left_line Receives key c apart w = removed_leaves key c.wait_lists.receives apart w
+  left_line Streams key c apart w = removed_leaves key c.wait_lists.streams apart w
+  left_line Closings key c apart w = removed_leaves key c.wait_lists.closings apart w
 
   -- and who has left waits no more
   pub has_left : (line : WaitList) (key : Key) (c : Channel T W) (o : Option ListenerRef) (e : Effect T W) → o ≡ Some (held_by line key) → e ≡ leaves o c → WaitApart line c → Waits line key e.channel → ⊥

@@ -2,7 +2,7 @@
 use Rattle.std.proofs.Common.{◌≡◌, ℕ, ◌==◌, Bool, true, false, List, [], ◌∷◌, ◌++◌, map, Option, None, Some, Ok, Err, MatchOption, slice_set, if◌then◌else◌, refl, sym, ap, ◌∙◌, subst}
 use Rattle.std.specs.List.{remove}
 use Rattle.concurrent_queue.specs.Bridge as queue
-use Rattle.channel_steps.proofs.every_run.Words.{Contents, asked, QueueReply, QueueForm, QueueCall, first, kept_by, Deed, stepped, Done, Does, Parts, Takes, Leaves, WorkMakes, ChannelMakes, ChannelAsk, Mark, Reply, ListenerRef, Stage, Trying, Working, Finished, ListStep, TellReceive, TellStreams, TellSend, TellSends, TakeRoom, TellAll, Insert, Register, Leave, Lower, Count, Load, Raise, HasBegun, ActiveCall, Configuration, ActiveCallWitness, Represents, StepsAt, HasParty, active_call_of, Entry, Party, IsChannelStep, IsNewCall, after_step, left_by, Act, on_queue, on_roster, on_nothing, Event, begins, Happening, Given, Notes, Acts, own, step_of, steps_of, given_by, given_to, Changes, InOneOrder, IsIdle}
+use Rattle.channel_steps.proofs.every_run.Words.{Contents, asked, QueueReply, QueueForm, QueueCall, first, kept_by, Deed, stepped, Done, Does, Parts, Takes, Leaves, WorkMakes, ChannelMakes, ChannelAsk, Mark, Reply, ListenerRef, Stage, Trying, Working, Finished, ListStep, TellReceive, TellStreams, TellSend, TellSends, TakeRoom, TellAll, Insert, Register, Leave, Lower, Count, Load, Raise, HasBegun, ActiveCall, Configuration, ActiveCallWitness, Represents, StepsAt, HasParty, active_call_of, Entry, Party, IsChannelStep, IsNewCall, after_step, left_by, Act, on_queue, on_wait_lists, on_nothing, Event, begins, Happening, Completed, Notes, Acts, own, step_of, steps_of, given_by, given_to, Changes, InOneOrder, IsIdle}
 use Rattle.concurrent_queue.specs.Deeds as cell
 use Rattle.concurrent_queue.specs.declared.call.QueueAsk.TheVariants as queue_ask
 use Rattle.concurrent_queue.proofs.Bridge.{call_noted, change_keeps_form}
@@ -23,7 +23,7 @@ module _ {T W S : Type 0} (wakes : S → W → S → Type 0) (form : QueueForm) 
   abbrev did : Deed T W → Parts T W × S → Parts T W × S → Type 0
   did = Done Does wakes
 
-  on : (o : Act T W) (d : Deed T W) → o ≡ on_roster d → Changes wakes (does o) c e → did d c e
+  on : (o : Act T W) (d : Deed T W) → o ≡ on_wait_lists d → Changes wakes (does o) c e → did d c e
   on o d is h = subst (λ (x : Act T W). Changes wakes (does x) c e) is h
 
   none : (o : Act T W) → o ≡ on_nothing → Changes wakes (does o) c e → e ≡ c
@@ -34,14 +34,14 @@ module _ {T W S : Type 0} (wakes : S → W → S → Type 0) (form : QueueForm) 
   cells_change None h = ap (λ (x : Parts T W × S). x.0.cells) h
   cells_change (Some d) h = h.0
 
-  roster_stays : (o : Option (cell.Deed T)) → Changes wakes (does (on_queue o)) c e → (e.0.roster ≡ c.0.roster) × (e.1 ≡ c.1)
-  roster_stays None h = (ap (λ (x : Parts T W × S). x.0.roster) h, ap (λ (x : Parts T W × S). x.1) h)
-  roster_stays (Some d) h = (h.1, h.2)
+  wait_lists_stays : (o : Option (cell.Deed T)) → Changes wakes (does (on_queue o)) c e → (e.0.wait_lists ≡ c.0.wait_lists) × (e.1 ≡ c.1)
+  wait_lists_stays None h = (ap (λ (x : Parts T W × S). x.0.wait_lists) h, ap (λ (x : Parts T W × S). x.1) h)
+  wait_lists_stays (Some d) h = (h.1, h.2)
 
   tried : (call next : QueueCall T) (answer : Option (QueueReply T)) (o : Act T W) → Notes form (stepped call next answer) on_nothing o → Changes wakes (does o) c e → did (stepped call next answer) c e
   tried call next answer o (x, makes, is) h =
       let g : Changes wakes (does (on_queue x)) c e = subst (λ (y : Act T W). Changes wakes (does y) c e) is h in
-      let r = roster_stays x g in
+      let r = wait_lists_stays x g in
       ((call_noted c.0.cells e.0.cells form call x next answer same_form makes (cells_change x g), r.0), r.1)
 
   noted : (d : Deed T W) (o : Act T W) → Notes form d on_nothing o → Changes wakes (does o) c e → did d c e
@@ -81,7 +81,7 @@ module _ {T W S : Type 0} (wakes : S → W → S → Type 0) (form : QueueForm) 
   work_form (Raise side n making) m next r (false, ((how, same), woken), t) = ap form_in same
 
   form_after : (at : Stage (QueueCall T) T W) (o : Act T W) (m : Mark) (next : Stage (QueueCall T) T W) (r : Option (Reply T)) → ChannelMakes (Notes form) at on_nothing o m next r → Changes wakes (does o) c e → e.0.cells.form ≡ form
-  form_after (Trying call aim) o m next r (after, answer, (x, makes, is), k, t) h =
+  form_after (Trying call purpose) o m next r (after, answer, (x, makes, is), k, t) h =
       let g : Changes wakes (does (on_queue x)) c e = subst (λ (y : Act T W). Changes wakes (does y) c e) is h in
       change_keeps_form c.0.cells e.0.cells (queue.does x) (cells_change x g) ∙ same_form
   form_after (Working w) o m next r n h = work_form w m next r (made (Working w) o m next r n h) ∙ same_form
@@ -113,34 +113,34 @@ module _ {T W : Type 0} where
 
 module _ {T W S : Type 0} (wakes : S → W → S → Type 0) (form : QueueForm) where
   -- what the run is that goes on so
-  pub record Merged (events : List (Happening T W)) (c : Parts T W × S) (before : List (Party T W)) (given : ℕ → List (Given T)) (last : Parts T W × S) : Type 0 where
+  pub record Merged (events : List (Happening T W)) (c : Parts T W × S) (before : List (Party T W)) (given : ℕ → List (Completed T)) (last : Parts T W × S) : Type 0 where
     pub more : List (Entry T)
     pub parties : List (Party T W)
     pub through : GoThrough wakes (steps_of events) more c before last parties
     pub answers : (p : ℕ) → given_to p events more ≡ given p
 
-  abbrev AllAct : List (Party T W) → List (Happening T W) → (ℕ → List (Given T)) → Type 0
+  abbrev AllAct : List (Party T W) → List (Happening T W) → (ℕ → List (Completed T)) → Type 0
   AllAct parties events given = (p : ℕ) → Acts form (call_of id_of of p parties) (own p events) (given p)
 
   -- how the run goes on behind one event
   abbrev GoesOn : List (Happening T W) → Parts T W × S → Type 0
   GoesOn xs last =
-      (c : Parts T W × S) (parties : List (Party T W)) (given : ℕ → List (Given T))
+      (c : Parts T W × S) (parties : List (Party T W)) (given : ℕ → List (Completed T))
       → c.0.cells.form ≡ form → AllApart id_of of parties → AllAct parties xs given → InOneOrder wakes xs c last → Merged xs c parties given last
 
   -- the others go on as before
-  acts_after : (p : ℕ) (x : Event T W) (xs : List (Happening T W)) (before after : List (Party T W)) (given left : ℕ → List (Given T)) → AllAct before (happens p x ∷ xs) given
+  acts_after : (p : ℕ) (x : Event T W) (xs : List (Happening T W)) (before after : List (Party T W)) (given left : ℕ → List (Completed T)) → AllAct before (happens p x ∷ xs) given
       → Acts form (call_of id_of of p after) (own p xs) (left p) → ((q : ℕ) → (p == q) ≡ false → call_of id_of of q after ≡ call_of id_of of q before) → ((q : ℕ) → (p == q) ≡ false → left q ≡ given q) → AllAct after xs left
   acts_after p x xs before after given left acts mine calls same q = test (p == q) refl
     where
       test : (b : Bool) → (p == q) ≡ b → Acts form (call_of id_of of q after) (own q xs) (left q)
       test true e = subst (λ (n : ℕ). Acts form (call_of id_of of n after) (own n xs) (left n)) (is_same p q e) mine
       test false e =
-          subst (λ (rs : List (Given T)). Acts form (call_of id_of of q after) (own q xs) rs) (sym (same q e))
+          subst (λ (rs : List (Completed T)). Acts form (call_of id_of of q after) (own q xs) rs) (sym (same q e))
           (subst (λ (o : Option (Stage (QueueCall T) T W)). Acts form o (own q xs) (given q)) (sym (calls q e))
           (subst (λ (ys : List (Event T W)). Acts form (call_of id_of of q before) ys (given q)) (own_other p q x xs e) (acts q)))
 
-  joined : (p : ℕ) (x : Event T W) (xs : List (Happening T W)) (e : Entry T) (given left : ℕ → List (Given T)) (last : Parts T W × S)
+  joined : (p : ℕ) (x : Event T W) (xs : List (Happening T W)) (e : Entry T) (given left : ℕ → List (Completed T)) (last : Parts T W × S)
       (c d : Parts T W × S) (parties after : List (Party T W)) → StepLeadsOn wakes c parties (step_of p x) e d after
       → Merged xs d after left last → ((q : ℕ) → (if p == q then given_by e.reply e.kept ++ left q else left q) ≡ given q) → Merged (happens p x ∷ xs) c parties given last
   joined p x xs e given left last c d parties after one m same =
@@ -148,7 +148,7 @@ module _ {T W S : Type 0} (wakes : S → W → S → Type 0) (form : QueueForm) 
         more = e ∷ m.more;
         parties = m.parties;
         through = through_more wakes (step_of p x) (steps_of xs) e m.more c parties d after last m.parties one m.through;
-        answers = λ q. ap (λ (rs : List (Given T)). if p == q then given_by e.reply e.kept ++ rs else rs) (m.answers q) ∙ same q;
+        answers = λ q. ap (λ (rs : List (Completed T)). if p == q then given_by e.reply e.kept ++ rs else rs) (m.answers q) ∙ same q;
       }
 
   -- whose call isn't among those of the parties has none under way
@@ -166,12 +166,12 @@ module _ {T W S : Type 0} (wakes : S → W → S → Type 0) (form : QueueForm) 
       (none_of p sh.witnesses (ap (λ (ps : List (Party T W)). call_of id_of of p ps) (sym sh.parties_are) ∙ none))
 
   -- a call begins
-  idle : (at : Option (Stage (QueueCall T) T W)) (ask : ChannelAsk T W) (ys : List (Event T W)) (rs : List (Given T)) → Acts form at (begins ask ∷ ys) rs
+  idle : (at : Option (Stage (QueueCall T) T W)) (ask : ChannelAsk T W) (ys : List (Event T W)) (rs : List (Completed T)) → Acts form at (begins ask ∷ ys) rs
       → (at ≡ None) × ((s : Stage (QueueCall T) T W) × Takes (first ask) s None × Acts form (Some s) ys rs)
   idle None ask ys rs h = (refl, h)
   idle (Some s) ask ys rs h = absurd h
 
-  begun : (p : ℕ) (ask : ChannelAsk T W) (xs : List (Happening T W)) (c d last : Parts T W × S) (parties : List (Party T W)) (given : ℕ → List (Given T))
+  begun : (p : ℕ) (ask : ChannelAsk T W) (xs : List (Happening T W)) (c d last : Parts T W × S) (parties : List (Party T W)) (given : ℕ → List (Completed T))
       → c.0.cells.form ≡ form → AllApart id_of of parties → AllAct parties (happens p (begins ask) ∷ xs) given
       → d ≡ c → InOneOrder wakes xs d last → GoesOn xs last → Merged (happens p (begins ask) ∷ xs) c parties given last
   begun p ask xs c d last parties given f apart acts same order further =
@@ -193,12 +193,12 @@ module _ {T W S : Type 0} (wakes : S → W → S → Type 0) (form : QueueForm) 
       (λ q. either (p == q) (given q))
 
   -- a call makes a step
-  busy : (at : Option (Stage (QueueCall T) T W)) (o : Act T W) (ys : List (Event T W)) (rs : List (Given T)) → Acts form at (does o ∷ ys) rs
+  busy : (at : Option (Stage (QueueCall T) T W)) (o : Act T W) (ys : List (Event T W)) (rs : List (Completed T)) → Acts form at (does o ∷ ys) rs
       → (s : Stage (QueueCall T) T W) × (at ≡ Some s) × Acts form (Some s) (does o ∷ ys) rs
   busy None o ys rs h = absurd h
   busy (Some s) o ys rs h = (s, refl, h)
 
-  module _ (p : ℕ) (o : Act T W) (xs : List (Happening T W)) (c d last : Parts T W × S) (parties : List (Party T W)) (given : ℕ → List (Given T))
+  module _ (p : ℕ) (o : Act T W) (xs : List (Happening T W)) (c d last : Parts T W × S) (parties : List (Party T W)) (given : ℕ → List (Completed T))
       (f : c.0.cells.form ≡ form) (apart : AllApart id_of of parties) (acts : AllAct parties (happens p (does o) ∷ xs) given)
       (change : Changes wakes (does o) c d) (order : InOneOrder wakes xs d last) (further : GoesOn xs last) (at next : Stage (QueueCall T) T W) (m : Mark) (there : call_of id_of of p parties ≡ Some at) where
     abbrev k : ℕ
@@ -230,7 +230,7 @@ module _ {T W S : Type 0} (wakes : S → W → S → Type 0) (form : QueueForm) 
     leads answer makes = leads_stepped wakes p c parties (entry answer) d (after_step parties k mine answer) apart (is_there, steps_so answer makes)
 
     made_on : (answer : Option (Reply T)) → ChannelMakes (Notes form) at on_nothing o m next answer
-        → MatchOption answer (Acts form (Some next) (own p xs) (given p)) (λ x. (more : List (Given T)) × (given p ≡ record { reply = x; kept = kept_by next } ∷ more) × Acts form None (own p xs) more)
+        → MatchOption answer (Acts form (Some next) (own p xs) (given p)) (λ x. (more : List (Completed T)) × (given p ≡ record { reply = x; kept = kept_by next } ∷ more) × Acts form None (own p xs) more)
         → Merged (happens p (does o) ∷ xs) c parties given last
     made_on None makes goes =
         let after : List (Party T W) = slice_set parties k mine in
@@ -242,10 +242,10 @@ module _ {T W S : Type 0} (wakes : S → W → S → Type 0) (form : QueueForm) 
         (λ q. either (p == q) (given q))
     made_on (Some x) makes (more, is, goes) =
         let after : List (Party T W) = remove parties k in
-        let left : ℕ → List (Given T) = λ q. if p == q then more else given q in
+        let left : ℕ → List (Completed T) = λ q. if p == q then more else given q in
         let now : left p ≡ more = rw (itself p) refl in
         let here : Acts form (call_of id_of of p after) (own p xs) (left p) =
-        subst (λ (rs : List (Given T)). Acts form (call_of id_of of p after) (own p xs) rs) (sym now)
+        subst (λ (rs : List (Completed T)). Acts form (call_of id_of of p after) (own p xs) rs) (sym now)
         (subst (λ (y : Option (Stage (QueueCall T) T W)). Acts form y (own p xs) more) (sym (gone_mine id_of of p parties apart)) goes) in
         joined p (does o) xs (entry (Some x)) given left last c d parties after (leads (Some x) makes)
         (further d after left (form_after wakes form c d f at o m next (Some x) makes change) (gone_apart id_of of p parties apart)
@@ -258,7 +258,7 @@ module _ {T W S : Type 0} (wakes : S → W → S → Type 0) (form : QueueForm) 
         told q true e = rw e (sym is ∙ ap given (is_same p q e))
         told q false e = rw e refl
 
-  happened : (x : Happening T W) (xs : List (Happening T W)) (c d last : Parts T W × S) (parties : List (Party T W)) (given : ℕ → List (Given T))
+  happened : (x : Happening T W) (xs : List (Happening T W)) (c d last : Parts T W × S) (parties : List (Party T W)) (given : ℕ → List (Completed T))
       → (y : Event T W) → c.0.cells.form ≡ form → AllApart id_of of parties → AllAct parties (happens x.party y ∷ xs) given
       → Changes wakes y c d → InOneOrder wakes xs d last → GoesOn xs last → Merged (happens x.party y ∷ xs) c parties given last
   happened x xs c d last parties given (begins ask) f apart acts change order further = begun x.party ask xs c d last parties given f apart acts change order further

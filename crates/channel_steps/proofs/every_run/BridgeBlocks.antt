@@ -35,7 +35,7 @@ module _ {T W X : Type 0} (did : Deed T W → X → X → Type 0) (asked : Optio
   worked w s t m next r h = h
 
   made : (at : Stage (QueueCall T) T W) (s t : X) (m : Mark) (next : Stage (QueueCall T) T W) (r : Option (Reply T)) → ChannelMakes did at s t m next r → ChannelMakes after at s t m next r
-  made (Trying call aim) s t m next r h = h
+  made (Trying call purpose) s t m next r h = h
   made (Working w) s t m next r h = worked w s t m next r h
   made (Finished kept) s t m next r h = h
 

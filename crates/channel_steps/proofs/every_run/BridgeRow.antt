@@ -1,6 +1,6 @@
 -- Two clones of a sender, merged.
 use Rattle.std.proofs.Common.{◌≡◌, ℕ, ◌==◌, ◌<◌, ◌^◌, Bool, true, false, [], None, Some, inr, refl, subst, arith}
-use Rattle.channel_steps.proofs.every_run.Words.{QueueForm, up, Parts, new_roster, with_count, with_roster, nothing_kept, Senders, Working, Finished, Load, Raise, Made, Clone, Acts, own, opened_parts, InOneOrder, two_clones, parts_of_three, given_made, both_made, TwoClonesMerge}
+use Rattle.channel_steps.proofs.every_run.Words.{QueueForm, up, Parts, new_wait_lists, with_count, with_wait_lists, nothing_kept, Senders, Working, Finished, Load, Raise, Made, Clone, Acts, own, opened_parts, InOneOrder, two_clones, parts_of_three, given_made, both_made, TwoClonesMerge}
 use Rattle.concurrent_queue.proofs.Callers.{is_same}
 use Rattle.channel_calls.specs.declared.mark.Mark.TheVariants.{Nothing}
 
@@ -52,7 +52,7 @@ module _ (T W : Type 0) (form : QueueForm) where
   new = opened_parts form
 
   abbrev two : Parts T W
-  two = with_roster (with_count Senders 2 new_roster) new
+  two = with_wait_lists (with_count Senders 2 new_wait_lists) new
 
   in_turn : {S : Type 0} (wakes : S → W → S → Type 0) (sink : S) → InOneOrder {T = T} wakes two_clones (new, sink) (parts_of_three form, sink)
   in_turn wakes sink =

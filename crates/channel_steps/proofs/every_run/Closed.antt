@@ -36,11 +36,11 @@ module _ {T W : Type 0} where
   abbrev pub Does : Channel T W → Stage (Phase T) T W → Effect T W → Type 0
   Does c at e = Keeps c.queue e.channel.queue × MayStillDo e.mark c at
 
-  may_mark : (c : Channel T W) (f : Phase T) (aim : Purpose T W) (m : QueueMark) → MayMark m f.stage c.queue → MayStillDo (mark_of_queue m) c (Trying f aim)
-  may_mark c f aim queue.Append h = h
-  may_mark c f aim queue.Replace h = h
-  may_mark c f aim queue.Close h = h
-  may_mark c f aim w h = tt
+  may_mark : (c : Channel T W) (f : Phase T) (purpose : Purpose T W) (m : QueueMark) → MayMark m f.stage c.queue → MayStillDo (mark_of_queue m) c (Trying f purpose)
+  may_mark c f purpose queue.Append h = h
+  may_mark c f purpose queue.Replace h = h
+  may_mark c f purpose queue.Close h = h
+  may_mark c f purpose w h = tt
 
   still_may : (c : Channel T W) (at : Stage (Phase T) T W) (m : Mark) → IsStill m → MayStillDo m c at
   still_may c at Append h = absurd h

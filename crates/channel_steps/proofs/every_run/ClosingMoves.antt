@@ -7,7 +7,7 @@ use Rattle.concurrent_queue.specs.declared.call.QueueMark.TheVariants.{Append, T
 use Rattle.concurrent_queue.specs.declared.call.QueueReply.TheVariants as answer
 use Rattle.concurrent_queue.specs.declared.error.PopError.TheVariants as pop_error
 use Rattle.concurrent_queue.specs.declared.error.PushError.TheVariants as push_error
-use Rattle.channel_calls.specs.declared.stage.Purpose.TheVariants as aim
+use Rattle.channel_calls.specs.declared.stage.Purpose.TheVariants as purpose
 use Rattle.channel_steps.proofs.Interface.{answer_marks}
 use Rattle.channel_steps.proofs.every_run.AllOwed.{FreeOrTold, free_more}
 use Rattle.channel_steps.proofs.SuitFacts.{IsClose, closes_by}
@@ -105,13 +105,13 @@ module _ {T W : Type 0} where
 
   -- it goes on so, or drops its listener
   module _ (q : Queue T) (shut : IsShut q) (x : ChannelAsk T W) (k : Key) (task : W) (a : QueueAsk T) (ds : List (MarkedMoment T W)) (seen : List (Channel T W)) where
-    looks_on : (line : WaitList) (m : QueueMark) (s t : queue.Stage T) → TriesFor x (aim.Poll line (Some k) task) a ds seen → ContinuesBy q a m s t → HasNoCauseToWait s → HasNoCauseToWait t
+    looks_on : (line : WaitList) (m : QueueMark) (s t : queue.Stage T) → TriesFor x (purpose.Poll line (Some k) task) a ds seen → ContinuesBy q a m s t → HasNoCauseToWait s → HasNoCauseToWait t
     looks_on Sends m s t h g n = let p = poll_asks x Sends (Some k) task a ds seen h in push_looks q shut m s t (subst (λ (z : QueueAsk T). ContinuesBy q z m s t) p.1 g) n
     looks_on Receives m s t h g n = pop_looks q shut m s t (subst (λ (z : QueueAsk T). ContinuesBy q z m s t) (poll_asks x Receives (Some k) task a ds seen h) g) n
     looks_on Streams m s t h g n = pop_looks q shut m s t (subst (λ (z : QueueAsk T). ContinuesBy q z m s t) (poll_asks x Streams (Some k) task a ds seen h) g) n
     looks_on Closings m s t h g n = absurd (subst (λ (z : QueueAsk T). ContinuesBy q z m s t) (poll_asks x Closings (Some k) task a ds seen h) g)
 
-    drops : (line : WaitList) (m : QueueMark) (reply : QueueReply T) (s : queue.Stage T) → TriesFor x (aim.Poll line (Some k) task) a ds seen → AnswersTo q a m reply s → HasNoCauseToWait s → Drops line k (polled_next line reply (Some k) task)
+    drops : (line : WaitList) (m : QueueMark) (reply : QueueReply T) (s : queue.Stage T) → TriesFor x (purpose.Poll line (Some k) task) a ds seen → AnswersTo q a m reply s → HasNoCauseToWait s → Drops line k (polled_next line reply (Some k) task)
     drops Sends m reply s h g n =
         let p = poll_asks x Sends (Some k) task a ds seen h in push_drops q shut k task p.0 m reply s (subst (λ (z : QueueAsk T). AnswersTo q z m reply s) p.1 g) n
     drops Receives m reply s h g n = let d = pop_drops q shut k task m reply s (subst (λ (z : QueueAsk T). AnswersTo q z m reply s) (poll_asks x Receives (Some k) task a ds seen h) g) in d.0
@@ -119,7 +119,7 @@ module _ {T W : Type 0} where
     drops Closings m reply s h g n = ask_drops q shut k task m reply s (subst (λ (z : QueueAsk T). AnswersTo q z m reply s) (poll_asks x Closings (Some k) task a ds seen h) g)
 
   polls_on : (c : Channel T W) (x : ChannelAsk T W) (f : Phase T) (line : WaitList) (k : Key) (task : W) (m : QueueMark) (ds : List (MarkedMoment T W)) (seen : List (Channel T W)) (r : Option (Reply T)) (s : Stage (Phase T) T W)
-      → Shut c → TriesFor x (aim.Poll line (Some k) task) f.ask ds seen → HasNoCauseToWait f.stage → How c f (aim.Poll line (Some k) task) m r s → StillLooks line k r s
+      → Shut c → TriesFor x (purpose.Poll line (Some k) task) f.ask ds seen → HasNoCauseToWait f.stage → How c f (purpose.Poll line (Some k) task) m r s → StillLooks line k r s
   polls_on c x f line k task m ds seen r s shut h n (inl (f', goes, none, there)) =
       (none, subst (λ (z : Stage (Phase T) T W). LooksAgain line k z) (sym there) (refl, refl, looks_on c.queue shut x k task f.ask ds seen line m f.stage f'.stage h goes.1 n))
   polls_on c x f line k task m ds seen r s shut h n (inr (reply, ans, turned)) =
@@ -127,7 +127,7 @@ module _ {T W : Type 0} where
 
   pub looks_goes : (c : Channel T W) (x : ChannelAsk T W) (at : Stage (Phase T) T W) (ds : List (MarkedMoment T W)) (seen : List (Channel T W)) (e : Effect T W) (r : Option (Reply T)) (s : Stage (Phase T) T W) (line : WaitList) (key : Key)
       → StageAt c x at ds seen → Moves c at e r s → Shut c → LooksAgain line key at → WaitApart line c → Waits line key e.channel → StillLooks line key r s
-  looks_goes c x (Trying f (aim.Poll at (Some k) task)) ds seen e r s line key st g shut h apart w =
+  looks_goes c x (Trying f (purpose.Poll at (Some k) task)) ds seen e r s line key st g shut h apart w =
       let on = polls_on c x f at k task g.mark ds seen r s shut st.0 h.2 g.how in
       (on.0, subst (λ (l : WaitList). LooksAgain l key s) h.0 (subst (λ (z : Key). LooksAgain at z s) h.1 on.1))
   looks_goes c x (Working (TellSend z)) ds seen e r s line key st g shut h apart w =
@@ -168,7 +168,7 @@ module _ {T W : Type 0} (line : WaitList) where
 
   -- who has closed tells all lists next
   tells_first : (x : ChannelAsk T W) (y : Purpose T W) → IsClose y → 1 ≤ weigh_turn counts_for_closing x (answered_next y (let r : QueueReply T = answer.Close true in r))
-  tells_first x (aim.Close closer) h = omega arith
+  tells_first x (purpose.Close closer) h = omega arith
   tells_first x y h = absurd h
 
   tried_pays : (c : Channel T W) (x : ChannelAsk T W) (f : Phase T) (y : Purpose T W) (m : QueueMark) (ds : List (MarkedMoment T W)) (seen : List (Channel T W)) (r : Option (Reply T)) (s : Stage (Phase T) T W)

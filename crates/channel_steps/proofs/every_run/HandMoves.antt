@@ -5,7 +5,7 @@ use Rattle.concurrent_queue.specs.Queue as queue
 use Rattle.concurrent_queue.specs.declared.call.QueueReply.TheVariants as answer
 use Rattle.concurrent_queue.specs.declared.error.PopError.TheVariants as pop_error
 use Rattle.concurrent_queue.specs.declared.error.PushError.TheVariants as push_error
-use Rattle.channel_calls.specs.declared.stage.Purpose.TheVariants as aim
+use Rattle.channel_calls.specs.declared.stage.Purpose.TheVariants as purpose
 use Rattle.channel_steps.proofs.every_run.AskFacts.{How, poll_asks, held_by, leaves_next, has_left}
 use Rattle.channel_steps.proofs.every_run.ListMoves.{Tries}
 
@@ -21,7 +21,7 @@ module _ {T W : Type 0} where
 
   -- a poll that looks again has its listener in hand
   pub looks_holds : (line : WaitList) (key : Key) (at : Stage (Phase T) T W) → LooksAgain line key at → HoldsListener line key at
-  looks_holds line key (Trying f (aim.Poll at (Some k) task)) h = (h.0, h.1)
+  looks_holds line key (Trying f (purpose.Poll at (Some k) task)) h = (h.0, h.1)
   looks_holds line key (Working (TellSend x)) h = h
   looks_holds line key (Working (Leave x)) h = h
   looks_holds line key at h = absurd h
@@ -72,7 +72,7 @@ module _ {T W : Type 0} where
     poll_answered : (line : WaitList) → IsOneByOne line
         → (x : ChannelAsk T W) (a : QueueAsk T) (ds : List (MarkedMoment T W)) (seen : List (Channel T W)) (m : QueueMark)
         (reply : QueueReply T) (s : queue.Stage T)
-        → TriesFor x (aim.Poll line (Some k) task) a ds seen → AnswersTo q a m reply s
+        → TriesFor x (purpose.Poll line (Some k) task) a ds seen → AnswersTo q a m reply s
         → DropsLater line k (polled_next line reply (Some k) task) ⊎ ((m ≡ Nothing) × HasCause line q)
     poll_answered Sends one x a ds seen m reply s h ans =
         let p = poll_asks x Sends (Some k) task a ds seen h in push_answered p.0 m reply s
@@ -91,8 +91,8 @@ module _ {T W : Type 0} where
   polls : (line : WaitList) (key : Key) → IsOneByOne line
       → (c : Channel T W) (x : ChannelAsk T W) (f : Phase T) (task : W) (m : QueueMark) (ds : List (MarkedMoment T W))
       (seen : List (Channel T W)) (e : Effect T W) (r : Option (Reply T)) (s : Stage (Phase T) T W)
-      → e ≡ queued f m c → TriesFor x (aim.Poll line (Some key) task) f.ask ds seen
-      → How c f (aim.Poll line (Some key) task) m r s → HoldsOrWaits line key e r s
+      → e ≡ queued f m c → TriesFor x (purpose.Poll line (Some key) task) f.ask ds seen
+      → How c f (purpose.Poll line (Some key) task) m r s → HoldsOrWaits line key e r s
   polls line key one c x f task m ds seen e r s effect h (inl (f', goes, none, there)) =
       inl (none, subst (λ (z : Stage (Phase T) T W). HoldsListener line key z) (sym there) (refl, refl))
   polls line key one c x f task m ds seen e r s effect h (inr (reply, ans, turned)) =
@@ -105,7 +105,7 @@ module _ {T W : Type 0} where
       (seen : List (Channel T W)) (e : Effect T W) (r : Option (Reply T)) (s : Stage (Phase T) T W) where
     pub holds_on : (at : Stage (Phase T) T W) → StageAt c x at ds seen → Moves c at e r s → HoldsListener line key at
         → WaitApart line c → Waits line key e.channel → HoldsOrWaits line key e r s
-    holds_on (Trying f (aim.Poll at (Some k) task)) st g h apart w =
+    holds_on (Trying f (purpose.Poll at (Some k) task)) st g h apart w =
         subst (λ (z : WaitList). HoldsOrWaits z key e r s) h.0 (subst (λ (z : Key). HoldsOrWaits at z e r s) h.1
         (polls at k (subst IsOneByOne (sym h.0) one) c x f task g.mark ds seen e r s g.effect st.0 g.how))
     holds_on (Working (TellReceive z)) st g h apart w = inl (holds_at line key (Working (TellStreams z)) r s h g.1)

@@ -8,33 +8,33 @@ use Rattle.channel_steps.proofs.every_run.ListFacts.{Thinner, thin_same, thin_to
 module _ {T W : Type 0} where
   -- nobody came in on this list
   abbrev pub Thins : WaitList → Channel T W → Effect T W → Type 0
-  Thins line c e = Thinner (listeners line c.roster).waiting (listeners line e.channel.roster).waiting
+  Thins line c e = Thinner (listeners line c.wait_lists).waiting (listeners line e.channel.wait_lists).waiting
 
   -- a poll came in on this list under a new key, and tries again next
   abbrev pub ComesIn : WaitList → Channel T W → Effect T W → Option (Reply T) → Stage (Phase T) T W → Type 0
   ComesIn line c e r s =
       (w : Waiting T) × (task : W) × (key : Key)
       × (line_of w ≡ line)
-      × (IsIn key (listeners line c.roster).waiting → ⊥)
-      × (listeners line e.channel.roster ≡ listened key (listeners line c.roster))
+      × (IsIn key (listeners line c.wait_lists).waiting → ⊥)
+      × (listeners line e.channel.wait_lists ≡ listened key (listeners line c.wait_lists))
       × Turned (again w (Some key) task) r s
 
   abbrev pub Either : WaitList → Channel T W → Option (Reply T) → Stage (Phase T) T W → Effect T W → Type 0
   Either line c r s e = Thins line c e ⊎ ComesIn line c e r s
 
   module _ (line : WaitList) (c : Channel T W) (e : Effect T W) (r : Option (Reply T)) (s : Stage (Phase T) T W) where
-    thins_to : (l : Listeners W) → listeners line e.channel.roster ≡ l → Thinner (listeners line c.roster).waiting l.waiting → Either line c r s e
-    thins_to l is h = inl (subst (λ (z : Listeners W). Thinner (listeners line c.roster).waiting z.waiting) (sym is) h)
+    thins_to : (l : Listeners W) → listeners line e.channel.wait_lists ≡ l → Thinner (listeners line c.wait_lists).waiting l.waiting → Either line c r s e
+    thins_to l is h = inl (subst (λ (z : Listeners W). Thinner (listeners line c.wait_lists).waiting z.waiting) (sym is) h)
 
-    touched_lists : (w : ListStep T W) → Touched w r s line (listeners line c.roster) (listeners line e.channel.roster) → Either line c r s e
-    touched_lists (TellReceive x) (at, is) = thins_to _ is (thin_told_one (listeners line c.roster))
-    touched_lists (TellStreams x) (at, is) = thins_to _ is (thin_told_all (listeners line c.roster))
-    touched_lists (TellSend x) (at, is) = thins_to _ is (thin_told_one (listeners line c.roster))
-    touched_lists (TellSends n x) (at, is) = thins_to _ is (thin_told_more n (listeners line c.roster))
-    touched_lists (TellAll to closer) (at, is) = thins_to _ is (thin_told_all (listeners line c.roster))
-    touched_lists (Insert w task) (at, key, new, is, turned) = inr (w, task, key, sym at, newcomer key (listeners line c.roster) new, is, turned)
-    touched_lists (Register w key task) (at, is, turned) = thins_to _ is (thin_registration key task (listeners line c.roster))
-    touched_lists (Leave x) (h, at, is) = thins_to _ is (thin_removed h.key (listeners line c.roster))
+    touched_lists : (w : ListStep T W) → Touched w r s line (listeners line c.wait_lists) (listeners line e.channel.wait_lists) → Either line c r s e
+    touched_lists (TellReceive x) (at, is) = thins_to _ is (thin_told_one (listeners line c.wait_lists))
+    touched_lists (TellStreams x) (at, is) = thins_to _ is (thin_told_all (listeners line c.wait_lists))
+    touched_lists (TellSend x) (at, is) = thins_to _ is (thin_told_one (listeners line c.wait_lists))
+    touched_lists (TellSends n x) (at, is) = thins_to _ is (thin_told_more n (listeners line c.wait_lists))
+    touched_lists (TellAll to closer) (at, is) = thins_to _ is (thin_told_all (listeners line c.wait_lists))
+    touched_lists (Insert w task) (at, key, new, is, turned) = inr (w, task, key, sym at, newcomer key (listeners line c.wait_lists) new, is, turned)
+    touched_lists (Register w key task) (at, is, turned) = thins_to _ is (thin_registration key task (listeners line c.wait_lists))
+    touched_lists (Leave x) (h, at, is) = thins_to _ is (thin_removed h.key (listeners line c.wait_lists))
     touched_lists w h = absurd h
 
   thins_as : (line : WaitList) (c : Channel T W) (e e' : Effect T W) → e ≡ e' → Thins line c e' → Thins line c e
@@ -42,7 +42,7 @@ module _ {T W : Type 0} where
 
   -- any step
   pub moved_lists : (line : WaitList) (c : Channel T W) (at : Stage (Phase T) T W) (e : Effect T W) (r : Option (Reply T)) (s : Stage (Phase T) T W) → Moves c at e r s → Either line c r s e
-  moved_lists line c (Trying f aim) e r s h = inl (thins_as line c e (queued f h.mark c) h.effect (thin_same _))
+  moved_lists line c (Trying f purpose) e r s h = inl (thins_as line c e (queued f h.mark c) h.effect (thin_same _))
   moved_lists line c (Working w) e r s h =
       ⊎_elim (λ k. thins_to line c e r s _ k.0 (thin_same _)) (λ k. touched_lists line c e r s w k) (section line c e r s w h)
   moved_lists line c (Finished kept) e r s h = inl (thins_as line c e _ h.0 (thin_same _))
@@ -60,12 +60,12 @@ module _ {T W : Type 0} where
         ⊎_elim
         (λ k. inl k)
         (λ k. inr (wait, task, at, subst (λ (z : Key). Turned (again wait (Some z) task) r s) k turned))
-        (in_more key (key', None) (listeners line c.roster).waiting (subst (λ (l : Listeners W). IsIn key l.waiting) there w))
+        (in_more key (key', None) (listeners line c.wait_lists).waiting (subst (λ (l : Listeners W). IsIn key l.waiting) there w))
 
     pub stays_apart : Either line c r s e → WaitApart line c → WaitApart line e.channel
     stays_apart (inl h) apart = h.1 apart
     stays_apart (inr (wait, task, key', at, new, there, turned)) apart =
-        subst (λ (l : Listeners W). Apart l.waiting) (sym there) (apart_more (key', None) (listeners line c.roster).waiting new apart)
+        subst (λ (l : Listeners W). Apart l.waiting) (sym there) (apart_more (key', None) (listeners line c.wait_lists).waiting new apart)
 
   -- nobody stands twice on a list after one entry of a run
   pub apart_next : (line : WaitList) (s : Configuration T W) (x : Step T W) (e : Entry T) (names : List W) (t : Configuration T W) → Next s x e names t → WaitApart line s.now → WaitApart line t.now

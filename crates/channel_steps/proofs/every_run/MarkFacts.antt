@@ -8,7 +8,7 @@ use Rattle.channel_calls.specs.declared.error.Refused.TheVariants as refused
 use Rattle.channel_calls.specs.declared.error.TrySendError.TheVariants as try_send_error
 use Rattle.channel_calls.specs.declared.error.TryRecvError.TheVariants as try_recv_error
 use Rattle.channel_calls.specs.declared.reply.Reply.TheVariants as reply
-use Rattle.channel_calls.specs.declared.stage.Purpose.TheVariants as aim
+use Rattle.channel_calls.specs.declared.stage.Purpose.TheVariants as purpose
 use Rattle.channel_calls.specs.declared.stage.Closer.TheVariants as closer
 use Rattle.channel_steps.specs.every_run.Ends.{Each}
 
@@ -235,25 +235,25 @@ module _ {T W : Type 0} where
 
   tries : (now : Channel T W) (a : ChannelAsk T W) (y : Purpose T W) (x : QueueAsk T) (s : queue.Stage T) (ds : List (MarkedMoment T W))
       (seen : List (Channel T W)) → TriesFor a y x ds seen → TriesAt now y x s ds seen → Begun a ds
-  tries now (ask.TrySend m) aim.TrySend (q.Push v) s ds seen t h = whole (ask.TrySend m) ds (pushed now v s ds seen h)
-  tries now (ask.ForceSend m) aim.ForceSend (q.ForcePush v) s ds seen t h = forced now m v s ds seen h
-  tries now ask.TryRecv aim.TryRecv q.Pop s ds seen t h = whole ask.TryRecv ds (popped now s ds seen h)
-  tries now (ask.RecvMany n) (aim.RecvMany g) q.Pop s ds seen t h = whole (ask.RecvMany n) ds (several now n g.taken ds h.0 s seen h.1 h.2 (omega (arith, t)))
-  tries now ask.Close (aim.Close closer.Call) q.Close s ds seen t h = nothing ask.Close ds t
-  tries now (ask.PollSend m k w) (aim.Poll Sends key task) (q.Push v) s ds seen t h = whole (ask.PollSend m k w) ds (pushed now v s ds seen h)
-  tries now (ask.PollRecv k w) (aim.Poll Receives key task) q.Pop s ds seen t h = whole (ask.PollRecv k w) ds (popped now s ds seen h)
-  tries now (ask.PollClosed k w) (aim.Poll Closings key task) q.IsClosed s ds seen t h = nothing (ask.PollClosed k w) ds (questioned now q.IsClosed s ds seen tt h)
-  tries now (ask.PollNext k w) (aim.Poll Streams key task) q.Pop s ds seen t h = whole (ask.PollNext k w) ds (popped now s ds seen h)
-  tries now ask.DropSender (aim.Close closer.Sender) q.Close s ds seen t h = whole ask.DropSender ds (inl (left_marks Senders ds seen t))
-  tries now (ask.DropReceiver k) (aim.Close (closer.Receiver key)) q.Close s ds seen t h = whole (ask.DropReceiver k) ds (inl (left_marks Receivers ds seen t))
-  tries now (ask.Upgrade side) (aim.Upgrade z) q.IsClosed s ds seen t h = nothing (ask.Upgrade side) ds (questioned now q.IsClosed s ds seen tt h)
-  tries now ask.IsClosed aim.Ask q.IsClosed s ds seen t h = nothing ask.IsClosed ds (questioned now q.IsClosed s ds seen tt h)
-  tries now ask.IsEmpty aim.Ask q.IsEmpty s ds seen t h = nothing ask.IsEmpty ds (questioned now q.IsEmpty s ds seen tt h)
-  tries now ask.IsFull aim.Ask q.IsFull s ds seen t h = nothing ask.IsFull ds (questioned now q.IsFull s ds seen tt h)
-  tries now ask.Len aim.Ask q.Len s ds seen t h = nothing ask.Len ds (questioned now q.Len s ds seen tt h)
-  tries now ask.Capacity aim.Ask q.Capacity s ds seen t h = nothing ask.Capacity ds (questioned now q.Capacity s ds seen tt h)
-  tries now ask.IsTerminated aim.IsTerminated q.IsClosed s ds seen t h = nothing ask.IsTerminated ds (questioned now q.IsClosed s ds seen tt h)
-  tries now ask.IsTerminated aim.Ask q.IsEmpty s ds seen t h = nothing ask.IsTerminated ds (questioned now q.IsEmpty s ds seen tt h)
+  tries now (ask.TrySend m) purpose.TrySend (q.Push v) s ds seen t h = whole (ask.TrySend m) ds (pushed now v s ds seen h)
+  tries now (ask.ForceSend m) purpose.ForceSend (q.ForcePush v) s ds seen t h = forced now m v s ds seen h
+  tries now ask.TryRecv purpose.TryRecv q.Pop s ds seen t h = whole ask.TryRecv ds (popped now s ds seen h)
+  tries now (ask.RecvMany n) (purpose.RecvMany g) q.Pop s ds seen t h = whole (ask.RecvMany n) ds (several now n g.taken ds h.0 s seen h.1 h.2 (omega (arith, t)))
+  tries now ask.Close (purpose.Close closer.Call) q.Close s ds seen t h = nothing ask.Close ds t
+  tries now (ask.PollSend m k w) (purpose.Poll Sends key task) (q.Push v) s ds seen t h = whole (ask.PollSend m k w) ds (pushed now v s ds seen h)
+  tries now (ask.PollRecv k w) (purpose.Poll Receives key task) q.Pop s ds seen t h = whole (ask.PollRecv k w) ds (popped now s ds seen h)
+  tries now (ask.PollClosed k w) (purpose.Poll Closings key task) q.IsClosed s ds seen t h = nothing (ask.PollClosed k w) ds (questioned now q.IsClosed s ds seen tt h)
+  tries now (ask.PollNext k w) (purpose.Poll Streams key task) q.Pop s ds seen t h = whole (ask.PollNext k w) ds (popped now s ds seen h)
+  tries now ask.DropSender (purpose.Close closer.Sender) q.Close s ds seen t h = whole ask.DropSender ds (inl (left_marks Senders ds seen t))
+  tries now (ask.DropReceiver k) (purpose.Close (closer.Receiver key)) q.Close s ds seen t h = whole (ask.DropReceiver k) ds (inl (left_marks Receivers ds seen t))
+  tries now (ask.Upgrade side) (purpose.Upgrade z) q.IsClosed s ds seen t h = nothing (ask.Upgrade side) ds (questioned now q.IsClosed s ds seen tt h)
+  tries now ask.IsClosed purpose.Ask q.IsClosed s ds seen t h = nothing ask.IsClosed ds (questioned now q.IsClosed s ds seen tt h)
+  tries now ask.IsEmpty purpose.Ask q.IsEmpty s ds seen t h = nothing ask.IsEmpty ds (questioned now q.IsEmpty s ds seen tt h)
+  tries now ask.IsFull purpose.Ask q.IsFull s ds seen t h = nothing ask.IsFull ds (questioned now q.IsFull s ds seen tt h)
+  tries now ask.Len purpose.Ask q.Len s ds seen t h = nothing ask.Len ds (questioned now q.Len s ds seen tt h)
+  tries now ask.Capacity purpose.Ask q.Capacity s ds seen t h = nothing ask.Capacity ds (questioned now q.Capacity s ds seen tt h)
+  tries now ask.IsTerminated purpose.IsTerminated q.IsClosed s ds seen t h = nothing ask.IsTerminated ds (questioned now q.IsClosed s ds seen tt h)
+  tries now ask.IsTerminated purpose.Ask q.IsEmpty s ds seen t h = nothing ask.IsTerminated ds (questioned now q.IsEmpty s ds seen tt h)
   tries now a y x s ds seen t h = absurd t
 
   -- ---- while a list or a count has the next step

@@ -27,10 +27,10 @@ module _ {T W : Type 0} where
   by_line line l names c = ([], refl)
 
   by_one : (line : WaitList) (c : moves.Channel T W) → Does c (tells_one line c)
-  by_one line c = by_line line (told_one (listeners line c.roster)) (told_one_wakes (listeners line c.roster)) c
+  by_one line c = by_line line (told_one (listeners line c.wait_lists)) (told_one_wakes (listeners line c.wait_lists)) c
 
   by_all : (line : WaitList) (c : moves.Channel T W) → Does c (tells_all line c)
-  by_all line c = by_line line (told_all (listeners line c.roster)) (told_all_wakes (listeners line c.roster)) c
+  by_all line c = by_line line (told_all (listeners line c.wait_lists)) (told_all_wakes (listeners line c.wait_lists)) c
 
   by_none : (c : moves.Channel T W) → Does c (untouched c)
   by_none c = ([], refl)
@@ -38,48 +38,48 @@ module _ {T W : Type 0} where
   by_leaving : (o : Option ListenerRef) (c : moves.Channel T W) → Does c (leaves o c)
   by_leaving None c = by_none c
   by_leaving (Some h) c =
-      by_line h.line (removed h.key true (listeners h.line c.roster)) (removed_wakes h.key true (listeners h.line c.roster)) c
+      by_line h.line (removed h.key true (listeners h.line c.wait_lists)) (removed_wakes h.key true (listeners h.line c.wait_lists)) c
 
   by_lowering : (s : Side) (c : moves.Channel T W) → Does c (lowers s c)
   by_lowering Senders c = ([], refl)
   by_lowering Receivers c = ([], refl)
 
-  was_read : (s : Side) (n : ℕ) (c : moves.Channel T W) → is_raised s n c.roster ≡ true → n ≡ count s c.roster
-  was_read s n c h = by (count s c.roster == n) refl h where
-    by : (b : Bool) → (count s c.roster == n) ≡ b → (b && nat_lt n (2 ^ 64 - 1)) ≡ true → n ≡ count s c.roster
-    by true e g = sym (let same : count s c.roster ≡ n = grind (arith, nat_tests, e) in same)
+  was_read : (s : Side) (n : ℕ) (c : moves.Channel T W) → is_raised s n c.wait_lists ≡ true → n ≡ count s c.wait_lists
+  was_read s n c h = by (count s c.wait_lists == n) refl h where
+    by : (b : Bool) → (count s c.wait_lists == n) ≡ b → (b && nat_lt n (2 ^ 64 - 1)) ≡ true → n ≡ count s c.wait_lists
+    by true e g = sym (let same : count s c.wait_lists ≡ n = grind (arith, nat_tests, e) in same)
     by false e g = absurd (let no : false ≡ true = g in cc)
 
-  by_raising : (s : Side) (n : ℕ) (c : moves.Channel T W) → n ≡ count s c.roster → Does c (moves.on_count s (n + 1) (up s) c)
+  by_raising : (s : Side) (n : ℕ) (c : moves.Channel T W) → n ≡ count s c.wait_lists → Does c (moves.on_count s (n + 1) (up s) c)
   by_raising Senders n c e = ([], ap (λ (k : ℕ). record (plain c) { senders = k + 1 }) e)
   by_raising Receivers n c e = ([], ap (λ (k : ℕ). record (plain c) { receivers = k + 1 }) e)
 
-  raised_or : (s : Side) (n : ℕ) (c : moves.Channel T W) (b : Bool) → is_raised s n c.roster ≡ b
+  raised_or : (s : Side) (n : ℕ) (c : moves.Channel T W) (b : Bool) → is_raised s n c.wait_lists ≡ b
       → Does c (if b then moves.on_count s (n + 1) (up s) c else untouched c)
   raised_or s n c true e = by_raising s n c (was_read s n c e)
   raised_or s n c false e = by_none c
 
   by_inserting : (c : moves.Channel T W) (w : Waiting T) (task : W) (e : Effect T W) (r : Option (Reply T)) (s : Stage (Phase T) T W)
       → Inserts w task c e r s → Does c e
-  by_inserting c w task e r s (inl (key, new, same, t)) = as_it c e _ same (by_line (line_of w) (listened key (listeners (line_of w) c.roster)) [] c)
+  by_inserting c w task e r s (inl (key, new, same, t)) = as_it c e _ same (by_line (line_of w) (listened key (listeners (line_of w) c.wait_lists)) [] c)
   by_inserting c w task e r s (inr (error, same, t)) = as_it c e _ same (by_none c)
 
   by_work : (c : moves.Channel T W) (w : ListStep T W) (e : Effect T W) (r : Option (Reply T)) (s : Stage (Phase T) T W) → Worked c w e r s → Does c e
   by_work c (TellReceive x) e r s h = as_it c e _ h.0 (by_one Receives c)
   by_work c (TellStreams x) e r s h = as_it c e _ h.0 (by_all Streams c)
   by_work c (TellSend x) e r s h = as_it c e _ h.0 (by_one Sends c)
-  by_work c (TellSends n x) e r s h = as_it c e _ h.0 (by_line Sends (told_more n (listeners Sends c.roster)) (told_more_wakes n (listeners Sends c.roster)) c)
+  by_work c (TellSends n x) e r s h = as_it c e _ h.0 (by_line Sends (told_more n (listeners Sends c.wait_lists)) (told_more_wakes n (listeners Sends c.wait_lists)) c)
   by_work c (TellAll line closer) e r s h = as_it c e _ h.0 (by_all line c)
   by_work c (Insert w task) e r s h = by_inserting c w task e r s h
-  by_work c (Register w key task) e r s h = as_it c e _ h.0 (by_line (line_of w) (registration key task (listeners (line_of w) c.roster)) [] c)
+  by_work c (Register w key task) e r s h = as_it c e _ h.0 (by_line (line_of w) (registration key task (listeners (line_of w) c.wait_lists)) [] c)
   by_work c (Leave x) e r s h = as_it c e _ h.0 (by_leaving x.held c)
   by_work c (Lower side key) e r s h = as_it c e _ h.0 (by_lowering side c)
-  by_work c (Raise side n making) e r s h = as_it c e _ h.0 (raised_or side n c (is_raised side n c.roster) refl)
+  by_work c (Raise side n making) e r s h = as_it c e _ h.0 (raised_or side n c (is_raised side n c.wait_lists) refl)
   by_work c w e r s h = as_it c e _ h.0 (by_none c)
 
   by_stage : (c : moves.Channel T W) (at : Stage (Phase T) T W) (e : Effect T W) (r : Option (Reply T)) (s : Stage (Phase T) T W)
       → Moves c at e r s → Does c e
-  by_stage c (Trying f aim) e r s h = as_it c e _ h.effect (by_queue f h.mark c)
+  by_stage c (Trying f purpose) e r s h = as_it c e _ h.effect (by_queue f h.mark c)
   by_stage c (Working w) e r s h = by_work c w e r s h
   by_stage c (Finished kept) e r s h = as_it c e _ h.0 (by_none c)
 

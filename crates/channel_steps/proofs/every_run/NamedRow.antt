@@ -3,13 +3,13 @@ use Rattle.std.proofs.Common.{◌≡◌, ℕ, ◌==◌, Bool, true, false, List,
 use Rattle.concurrent_queue.specs.declared.call.QueueAsk.TheVariants as ask
 use Rattle.concurrent_queue.specs.declared.call.QueueMark.TheVariants as queue_mark
 use Rattle.concurrent_queue.specs.declared.call.QueueReply.TheVariants as queue_reply
-use Rattle.channel_steps.proofs.every_run.Words.{Bounded, QueueAsk, QueueMark, Asked, Single, QueueCall, Key, Pending, Parts, Listeners, new_roster, with_listeners, leaving, nothing_kept, Sends, Receives, Streams, Closings, Trying, Working, Finished, TellAll, Insert, Register, State, set_state, finishes, loaded, bits_set, Acts, own, opened_parts, InOneOrder, WakesFor, task_of, first_key, second_key, waits_once, one_close, two_are_told, parts_of_two, pends_on, has_closed, given_to_three, TwoWaitsMerge, OneTaskHasTwoNames}
+use Rattle.channel_steps.proofs.every_run.Words.{Bounded, QueueAsk, QueueMark, Asked, Single, QueueCall, Key, Pending, Parts, Listeners, new_wait_lists, with_listeners, leaving, nothing_kept, Sends, Receives, Streams, Closings, Trying, Working, Finished, TellAll, Insert, Register, State, set_state, finishes, loaded, bits_set, Acts, own, opened_parts, InOneOrder, WakesFor, task_of, first_key, second_key, waits_once, one_close, two_are_told, parts_of_two, pends_on, has_closed, given_to_three, TwoWaitsMerge, OneTaskHasTwoNames}
 use Rattle.concurrent_queue.specs.declared.single.SingleAction.TheVariants as slot
 use Rattle.concurrent_queue.proofs.Callers.{is_same}
 use Rattle.concurrent_queue.proofs.FitsFacts.{starts}
 use Rattle.channel_calls.specs.declared.mark.Mark.TheVariants as mark
 use Rattle.channel_calls.specs.declared.reply.Reply.TheVariants as reply
-use Rattle.channel_calls.specs.declared.stage.Purpose.TheVariants as aim
+use Rattle.channel_calls.specs.declared.stage.Purpose.TheVariants as purpose
 use Rattle.channel_calls.specs.declared.stage.Closer.TheVariants as closer
 use Rattle.channel_calls.specs.declared.stage.Waiting.TheVariants as waiting
 
@@ -26,7 +26,7 @@ module _ (T W : Type 0) where
   polled key task =
       let asking : QueueCall T = new_call ask.IsClosed in
       let begun = starts ask.IsClosed queue_mark.Nothing in (
-        Trying asking (aim.Poll Closings None task),
+        Trying asking (purpose.Poll Closings None task),
         (asking, begun, refl, refl, refl),
         (
           mark.Nothing,
@@ -35,7 +35,7 @@ module _ (T W : Type 0) where
           (over queue_mark.Nothing, Some (queue_reply.Flag false), (Some (loaded State 0), (finishes (queue_reply.Flag false), (0, refl, refl), refl), refl), refl, (refl, refl)),
           (
             mark.Nothing,
-            Trying asking (aim.Poll Closings (Some key) task),
+            Trying asking (purpose.Poll Closings (Some key) task),
             None,
             (Ok key, refl, (refl, (asking, begun, refl, refl, refl))),
             (
@@ -53,7 +53,7 @@ module _ (T W : Type 0) where
   closed : (woken : List W) → Acts {T = T} {W = W} (Bounded 1) None (own 3 (one_close 3 woken)) has_closed
   closed woken =
       let asking : QueueCall T = new_call ask.Close in (
-        Trying asking (aim.Close closer.Call),
+        Trying asking (purpose.Close closer.Call),
         (asking, starts ask.Close queue_mark.Nothing, refl, refl, refl),
         (
           mark.Close,
@@ -99,10 +99,10 @@ module _ (T W : Type 0) where
     new = opened_parts (Bounded 1)
 
     abbrev listening : Listeners W → Parts T W
-    listening l = record { cells = new.cells; roster = with_listeners Closings l new_roster }
+    listening l = record { cells = new.cells; wait_lists = with_listeners Closings l new_wait_lists }
 
     abbrev closing : Listeners W → Parts T W
-    closing l = record { cells = set_state new.cells 4; roster = with_listeners Closings l new_roster }
+    closing l = record { cells = set_state new.cells 4; wait_lists = with_listeners Closings l new_wait_lists }
 
     abbrev both_wait : Listeners W
     both_wait = record { told = []; waiting = (first_key, Some one) ∷ (second_key, Some other) ∷ [] }

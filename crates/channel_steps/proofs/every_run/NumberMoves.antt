@@ -4,7 +4,7 @@ use Rattle.channel_steps.proofs.every_run.Words.{Queue, Phase, trying, displaced
 use Rattle.concurrent_queue.specs.Queue as queue
 use Rattle.concurrent_queue.specs.declared.call.QueueAsk.TheVariants as ask
 use Rattle.concurrent_queue.specs.declared.call.QueueMark.TheVariants.{Append, Take, TakeDisplaced, Replace}
-use Rattle.channel_calls.specs.declared.stage.Purpose.TheVariants as aim
+use Rattle.channel_calls.specs.declared.stage.Purpose.TheVariants as purpose
 use Rattle.channel_steps.proofs.Interface.{answered_by}
 use Rattle.channel_steps.proofs.QueueFacts.{one_fewer}
 use Rattle.channel_steps.proofs.SuitFacts.{IsPush, MayTake}
@@ -118,7 +118,7 @@ module _ {T : Type 0} where
 module _ {T W : Type 0} where
   -- a poll's try counts for one at most
   pub anew_at_most : (f : Phase T) (line : WaitList) (key : Option Key) (task : W)
-      → is_trying_anew (let at : Stage (Phase T) T W = Trying f (aim.Poll line key task) in at) ≤ is_trying f.stage
+      → is_trying_anew (let at : Stage (Phase T) T W = Trying f (purpose.Poll line key task) in at) ≤ is_trying f.stage
   anew_at_most f line None task = omega arith
   anew_at_most f line (Some k) task = omega arith
 

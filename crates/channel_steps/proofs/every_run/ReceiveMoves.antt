@@ -8,7 +8,7 @@ use Rattle.concurrent_queue.specs.declared.error.PopError.TheVariants as pop_err
 use Rattle.concurrent_queue.specs.declared.error.PushError.TheVariants as push_error
 use Rattle.concurrent_queue.specs.declared.error.ForcePushError.TheVariants as force_error
 use Rattle.channel_calls.specs.declared.ask.ChannelAsk.TheVariants as channel
-use Rattle.channel_calls.specs.declared.stage.Purpose.TheVariants as aim
+use Rattle.channel_calls.specs.declared.stage.Purpose.TheVariants as purpose
 use Rattle.channel_calls.specs.declared.stage.Waiting.TheVariants as waiting
 use Rattle.channel_steps.proofs.SuitFacts.{push_sends}
 use Rattle.channel_steps.proofs.every_run.AskFacts.{How}
@@ -26,8 +26,8 @@ module _ {T W : Type 0} where
 
   module _ (q : Queue T) (ds : List (MarkedMoment T W)) (seen : List (Channel T W)) where
     popping : (k : Loan) (key : Option Key) (t' task : W) (m : QueueMark) (s t : queue.Stage T) → queue.ContinuesPop q m s t
-        → number ask.Pop s m q + counted (channel.PollRecv k t') (aim.Poll Receives key task) ask.Pop s ≤ length q.items
-        + counted (channel.PollRecv k t') (aim.Poll Receives key task) ask.Pop t
+        → number ask.Pop s m q + counted (channel.PollRecv k t') (purpose.Poll Receives key task) ask.Pop s ≤ length q.items
+        + counted (channel.PollRecv k t') (purpose.Poll Receives key task) ask.Pop t
     popping k None t' task m s t g = let n = pop_takes q m s t g in n.0
     popping k (Some key) t' task m s t g = let n = pop_takes q m s t g in let f = n.1 in omega (arith, f)
 
@@ -35,13 +35,13 @@ module _ {T W : Type 0} where
     goes_pays : (x : ChannelAsk T W) (y : Purpose T W) (a : QueueAsk T) (m : QueueMark) (s t : queue.Stage T) → TriesFor x y a ds seen
         → ContinuesBy q a m s t
         → number a s m q + counted x y a s ≤ length q.items + counted x y a t
-    goes_pays (channel.TrySend v) aim.TrySend (ask.Push w) m s t h g = let n = push_brings q w m s t g in n.0
+    goes_pays (channel.TrySend v) purpose.TrySend (ask.Push w) m s t h g = let n = push_brings q w m s t g in n.0
     goes_pays (channel.TrySend v) y a m s t h g = absurd h
-    goes_pays (channel.PollSend v k t') (aim.Poll Sends key task) (ask.Push w) m s t h g = let n = push_brings q w m s t g in n.0
+    goes_pays (channel.PollSend v k t') (purpose.Poll Sends key task) (ask.Push w) m s t h g = let n = push_brings q w m s t g in n.0
     goes_pays (channel.PollSend v k t') y a m s t h g = absurd h
-    goes_pays (channel.ForceSend v) aim.ForceSend (ask.ForcePush w) m s t h g = let n = force_brings q w m s t g in n.0
+    goes_pays (channel.ForceSend v) purpose.ForceSend (ask.ForcePush w) m s t h g = let n = force_brings q w m s t g in n.0
     goes_pays (channel.ForceSend v) y a m s t h g = absurd h
-    goes_pays (channel.PollRecv k t') (aim.Poll Receives key task) ask.Pop m s t h g = popping k key t' task m s t g
+    goes_pays (channel.PollRecv k t') (purpose.Poll Receives key task) ask.Pop m s t h g = popping k key t' task m s t g
     goes_pays (channel.PollRecv k t') y a m s t h g = absurd h
     goes_pays x y a m s t h g = let n = goes_no_more q a m s t (λ p. push_sends x y ds seen a h p) g in omega (arith, n)
 
@@ -52,22 +52,22 @@ module _ {T W : Type 0} where
     Keeps x y a r s = counted x y a s ≤ weigh_turn counts_for_receives x (answered_next y r)
 
     pub sending_keeps : (x : ChannelAsk T W) → IsSending x → (y : Purpose T W) (a : QueueAsk T) (m : QueueMark) (r : QueueReply T) (s : queue.Stage T) → TriesFor x y a ds seen → AnswersTo q a m r s → Keeps x y a r s
-    sending_keeps (channel.TrySend v) sends aim.TrySend (ask.Push w) Nothing (answer.Push (Ok u)) (appended None) h g = omega arith
-    sending_keeps (channel.TrySend v) sends aim.TrySend (ask.Push w) Nothing (answer.Push (Err (push_error.Full z))) (trying b) h g = omega arith
-    sending_keeps (channel.TrySend v) sends aim.TrySend (ask.Push w) Nothing (answer.Push (Err (push_error.Closed z))) (trying b) h g = omega arith
-    sending_keeps (channel.TrySend v) sends aim.TrySend (ask.Push w) Nothing (answer.Push (Err (push_error.NoMemory z))) (trying b) h g = omega arith
-    sending_keeps (channel.TrySend v) sends aim.TrySend (ask.Push w) m r s h g = absurd g
+    sending_keeps (channel.TrySend v) sends purpose.TrySend (ask.Push w) Nothing (answer.Push (Ok u)) (appended None) h g = omega arith
+    sending_keeps (channel.TrySend v) sends purpose.TrySend (ask.Push w) Nothing (answer.Push (Err (push_error.Full z))) (trying b) h g = omega arith
+    sending_keeps (channel.TrySend v) sends purpose.TrySend (ask.Push w) Nothing (answer.Push (Err (push_error.Closed z))) (trying b) h g = omega arith
+    sending_keeps (channel.TrySend v) sends purpose.TrySend (ask.Push w) Nothing (answer.Push (Err (push_error.NoMemory z))) (trying b) h g = omega arith
+    sending_keeps (channel.TrySend v) sends purpose.TrySend (ask.Push w) m r s h g = absurd g
     sending_keeps (channel.TrySend v) sends y a m r s h g = absurd h
-    sending_keeps (channel.PollSend v k t') sends (aim.Poll Sends key task) (ask.Push w) Nothing (answer.Push (Ok u)) (appended None) h g = omega arith
-    sending_keeps (channel.PollSend v k t') sends (aim.Poll Sends key task) (ask.Push w) Nothing (answer.Push (Err (push_error.Full z))) (trying b) h g = omega arith
-    sending_keeps (channel.PollSend v k t') sends (aim.Poll Sends key task) (ask.Push w) Nothing (answer.Push (Err (push_error.Closed z))) (trying b) h g = omega arith
-    sending_keeps (channel.PollSend v k t') sends (aim.Poll Sends key task) (ask.Push w) Nothing (answer.Push (Err (push_error.NoMemory z))) (trying b) h g = omega arith
-    sending_keeps (channel.PollSend v k t') sends (aim.Poll Sends key task) (ask.Push w) m r s h g = absurd g
+    sending_keeps (channel.PollSend v k t') sends (purpose.Poll Sends key task) (ask.Push w) Nothing (answer.Push (Ok u)) (appended None) h g = omega arith
+    sending_keeps (channel.PollSend v k t') sends (purpose.Poll Sends key task) (ask.Push w) Nothing (answer.Push (Err (push_error.Full z))) (trying b) h g = omega arith
+    sending_keeps (channel.PollSend v k t') sends (purpose.Poll Sends key task) (ask.Push w) Nothing (answer.Push (Err (push_error.Closed z))) (trying b) h g = omega arith
+    sending_keeps (channel.PollSend v k t') sends (purpose.Poll Sends key task) (ask.Push w) Nothing (answer.Push (Err (push_error.NoMemory z))) (trying b) h g = omega arith
+    sending_keeps (channel.PollSend v k t') sends (purpose.Poll Sends key task) (ask.Push w) m r s h g = absurd g
     sending_keeps (channel.PollSend v k t') sends y a m r s h g = absurd h
-    sending_keeps (channel.ForceSend v) sends aim.ForceSend (ask.ForcePush w) Nothing (answer.Force (Ok d)) (appended o) h g = omega arith
-    sending_keeps (channel.ForceSend v) sends aim.ForceSend (ask.ForcePush w) Nothing (answer.Force (Err (force_error.Closed z))) (trying b) h g = omega arith
-    sending_keeps (channel.ForceSend v) sends aim.ForceSend (ask.ForcePush w) Nothing (answer.Force (Err (force_error.NoMemory z))) (trying b) h g = omega arith
-    sending_keeps (channel.ForceSend v) sends aim.ForceSend (ask.ForcePush w) m r s h g = absurd g
+    sending_keeps (channel.ForceSend v) sends purpose.ForceSend (ask.ForcePush w) Nothing (answer.Force (Ok d)) (appended o) h g = omega arith
+    sending_keeps (channel.ForceSend v) sends purpose.ForceSend (ask.ForcePush w) Nothing (answer.Force (Err (force_error.Closed z))) (trying b) h g = omega arith
+    sending_keeps (channel.ForceSend v) sends purpose.ForceSend (ask.ForcePush w) Nothing (answer.Force (Err (force_error.NoMemory z))) (trying b) h g = omega arith
+    sending_keeps (channel.ForceSend v) sends purpose.ForceSend (ask.ForcePush w) m r s h g = absurd g
     sending_keeps (channel.ForceSend v) sends y a m r s h g = absurd h
     sending_keeps x sends y a m r s h g = absurd sends
 
@@ -80,11 +80,11 @@ module _ {T W : Type 0} where
     answers_pay (channel.TrySend v) y a m r s h g = inl (sending_keeps (channel.TrySend v) tt y a m r s h g)
     answers_pay (channel.PollSend v k t') y a m r s h g = inl (sending_keeps (channel.PollSend v k t') tt y a m r s h g)
     answers_pay (channel.ForceSend v) y a m r s h g = inl (sending_keeps (channel.ForceSend v) tt y a m r s h g)
-    answers_pay (channel.PollRecv k t') (aim.Poll Receives key task) ask.Pop Nothing (answer.Pop (Ok w)) (taken v) h g =
+    answers_pay (channel.PollRecv k t') (purpose.Poll Receives key task) ask.Pop Nothing (answer.Pop (Ok w)) (taken v) h g =
         let few = anew_at_most {T = T} (record { ask = ask.Pop; stage = taken v }) Receives key task in inl (omega (arith, few))
-    answers_pay (channel.PollRecv k t') (aim.Poll Receives key task) ask.Pop Nothing (answer.Pop (Err pop_error.Empty)) (trying b) h g = inr g.1.0
-    answers_pay (channel.PollRecv k t') (aim.Poll Receives key task) ask.Pop Nothing (answer.Pop (Err pop_error.Closed)) (trying b) h g = inr g.1.0
-    answers_pay (channel.PollRecv k t') (aim.Poll Receives key task) ask.Pop m r s h g = absurd g
+    answers_pay (channel.PollRecv k t') (purpose.Poll Receives key task) ask.Pop Nothing (answer.Pop (Err pop_error.Empty)) (trying b) h g = inr g.1.0
+    answers_pay (channel.PollRecv k t') (purpose.Poll Receives key task) ask.Pop Nothing (answer.Pop (Err pop_error.Closed)) (trying b) h g = inr g.1.0
+    answers_pay (channel.PollRecv k t') (purpose.Poll Receives key task) ask.Pop m r s h g = absurd g
     answers_pay (channel.PollRecv k t') y a m r s h g = absurd h
     answers_pay x y a m r s h g = inl (omega arith)
 

@@ -25,15 +25,15 @@ module _ {T W : Type 0} where
   TellsOthers w line = Unit {0}
 
   abbrev pub Same : WaitList → Channel T W → Effect T W → Type 0
-  Same line c e = listeners line e.channel.roster ≡ listeners line c.roster
+  Same line c e = listeners line e.channel.wait_lists ≡ listeners line c.wait_lists
 
   -- ---- a section on one list, or a step on a count
 
   same_as : (line : WaitList) (c : Channel T W) (e f : Effect T W) → e ≡ f → Same line c f → Same line c e
-  same_as line c e f is h = ap (λ (z : Effect T W). listeners line z.channel.roster) is ∙ h
+  same_as line c e f is h = ap (λ (z : Effect T W). listeners line z.channel.wait_lists) is ∙ h
 
   on_lines : (line at : WaitList) (l : Listeners W) (names : List W) (c : Channel T W)
-      → (Same line c (on_line at l names c) × (line ≡ at → ⊥)) ⊎ ((line ≡ at) × (listeners line (let e : Effect T W = on_line at l names c in e.channel.roster) ≡ l))
+      → (Same line c (on_line at l names c) × (line ≡ at → ⊥)) ⊎ ((line ≡ at) × (listeners line (let e : Effect T W = on_line at l names c in e.channel.wait_lists) ≡ l))
   on_lines Sends Sends l names c = inr (refl, refl)
   on_lines Receives Receives l names c = inr (refl, refl)
   on_lines Streams Streams l names c = inr (refl, refl)
@@ -52,26 +52,26 @@ module _ {T W : Type 0} where
   on_raise line false side n c = refl
 
   -- the list at is what f makes of it
-  module _ (line at : WaitList) (f : Listeners W → Listeners W) (names : List W) (c : Channel T W) (e : Effect T W) (is : e ≡ on_line at (f (listeners at c.roster)) names c) where
+  module _ (line at : WaitList) (f : Listeners W → Listeners W) (names : List W) (c : Channel T W) (e : Effect T W) (is : e ≡ on_line at (f (listeners at c.wait_lists)) names c) where
     abbrev IsMade : Type 0
-    IsMade = (line ≡ at) × (listeners line e.channel.roster ≡ f (listeners line c.roster))
+    IsMade = (line ≡ at) × (listeners line e.channel.wait_lists ≡ f (listeners line c.wait_lists))
 
     made : (Same line c e × (line ≡ at → ⊥)) ⊎ IsMade
     made =
         ⊎_elim
-        (λ h. inl (same_as line c e (on_line at (f (listeners at c.roster)) names c) is h.0, h.1))
-        (λ h. inr (h.0, ap (λ (z : Effect T W). listeners line z.channel.roster) is ∙ (h.1 ∙ ap (λ (z : WaitList). f (listeners z c.roster)) (sym h.0))))
-        (on_lines line at (f (listeners at c.roster)) names c)
+        (λ h. inl (same_as line c e (on_line at (f (listeners at c.wait_lists)) names c) is h.0, h.1))
+        (λ h. inr (h.0, ap (λ (z : Effect T W). listeners line z.channel.wait_lists) is ∙ (h.1 ∙ ap (λ (z : WaitList). f (listeners z c.wait_lists)) (sym h.0))))
+        (on_lines line at (f (listeners at c.wait_lists)) names c)
 
     -- and with what else is said of that list
-    made_with : (P : Listeners W → Type 0) → P (listeners at c.roster) → Same line c e ⊎ (IsMade × P (listeners line c.roster))
-    made_with P h = ⊎_elim (λ k. inl k.0) (λ k. inr (k, subst (λ (z : WaitList). P (listeners z c.roster)) (sym k.0) h)) made
+    made_with : (P : Listeners W → Type 0) → P (listeners at c.wait_lists) → Same line c e ⊎ (IsMade × P (listeners line c.wait_lists))
+    made_with P h = ⊎_elim (λ k. inl k.0) (λ k. inr (k, subst (λ (z : WaitList). P (listeners z c.wait_lists)) (sym k.0) h)) made
 
   -- ---- any of them
 
   module _ (line : WaitList) (c : Channel T W) (e : Effect T W) (r : Option (Reply T)) (s : Stage (Phase T) T W) where
     abbrev pub Section : ListStep T W → Type 0
-    Section w = (Same line c e × TellsOthers w line) ⊎ Touched w r s line (listeners line c.roster) (listeners line e.channel.roster)
+    Section w = (Same line c e × TellsOthers w line) ⊎ Touched w r s line (listeners line c.wait_lists) (listeners line e.channel.wait_lists)
 
     left : (x : Ending T) (o : Option ListenerRef) → e ≡ leaves o c → Section (Leave x)
     left x None g = inl (same_as line c e (untouched c) g refl, tt)
@@ -91,6 +91,6 @@ module _ {T W : Type 0} where
         ⊎_elim (λ h. inl (h, tt)) (λ h. inr (h.0.0, h.0.1, h.1))
         (made_with line (line_of w) (λ l. registration key task l) [] c e g.0 (λ l. Turned (if waits key l then pends_by w key else again w None task) r s) g.1)
     section (Leave x) g = left x x.held g.0
-    section (Lower side key) g = inl (same_as line c e _ g.0 (on_counts line side (count side c.roster - 1) (down side) c), tt)
-    section (Raise side n making) g = inl (same_as line c e _ g.0 (on_raise line (is_raised side n c.roster) side n c), tt)
+    section (Lower side key) g = inl (same_as line c e _ g.0 (on_counts line side (count side c.wait_lists - 1) (down side) c), tt)
+    section (Raise side n making) g = inl (same_as line c e _ g.0 (on_raise line (is_raised side n c.wait_lists) side n c), tt)
     section w g = inl (same_as line c e (untouched c) g.0 refl, tt)

@@ -11,7 +11,7 @@ use Rattle.concurrent_queue.specs.declared.error.PopError.TheVariants as pop_err
 use Rattle.concurrent_queue.specs.declared.error.PushError.TheVariants as push_error
 use Rattle.concurrent_queue.specs.declared.error.ForcePushError.TheVariants as force_error
 use Rattle.channel_calls.specs.declared.ask.ChannelAsk.TheVariants as channel
-use Rattle.channel_calls.specs.declared.stage.Purpose.TheVariants as aim
+use Rattle.channel_calls.specs.declared.stage.Purpose.TheVariants as purpose
 use Rattle.channel_calls.specs.declared.stage.Waiting.TheVariants as waiting
 use Rattle.channel_steps.proofs.SuitFacts.{takes_as}
 use Rattle.channel_steps.proofs.QueueFacts.{same_capacity}
@@ -44,8 +44,8 @@ module _ {T W : Type 0} where
 
   module _ (q : Queue T) (ds : List (MarkedMoment T W)) (seen : List (Channel T W)) where
     pushing : (v w : T) (k : Loan) (key : Option Key) (t' task : W) (m : QueueMark) (s t : queue.Stage T) → queue.ContinuesPush q m s t
-        → length q.items + counted (channel.PollSend v k t') (aim.Poll Sends key task) (ask.Push w) s ≤ number (ask.Push w) s m
-        q + counted (channel.PollSend v k t') (aim.Poll Sends key task) (ask.Push w) t
+        → length q.items + counted (channel.PollSend v k t') (purpose.Poll Sends key task) (ask.Push w) s ≤ number (ask.Push w) s m
+        q + counted (channel.PollSend v k t') (purpose.Poll Sends key task) (ask.Push w) t
     pushing v w k None t' task m s t g = let n = push_fills q w m s t g in n.0
     pushing v w k (Some key) t' task m s t g = let n = push_fills q w m s t g in let f = n.1 in omega (arith, f)
 
@@ -53,17 +53,17 @@ module _ {T W : Type 0} where
     goes_pays : (x : ChannelAsk T W) (y : Purpose T W) (a : QueueAsk T) (m : QueueMark) (s t : queue.Stage T) → TriesFor x y a ds seen
         → ContinuesBy q a m s t
         → length q.items + counted x y a s ≤ number a s m q + counted x y a t
-    goes_pays channel.TryRecv aim.TryRecv ask.Pop m s t h g = pop_frees q m s t g
+    goes_pays channel.TryRecv purpose.TryRecv ask.Pop m s t h g = pop_frees q m s t g
     goes_pays channel.TryRecv y a m s t h g = absurd h
-    goes_pays (channel.RecvMany n) (aim.RecvMany z) ask.Pop m s t h g = let k = pop_frees q m s t g in omega (arith, k)
+    goes_pays (channel.RecvMany n) (purpose.RecvMany z) ask.Pop m s t h g = let k = pop_frees q m s t g in omega (arith, k)
     goes_pays (channel.RecvMany n) y a m s t h g = absurd h
-    goes_pays (channel.PollRecv k t') (aim.Poll Receives key task) ask.Pop m s t h g = pop_frees q m s t g
+    goes_pays (channel.PollRecv k t') (purpose.Poll Receives key task) ask.Pop m s t h g = pop_frees q m s t g
     goes_pays (channel.PollRecv k t') y a m s t h g = absurd h
-    goes_pays (channel.PollNext k t') (aim.Poll Streams key task) ask.Pop m s t h g = pop_frees q m s t g
+    goes_pays (channel.PollNext k t') (purpose.Poll Streams key task) ask.Pop m s t h g = pop_frees q m s t g
     goes_pays (channel.PollNext k t') y a m s t h g = absurd h
-    goes_pays (channel.ForceSend v) aim.ForceSend (ask.ForcePush w) m s t h g = force_fills q w m s t g
+    goes_pays (channel.ForceSend v) purpose.ForceSend (ask.ForcePush w) m s t h g = force_fills q w m s t g
     goes_pays (channel.ForceSend v) y a m s t h g = absurd h
-    goes_pays (channel.PollSend v k t') (aim.Poll Sends key task) (ask.Push w) m s t h g = pushing v w k key t' task m s t g
+    goes_pays (channel.PollSend v k t') (purpose.Poll Sends key task) (ask.Push w) m s t h g = pushing v w k key t' task m s t g
     goes_pays (channel.PollSend v k t') y a m s t h g = absurd h
     goes_pays x y a m s t h g = let n = goes_no_fewer q a m s t (λ p. takes_as x y ds seen a h p) g in omega (arith, n)
 
@@ -84,38 +84,38 @@ module _ {T W : Type 0} where
 
     answers_pay : (x : ChannelAsk T W) (y : Purpose T W) (a : QueueAsk T) (m : QueueMark) (r : QueueReply T) (s : queue.Stage T)
         → TriesFor x y a ds seen → AnswersTo q a m r s → Answered x y a m r s
-    answers_pay channel.TryRecv aim.TryRecv ask.Pop Nothing (answer.Pop (Ok w)) (taken v) h g = inl (omega arith)
-    answers_pay channel.TryRecv aim.TryRecv ask.Pop Nothing (answer.Pop (Err pop_error.Empty)) (trying b) h g = inl (omega arith)
-    answers_pay channel.TryRecv aim.TryRecv ask.Pop Nothing (answer.Pop (Err pop_error.Closed)) (trying b) h g = inl (omega arith)
-    answers_pay channel.TryRecv aim.TryRecv ask.Pop m r s h g = absurd g
+    answers_pay channel.TryRecv purpose.TryRecv ask.Pop Nothing (answer.Pop (Ok w)) (taken v) h g = inl (omega arith)
+    answers_pay channel.TryRecv purpose.TryRecv ask.Pop Nothing (answer.Pop (Err pop_error.Empty)) (trying b) h g = inl (omega arith)
+    answers_pay channel.TryRecv purpose.TryRecv ask.Pop Nothing (answer.Pop (Err pop_error.Closed)) (trying b) h g = inl (omega arith)
+    answers_pay channel.TryRecv purpose.TryRecv ask.Pop m r s h g = absurd g
     answers_pay channel.TryRecv y a m r s h g = absurd h
-    answers_pay (channel.RecvMany n) (aim.RecvMany z) ask.Pop Nothing (answer.Pop (Ok w)) (taken v) h g = let k = gathers n z.more z.taken w in inl (omega (arith, k))
-    answers_pay (channel.RecvMany n) (aim.RecvMany z) ask.Pop Nothing (answer.Pop (Err pop_error.Empty)) (trying b) h g = let k = stops n z.taken try_recv_error.Empty in inl (omega (arith, k))
-    answers_pay (channel.RecvMany n) (aim.RecvMany z) ask.Pop Nothing (answer.Pop (Err pop_error.Closed)) (trying b) h g = let k = stops n z.taken try_recv_error.Closed in inl (omega (arith, k))
-    answers_pay (channel.RecvMany n) (aim.RecvMany z) ask.Pop m r s h g = absurd g
+    answers_pay (channel.RecvMany n) (purpose.RecvMany z) ask.Pop Nothing (answer.Pop (Ok w)) (taken v) h g = let k = gathers n z.more z.taken w in inl (omega (arith, k))
+    answers_pay (channel.RecvMany n) (purpose.RecvMany z) ask.Pop Nothing (answer.Pop (Err pop_error.Empty)) (trying b) h g = let k = stops n z.taken try_recv_error.Empty in inl (omega (arith, k))
+    answers_pay (channel.RecvMany n) (purpose.RecvMany z) ask.Pop Nothing (answer.Pop (Err pop_error.Closed)) (trying b) h g = let k = stops n z.taken try_recv_error.Closed in inl (omega (arith, k))
+    answers_pay (channel.RecvMany n) (purpose.RecvMany z) ask.Pop m r s h g = absurd g
     answers_pay (channel.RecvMany n) y a m r s h g = absurd h
-    answers_pay (channel.PollRecv k t') (aim.Poll Receives key task) ask.Pop Nothing (answer.Pop (Ok w)) (taken v) h g = inl (omega arith)
-    answers_pay (channel.PollRecv k t') (aim.Poll Receives key task) ask.Pop Nothing (answer.Pop (Err pop_error.Empty)) (trying b) h g = inl (omega arith)
-    answers_pay (channel.PollRecv k t') (aim.Poll Receives key task) ask.Pop Nothing (answer.Pop (Err pop_error.Closed)) (trying b) h g = inl (omega arith)
-    answers_pay (channel.PollRecv k t') (aim.Poll Receives key task) ask.Pop m r s h g = absurd g
+    answers_pay (channel.PollRecv k t') (purpose.Poll Receives key task) ask.Pop Nothing (answer.Pop (Ok w)) (taken v) h g = inl (omega arith)
+    answers_pay (channel.PollRecv k t') (purpose.Poll Receives key task) ask.Pop Nothing (answer.Pop (Err pop_error.Empty)) (trying b) h g = inl (omega arith)
+    answers_pay (channel.PollRecv k t') (purpose.Poll Receives key task) ask.Pop Nothing (answer.Pop (Err pop_error.Closed)) (trying b) h g = inl (omega arith)
+    answers_pay (channel.PollRecv k t') (purpose.Poll Receives key task) ask.Pop m r s h g = absurd g
     answers_pay (channel.PollRecv k t') y a m r s h g = absurd h
-    answers_pay (channel.PollNext k t') (aim.Poll Streams key task) ask.Pop Nothing (answer.Pop (Ok w)) (taken v) h g = inl (omega arith)
-    answers_pay (channel.PollNext k t') (aim.Poll Streams key task) ask.Pop Nothing (answer.Pop (Err pop_error.Empty)) (trying b) h g = inl (omega arith)
-    answers_pay (channel.PollNext k t') (aim.Poll Streams key task) ask.Pop Nothing (answer.Pop (Err pop_error.Closed)) (trying b) h g = inl (omega arith)
-    answers_pay (channel.PollNext k t') (aim.Poll Streams key task) ask.Pop m r s h g = absurd g
+    answers_pay (channel.PollNext k t') (purpose.Poll Streams key task) ask.Pop Nothing (answer.Pop (Ok w)) (taken v) h g = inl (omega arith)
+    answers_pay (channel.PollNext k t') (purpose.Poll Streams key task) ask.Pop Nothing (answer.Pop (Err pop_error.Empty)) (trying b) h g = inl (omega arith)
+    answers_pay (channel.PollNext k t') (purpose.Poll Streams key task) ask.Pop Nothing (answer.Pop (Err pop_error.Closed)) (trying b) h g = inl (omega arith)
+    answers_pay (channel.PollNext k t') (purpose.Poll Streams key task) ask.Pop m r s h g = absurd g
     answers_pay (channel.PollNext k t') y a m r s h g = absurd h
-    answers_pay (channel.ForceSend v) aim.ForceSend (ask.ForcePush w) Nothing (answer.Force (Ok d)) (appended o) h g = inl (omega arith)
-    answers_pay (channel.ForceSend v) aim.ForceSend (ask.ForcePush w) Nothing (answer.Force (Err (force_error.Closed z))) (trying b) h g = inl (omega arith)
-    answers_pay (channel.ForceSend v) aim.ForceSend (ask.ForcePush w) Nothing (answer.Force (Err (force_error.NoMemory z))) (trying b) h g = inl (omega arith)
-    answers_pay (channel.ForceSend v) aim.ForceSend (ask.ForcePush w) m r s h g = absurd g
+    answers_pay (channel.ForceSend v) purpose.ForceSend (ask.ForcePush w) Nothing (answer.Force (Ok d)) (appended o) h g = inl (omega arith)
+    answers_pay (channel.ForceSend v) purpose.ForceSend (ask.ForcePush w) Nothing (answer.Force (Err (force_error.Closed z))) (trying b) h g = inl (omega arith)
+    answers_pay (channel.ForceSend v) purpose.ForceSend (ask.ForcePush w) Nothing (answer.Force (Err (force_error.NoMemory z))) (trying b) h g = inl (omega arith)
+    answers_pay (channel.ForceSend v) purpose.ForceSend (ask.ForcePush w) m r s h g = absurd g
     answers_pay (channel.ForceSend v) y a m r s h g = absurd h
-    answers_pay (channel.PollSend v k t') (aim.Poll Sends key task) (ask.Push w) Nothing (answer.Push (Ok u)) (appended None) h g =
+    answers_pay (channel.PollSend v k t') (purpose.Poll Sends key task) (ask.Push w) Nothing (answer.Push (Ok u)) (appended None) h g =
         let few = anew_at_most {T = T} (record { ask = ask.Push w; stage = appended None }) Sends key task in inl
         (omega (arith, few))
-    answers_pay (channel.PollSend v k t') (aim.Poll Sends key task) (ask.Push w) Nothing (answer.Push (Err (push_error.Full z))) (trying b) h g = inr (refl, inl g.1)
-    answers_pay (channel.PollSend v k t') (aim.Poll Sends key task) (ask.Push w) Nothing (answer.Push (Err (push_error.Closed z))) (trying b) h g = inr (refl, inr (inl g.1))
-    answers_pay (channel.PollSend v k t') (aim.Poll Sends key task) (ask.Push w) Nothing (answer.Push (Err (push_error.NoMemory z))) (trying b) h g = inr (refl, inr (inr g.1))
-    answers_pay (channel.PollSend v k t') (aim.Poll Sends key task) (ask.Push w) m r s h g = absurd g
+    answers_pay (channel.PollSend v k t') (purpose.Poll Sends key task) (ask.Push w) Nothing (answer.Push (Err (push_error.Full z))) (trying b) h g = inr (refl, inl g.1)
+    answers_pay (channel.PollSend v k t') (purpose.Poll Sends key task) (ask.Push w) Nothing (answer.Push (Err (push_error.Closed z))) (trying b) h g = inr (refl, inr (inl g.1))
+    answers_pay (channel.PollSend v k t') (purpose.Poll Sends key task) (ask.Push w) Nothing (answer.Push (Err (push_error.NoMemory z))) (trying b) h g = inr (refl, inr (inr g.1))
+    answers_pay (channel.PollSend v k t') (purpose.Poll Sends key task) (ask.Push w) m r s h g = absurd g
     answers_pay (channel.PollSend v k t') y a m r s h g = absurd h
     answers_pay x y a m r s h g = let n = answers_same_number q a m r s g in inl (omega (arith, n))
 

@@ -6,7 +6,7 @@ use Rattle.concurrent_queue.specs.declared.call.QueueAsk.TheVariants as ask
 use Rattle.concurrent_queue.specs.declared.call.QueueReply.TheVariants as answer
 use Rattle.concurrent_queue.specs.declared.error.PopError.TheVariants as pop_error
 use Rattle.channel_calls.specs.declared.ask.ChannelAsk.TheVariants as channel
-use Rattle.channel_calls.specs.declared.stage.Purpose.TheVariants as aim
+use Rattle.channel_calls.specs.declared.stage.Purpose.TheVariants as purpose
 use Rattle.channel_calls.specs.declared.stage.Waiting.TheVariants as waiting
 use Rattle.channel_steps.proofs.every_run.AllOwed.{FreeOrTold, free_more}
 use Rattle.channel_steps.proofs.SuitFacts.{push_sends}
@@ -101,11 +101,11 @@ module _ {T W : Type 0} where
   module _ (q : Queue T) (ds : List (MarkedMoment T W)) (seen : List (Channel T W)) where
     goes_on : (x : ChannelAsk T W) (y : Purpose T W) (a : QueueAsk T) (m : QueueMark) (s t : queue.Stage T) → TriesFor x y a ds seen → ContinuesBy q a m s t
         → (number a s m q + counted x y a s ≤ length q.items + counted x y a t) × (counted x y a s ≤ counted x y a t)
-    goes_on (channel.TrySend v) aim.TrySend (ask.Push w) m s t h g = push_brings q w m s t g
+    goes_on (channel.TrySend v) purpose.TrySend (ask.Push w) m s t h g = push_brings q w m s t g
     goes_on (channel.TrySend v) y a m s t h g = absurd h
-    goes_on (channel.PollSend v k t') (aim.Poll Sends key task) (ask.Push w) m s t h g = push_brings q w m s t g
+    goes_on (channel.PollSend v k t') (purpose.Poll Sends key task) (ask.Push w) m s t h g = push_brings q w m s t g
     goes_on (channel.PollSend v k t') y a m s t h g = absurd h
-    goes_on (channel.ForceSend v) aim.ForceSend (ask.ForcePush w) m s t h g = force_brings q w m s t g
+    goes_on (channel.ForceSend v) purpose.ForceSend (ask.ForcePush w) m s t h g = force_brings q w m s t g
     goes_on (channel.ForceSend v) y a m s t h g = absurd h
     goes_on x y a m s t h g = let n = goes_no_more q a m s t (λ p. push_sends x y ds seen a h p) g in (omega (arith, n), omega arith)
 
@@ -175,7 +175,7 @@ module _ {T W : Type 0} where
   popped c x f key task m r s reply st h t = absurd h
 
   polled : (c : Channel T W) (x : ChannelAsk T W) (f : Phase T) (k key : Key) (task : W) (m : QueueMark) (r : Option (Reply T)) (s : Stage (Phase T) T W)
-      → f.ask ≡ ask.Pop → k ≡ key → How c f (aim.Poll Streams (Some k) task) m r s → InHandOr key x (queued f m c) r s
+      → f.ask ≡ ask.Pop → k ≡ key → How c f (purpose.Poll Streams (Some k) task) m r s → InHandOr key x (queued f m c) r s
   polled c x f k key task m r s pops same (inl (f', goes, none, there)) = inl (none, subst (λ (z : Stage (Phase T) T W). HasInHand key z) (sym there) same)
   polled c x f k key task m r s pops same (inr (reply, ans, turned)) =
       popped c x f key task m r s reply f.stage (subst (λ (a : QueueAsk T). AnswersTo c.queue a m reply f.stage) pops ans)
@@ -183,7 +183,7 @@ module _ {T W : Type 0} where
 
   keeps_in_hand : (c : Channel T W) (x : ChannelAsk T W) (at : Stage (Phase T) T W) (ds : List (MarkedMoment T W)) (seen : List (Channel T W)) (e : Effect T W) (r : Option (Reply T)) (s : Stage (Phase T) T W) (key : Key)
       → StageAt c x at ds seen → Moves c at e r s → Waits Streams key e.channel → WaitApart Streams c → HasInHand key at → InHandOr key x e r s
-  keeps_in_hand c x (Trying f (aim.Poll Streams (Some k) task)) ds seen e r s key st g w apart h =
+  keeps_in_hand c x (Trying f (purpose.Poll Streams (Some k) task)) ds seen e r s key st g w apart h =
       subst (λ (z : Effect T W). InHandOr key x z r s) (sym g.effect) (polled c x f k key task g.mark r s (poll_asks x Streams (Some k) task f.ask ds seen st.0) h g.how)
   keeps_in_hand c x (Working (TellSend z)) ds seen e r s key st g w apart h =
       let t = leaves_next z z.held (held_by Streams key) r s h g.1 in inl (t.0, subst (λ (at : Stage (Phase T) T W). HasInHand key at) (sym t.1) h)

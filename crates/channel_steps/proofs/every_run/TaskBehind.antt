@@ -1,6 +1,6 @@
 -- A merge, with other tasks for which its tasks were put: it goes on step by step, whichever tasks each call begins with.
 use Rattle.std.proofs.Common.{◌≡◌, ℕ, ◌==◌, Bool, true, false, if◌then◌else◌, List, [], ◌∷◌, map, Option, None, Some, MatchOption, option_map, refl, sym, ap, subst, ◌∙◌}
-use Rattle.channel_steps.proofs.every_run.Words.{QueueForm, QueueCall, first, kept_by, Parts, Takes, ChannelMakes, ChannelAsk, Mark, Reply, Returned, Stage, NextStep, Act, on_nothing, Event, begins, Happening, Given, Notes, Acts, own, opened_parts, Changes, InOneOrder, WakesFor, with_asked, asks_of, TasksMayTellMore, ask_by, stage_by, event_by, all_by}
+use Rattle.channel_steps.proofs.every_run.Words.{QueueForm, QueueCall, first, kept_by, Parts, Takes, ChannelMakes, ChannelAsk, Mark, Reply, Returned, Stage, NextStep, Act, on_nothing, Event, begins, Happening, Completed, Notes, Acts, own, opened_parts, Changes, InOneOrder, WakesFor, with_asked, asks_of, TasksMayTellMore, ask_by, stage_by, event_by, all_by}
 use Rattle.concurrent_queue.proofs.Callers.{is_same, itself}
 use Rattle.channel_steps.specs.every_run.Bridge.{does}
 use Rattle.channel_steps.proofs.every_run.Bridge.{happens, own_mine, own_other}
@@ -27,13 +27,13 @@ module _ {T W V S : Type 0} (put : W → V) (wakes : S → V → S → Type 0) (
   at_so at = option_map (λ s. stage_by put s) at
 
   -- what each party does, from the stage for which its own was put
-  abbrev AllAct : (ℕ → Before T W) → List (Happening T V) → (ℕ → List (Given T)) → Type 0
+  abbrev AllAct : (ℕ → Before T W) → List (Happening T V) → (ℕ → List (Completed T)) → Type 0
   AllAct at xs given = (p : ℕ) → Acts form (at_so (at p)) (own p xs) (given p)
 
-  abbrev AllActBefore : (ℕ → Before T W) → List (Happening T W) → (ℕ → List (Given T)) → Type 0
+  abbrev AllActBefore : (ℕ → Before T W) → List (Happening T W) → (ℕ → List (Completed T)) → Type 0
   AllActBefore at xs given = (p : ℕ) → Acts form (at p) (own p xs) (given p)
 
-  record Behind (xs : List (Happening T V)) (asks : List (ChannelAsk T W)) (c : Parts T W × S) (at : ℕ → Before T W) (given : ℕ → List (Given T)) (last : Parts T V × S) : Type 0 where
+  record Behind (xs : List (Happening T V)) (asks : List (ChannelAsk T W)) (c : Parts T W × S) (at : ℕ → Before T W) (given : ℕ → List (Completed T)) (last : Parts T V × S) : Type 0 where
     pub events : List (Happening T W)
     pub are : all_by put events ≡ xs
     pub asked_so : asks_of events ≡ asks
@@ -44,11 +44,11 @@ module _ {T W V S : Type 0} (put : W → V) (wakes : S → V → S → Type 0) (
 
   abbrev GoesOn : List (Happening T V) → Parts T V × S → Type 0
   GoesOn xs last =
-      (asks : List (ChannelAsk T W)) (c : Parts T W × S) (at : ℕ → Before T W) (given : ℕ → List (Given T))
+      (asks : List (ChannelAsk T W)) (c : Parts T W × S) (at : ℕ → Before T W) (given : ℕ → List (Completed T))
       → map (λ a. ask_by put a) asks ≡ asks_of xs → AllAct at xs given → InOneOrder wakes xs (both_so put c) last → Behind xs asks c at given last
 
   -- the others go on as before
-  acts_on : (p : ℕ) (x : Event T V) (xs : List (Happening T V)) (at : ℕ → Before T W) (now : Before T W) (given : ℕ → List (Given T)) (left : List (Given T))
+  acts_on : (p : ℕ) (x : Event T V) (xs : List (Happening T V)) (at : ℕ → Before T W) (now : Before T W) (given : ℕ → List (Completed T)) (left : List (Completed T))
       → AllAct at (happens p x ∷ xs) given → Acts form (at_so now) (own p xs) left → AllAct (instead p now at) xs (instead p left given)
   acts_on p x xs at now given left acts mine q = test (p == q) refl
     where
@@ -59,13 +59,13 @@ module _ {T W V S : Type 0} (put : W → V) (wakes : S → V → S → Type 0) (
           rw e (subst (λ (ys : List (Event T V)). Acts form (at_so (at q)) ys (given q)) (own_other p q x xs e) (acts q))
 
   -- and went on so
-  acts_back : (p : ℕ) (x : Event T W) (xs : List (Happening T W)) (at : ℕ → Before T W) (now : Before T W) (given : ℕ → List (Given T)) (left : List (Given T))
+  acts_back : (p : ℕ) (x : Event T W) (xs : List (Happening T W)) (at : ℕ → Before T W) (now : Before T W) (given : ℕ → List (Completed T)) (left : List (Completed T))
       → AllActBefore (instead p now at) xs (instead p left given) → ((ys : List (Event T W)) → Acts form now ys left → Acts form (at p) (x ∷ ys) (given p)) → AllActBefore at (happens p x ∷ xs) given
   acts_back p x xs at now given left acts mine q = test (p == q) refl
     where
       here : Acts form now (own p xs) left
       here =
-          subst (λ (rs : List (Given T)). Acts form now (own p xs) rs) (instead_mine p left given)
+          subst (λ (rs : List (Completed T)). Acts form now (own p xs) rs) (instead_mine p left given)
           (subst (λ (o : Before T W). Acts form o (own p xs) (instead p left given p)) (instead_mine p now at) (acts p))
 
       test : (b : Bool) → (p == q) ≡ b → Acts form (at q) (own q (happens p x ∷ xs)) (given q)
@@ -74,12 +74,12 @@ module _ {T W V S : Type 0} (put : W → V) (wakes : S → V → S → Type 0) (
           (subst (λ (ys : List (Event T W)). Acts form (at p) ys (given p)) (sym (own_mine p x xs)) (mine (own p xs) here))
       test false e =
           subst (λ (ys : List (Event T W)). Acts form (at q) ys (given q)) (sym (own_other p q x xs e))
-          (subst (λ (rs : List (Given T)). Acts form (at q) (own q xs) rs) (instead_other p left given q e)
+          (subst (λ (rs : List (Completed T)). Acts form (at q) (own q xs) rs) (instead_other p left given q e)
           (subst (λ (o : Before T W). Acts form o (own q xs) (instead p left given q)) (instead_other p now at q e) (acts q)))
 
   -- one event more in front
   joined : (p : ℕ) (x : Event T W) (y : Event T V) (xs : List (Happening T V)) (asks more : List (ChannelAsk T W)) (c d : Parts T W × S) (at : ℕ → Before T W) (now : Before T W)
-      (given : ℕ → List (Given T)) (left : List (Given T)) (last : Parts T V × S) → event_by put x ≡ y → with_asked x more ≡ asks → Changes (WakesFor put wakes) x c d
+      (given : ℕ → List (Completed T)) (left : List (Completed T)) (last : Parts T V × S) → event_by put x ≡ y → with_asked x more ≡ asks → Changes (WakesFor put wakes) x c d
       → (b : Behind xs more d (instead p now at) (instead p left given) last) → ((ys : List (Event T W)) → Acts form now ys left → Acts form (at p) (x ∷ ys) (given p))
       → Behind (happens p y ∷ xs) asks c at given last
   joined p x y xs asks more c d at now given left last is asks_are change b mine =
@@ -95,7 +95,7 @@ module _ {T W V S : Type 0} (put : W → V) (wakes : S → V → S → Type 0) (
 
   -- ---- a call begins
 
-  idle : (at : Before T W) (a : ChannelAsk T V) (ys : List (Event T V)) (rs : List (Given T)) → Acts form (at_so at) (begins a ∷ ys) rs
+  idle : (at : Before T W) (a : ChannelAsk T V) (ys : List (Event T V)) (rs : List (Completed T)) → Acts form (at_so at) (begins a ∷ ys) rs
       → (at ≡ None) × ((s : Stage (QueueCall T) T V) × Takes (first a) s None × Acts form (Some s) ys rs)
   idle None a ys rs h = (refl, h)
   idle (Some s) a ys rs h = absurd h
@@ -105,7 +105,7 @@ module _ {T W V S : Type 0} (put : W → V) (wakes : S → V → S → Type 0) (
   first_ask [] a more e = absurd (cc e)
   first_ask (x ∷ xs) a more e = (x, xs, refl, cc e, cc e)
 
-  begun : (p : ℕ) (a : ChannelAsk T V) (xs : List (Happening T V)) (last d : Parts T V × S) (asks : List (ChannelAsk T W)) (c : Parts T W × S) (at : ℕ → Before T W) (given : ℕ → List (Given T))
+  begun : (p : ℕ) (a : ChannelAsk T V) (xs : List (Happening T V)) (last d : Parts T V × S) (asks : List (ChannelAsk T W)) (c : Parts T W × S) (at : ℕ → Before T W) (given : ℕ → List (Completed T))
       → map (λ x. ask_by put x) asks ≡ a ∷ asks_of xs → AllAct at (happens p (begins a) ∷ xs) given → d ≡ both_so put c → InOneOrder wakes xs d last → GoesOn xs last
       → Behind (happens p (begins a) ∷ xs) asks c at given last
   begun p a xs last d asks c at given asks_are acts same order further =
@@ -122,16 +122,16 @@ module _ {T W V S : Type 0} (put : W → V) (wakes : S → V → S → Type 0) (
 
   -- ---- a call makes a step
 
-  busy : (at : Before T W) (o : Act T V) (ys : List (Event T V)) (rs : List (Given T)) → Acts form (at_so at) (does o ∷ ys) rs
+  busy : (at : Before T W) (o : Act T V) (ys : List (Event T V)) (rs : List (Completed T)) → Acts form (at_so at) (does o ∷ ys) rs
       → (s : Stage (QueueCall T) T W) × (at ≡ Some s) × Acts form (Some (stage_by put s)) (does o ∷ ys) rs
   busy None o ys rs h = absurd h
   busy (Some s) o ys rs h = (s, refl, h)
 
-  module _ (p : ℕ) (o : Act T V) (xs : List (Happening T V)) (last d : Parts T V × S) (asks : List (ChannelAsk T W)) (c : Parts T W × S) (at : ℕ → Before T W) (given : ℕ → List (Given T))
+  module _ (p : ℕ) (o : Act T V) (xs : List (Happening T V)) (last d : Parts T V × S) (asks : List (ChannelAsk T W)) (c : Parts T W × S) (at : ℕ → Before T W) (given : ℕ → List (Completed T))
       (asks_are : map (λ x. ask_by put x) asks ≡ asks_of xs) (acts : AllAct at (happens p (does o) ∷ xs) given) (order : InOneOrder wakes xs d last) (further : GoesOn xs last)
       (change : Changes wakes (does o) (both_so put c) d) (s : Stage (QueueCall T) T W) (there : at p ≡ Some s) (m : Mark) (next : Stage (QueueCall T) T V) where
     stepped : (r : Option (Reply T)) → ChannelMakes (Notes form) (stage_by put s) on_nothing o m next r
-        → MatchOption r (Acts form (Some next) (own p xs) (given p)) (λ x. (more : List (Given T)) × (given p ≡ record { reply = x; kept = kept_by next } ∷ more) × Acts form None (own p xs) more)
+        → MatchOption r (Acts form (Some next) (own p xs) (given p)) (λ x. (more : List (Completed T)) × (given p ≡ record { reply = x; kept = kept_by next } ∷ more) × Acts form None (own p xs) more)
         → Behind (happens p (does o) ∷ xs) asks c at given last
     stepped None makes goes =
         let b = step_before put wakes form o c d change m next None s makes in
@@ -151,7 +151,7 @@ module _ {T W V S : Type 0} (put : W → V) (wakes : S → V → S → Type 0) (
         (subst (λ (y : Parts T V × S). InOneOrder wakes xs y last) (sym x.seen) order))
         (λ ys h. subst (λ (y : Before T W). Acts form y (does b.act ∷ ys) (given p)) (sym there) (m, b.after, Some r, b.makes, (more, given_is, h)))
 
-  happened : (p : ℕ) (y : Event T V) (xs : List (Happening T V)) (last d : Parts T V × S) (asks : List (ChannelAsk T W)) (c : Parts T W × S) (at : ℕ → Before T W) (given : ℕ → List (Given T))
+  happened : (p : ℕ) (y : Event T V) (xs : List (Happening T V)) (last d : Parts T V × S) (asks : List (ChannelAsk T W)) (c : Parts T W × S) (at : ℕ → Before T W) (given : ℕ → List (Completed T))
       → map (λ x. ask_by put x) asks ≡ with_asked y (asks_of xs) → AllAct at (happens p y ∷ xs) given → Changes wakes y (both_so put c) d → InOneOrder wakes xs d last → GoesOn xs last
       → Behind (happens p y ∷ xs) asks c at given last
   happened p (begins a) xs last d asks c at given asks_are acts change order further = begun p a xs last d asks c at given asks_are acts change order further
@@ -164,7 +164,7 @@ module _ {T W V S : Type 0} (put : W → V) (wakes : S → V → S → Type 0) (
   no_asks [] e = refl
   no_asks (x ∷ xs) e = absurd (cc e)
 
-  none_acts : (at : Before T W) (rs : List (Given T)) → Acts form (at_so at) [] rs → Acts form at [] rs
+  none_acts : (at : Before T W) (rs : List (Completed T)) → Acts form (at_so at) [] rs → Acts form at [] rs
   none_acts None rs is = is
   none_acts (Some s) rs is = is
 

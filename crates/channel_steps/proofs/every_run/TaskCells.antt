@@ -1,7 +1,7 @@
 -- Other tasks put for those of a channel's lists: each deed does to them what it did, with these tasks.
 use Rattle.std.proofs.Common.{◌≡◌, ℕ, zero, suc, ◌+◌, ◌-◌, Bool, true, false, not, if◌then◌else◌, List, [], ◌∷◌, ◌++◌, map, Option, None, Some, Result, Ok, Err, option_map, refl, sym, ap, subst, ◌∙◌}
 use Rattle.std.proofs.lemmas.List.{map-append}
-use Rattle.channel_steps.proofs.every_run.Words.{Notice, kind_of, listened, registration, removed, removed_wakes, told_with, Woken, Key, ListenError, Deed, stepped, inserted, registered, taken_off, one_told, more_told, all_told, counted, lowered, raised, Done, Does, Parts, Listeners, WaitLists, with_roster, listeners, with_listeners, count, with_count, is_raised, told_one, told_one_wakes, told_more, told_more_wakes, told_all, told_all_wakes, waits, WaitList, Sends, Side, Senders, Receivers, woken_by, OnList, Registers, WakesSo, WakesFor, listeners_by, roster_by, parts_by, deed_by}
+use Rattle.channel_steps.proofs.every_run.Words.{Notice, kind_of, listened, registration, removed, removed_wakes, told_with, Woken, Key, ListenError, Deed, stepped, inserted, registered, taken_off, one_told, more_told, all_told, counted, lowered, raised, Done, Does, Parts, Listeners, WaitLists, with_wait_lists, listeners, with_listeners, count, with_count, is_raised, told_one, told_one_wakes, told_more, told_more_wakes, told_all, told_all_wakes, waits, WaitList, Sends, Side, Senders, Receivers, woken_by, OnList, Registers, WakesSo, WakesFor, listeners_by, wait_lists_by, parts_by, deed_by}
 use Rattle.channel_steps.proofs.every_run.TaskLists.{by, told_by, tasks_by, kind_by, listened_by, registration_by, passed_by, passed_wakes_by, removed_by, removed_wakes_by}
 
 module _ {W V : Type 0} (put : W → V) where
@@ -41,23 +41,23 @@ module _ {W V : Type 0} (put : W → V) where
 
   -- ---- all lists
 
-  pub list_of : (line : WaitList) (a : WaitLists W) → listeners line (roster_by put a) ≡ listeners_by put (listeners line a)
+  pub list_of : (line : WaitList) (a : WaitLists W) → listeners line (wait_lists_by put a) ≡ listeners_by put (listeners line a)
   list_of Sends a = refl
   list_of line a = refl
 
-  with_list : (line : WaitList) (l : Listeners W) (a : WaitLists W) → with_listeners line (listeners_by put l) (roster_by put a) ≡ roster_by put (with_listeners line l a)
+  with_list : (line : WaitList) (l : Listeners W) (a : WaitLists W) → with_listeners line (listeners_by put l) (wait_lists_by put a) ≡ wait_lists_by put (with_listeners line l a)
   with_list Sends l a = refl
   with_list line l a = refl
 
-  count_of : (side : Side) (a : WaitLists W) → count side (roster_by put a) ≡ count side a
+  count_of : (side : Side) (a : WaitLists W) → count side (wait_lists_by put a) ≡ count side a
   count_of Senders a = refl
   count_of Receivers a = refl
 
-  with_number : (side : Side) (n : ℕ) (a : WaitLists W) → with_count side n (roster_by put a) ≡ roster_by put (with_count side n a)
+  with_number : (side : Side) (n : ℕ) (a : WaitLists W) → with_count side n (wait_lists_by put a) ≡ wait_lists_by put (with_count side n a)
   with_number Senders n a = refl
   with_number Receivers n a = refl
 
-  is_raised_alike : (side : Side) (n : ℕ) (a : WaitLists W) → is_raised side n (roster_by put a) ≡ is_raised side n a
+  is_raised_alike : (side : Side) (n : ℕ) (a : WaitLists W) → is_raised side n (wait_lists_by put a) ≡ is_raised side n a
   is_raised_alike Senders n a = refl
   is_raised_alike Receivers n a = refl
 
@@ -79,52 +79,52 @@ module _ {T W V : Type 0} (put : W → V) where
   seen p = parts_by put p
 
   abbrev with_line : WaitList → Listeners W → Parts T W → Parts T W
-  with_line line l p = with_roster (with_listeners line l p.roster) p
+  with_line line l p = with_wait_lists (with_listeners line l p.wait_lists) p
 
   -- one list is another one
   on_list : (line : WaitList) (here : Listeners W → Listeners W) (there : Listeners V → Listeners V) (alike : (l : Listeners W) → there (listeners_by put l) ≡ listeners_by put (here l)) (p : Parts T W)
-      → with_roster (with_listeners line (there (listeners line (roster_by put p.roster))) (roster_by put p.roster)) (seen p) ≡ seen (with_line line (here (listeners line p.roster)) p)
+      → with_wait_lists (with_listeners line (there (listeners line (wait_lists_by put p.wait_lists))) (wait_lists_by put p.wait_lists)) (seen p) ≡ seen (with_line line (here (listeners line p.wait_lists)) p)
   on_list line here there alike p =
-      let a = p.roster in
-      let one : there (listeners line (roster_by put a)) ≡ listeners_by put (here (listeners line a)) = ap there (list_of put line a) ∙ alike (listeners line a) in
-      ap (λ (x : WaitLists V). with_roster x (seen p))
-      (ap (λ (l : Listeners V). with_listeners line l (roster_by put a)) one ∙ with_list put line (here (listeners line a)) a)
+      let a = p.wait_lists in
+      let one : there (listeners line (wait_lists_by put a)) ≡ listeners_by put (here (listeners line a)) = ap there (list_of put line a) ∙ alike (listeners line a) in
+      ap (λ (x : WaitLists V). with_wait_lists x (seen p))
+      (ap (λ (l : Listeners V). with_listeners line l (wait_lists_by put a)) one ∙ with_list put line (here (listeners line a)) a)
 
   whom : (line : WaitList) (here : Listeners W → List W) (there : Listeners V → List V) (alike : (l : Listeners W) → there (listeners_by put l) ≡ map put (here l)) (p : Parts T W)
-      → there (listeners line (roster_by put p.roster)) ≡ map put (here (listeners line p.roster))
-  whom line here there alike p = ap there (list_of put line p.roster) ∙ alike (listeners line p.roster)
+      → there (listeners line (wait_lists_by put p.wait_lists)) ≡ map put (here (listeners line p.wait_lists))
+  whom line here there alike p = ap there (list_of put line p.wait_lists) ∙ alike (listeners line p.wait_lists)
 
-  kind_so : (line : WaitList) (key : Key) (p : Parts T W) → kind_of (listeners line (roster_by put p.roster)) key ≡ kind_of (listeners line p.roster) key
-  kind_so line key p = ap (λ (l : Listeners V). kind_of l key) (list_of put line p.roster) ∙ kind_by put key (listeners line p.roster)
+  kind_so : (line : WaitList) (key : Key) (p : Parts T W) → kind_of (listeners line (wait_lists_by put p.wait_lists)) key ≡ kind_of (listeners line p.wait_lists) key
+  kind_so line key p = ap (λ (l : Listeners V). kind_of l key) (list_of put line p.wait_lists) ∙ kind_by put key (listeners line p.wait_lists)
 
-  waits_so : (line : WaitList) (key : Key) (p : Parts T W) → waits key (listeners line (roster_by put p.roster)) ≡ waits key (listeners line p.roster)
-  waits_so line key p = ap (λ (l : Listeners V). waits key l) (list_of put line p.roster) ∙ ap (λ (o : Option Bool). elim o [ Some told ↦ not told | None ↦ false ]) (kind_by put key (listeners line p.roster))
+  waits_so : (line : WaitList) (key : Key) (p : Parts T W) → waits key (listeners line (wait_lists_by put p.wait_lists)) ≡ waits key (listeners line p.wait_lists)
+  waits_so line key p = ap (λ (l : Listeners V). waits key l) (list_of put line p.wait_lists) ∙ ap (λ (o : Option Bool). elim o [ Some told ↦ not told | None ↦ false ]) (kind_by put key (listeners line p.wait_lists))
 
   -- ---- what a deed does, with others put for the tasks
 
   list_so : (line : WaitList) (here : Listeners W → Listeners W) (there : Listeners V → Listeners V) (alike : (l : Listeners W) → there (listeners_by put l) ≡ listeners_by put (here l)) (p q : Parts T W)
-      → OnList line (here (listeners line p.roster)) p q → OnList line (there (listeners line (roster_by put p.roster))) (seen p) (seen q)
+      → OnList line (here (listeners line p.wait_lists)) p q → OnList line (there (listeners line (wait_lists_by put p.wait_lists))) (seen p) (seen q)
   list_so line here there alike p q is = ap seen is ∙ sym (on_list line here there alike p)
 
   told_so : (line : WaitList) (here : Listeners W → List W) (there : Listeners V → List V) (alike : (l : Listeners W) → there (listeners_by put l) ≡ map put (here l)) (p : Parts T W) (names : List W)
-      → names ≡ here (listeners line p.roster) → map put names ≡ there (listeners line (roster_by put p.roster))
+      → names ≡ here (listeners line p.wait_lists) → map put names ≡ there (listeners line (wait_lists_by put p.wait_lists))
   told_so line here there alike p names is = ap (λ (x : List W). map put x) is ∙ sym (whom line here there alike p)
 
-  registers_so : (line : WaitList) (key : Key) (task : W) (r : Option W) (p : Parts T W) → Registers (listeners line p.roster) key task r
-      → Registers (listeners line (roster_by put p.roster)) key (put task) (option_map put r)
+  registers_so : (line : WaitList) (key : Key) (task : W) (r : Option W) (p : Parts T W) → Registers (listeners line p.wait_lists) key task r
+      → Registers (listeners line (wait_lists_by put p.wait_lists)) key (put task) (option_map put r)
   registers_so line key task None p h = waits_so line key p ∙ h
   registers_so line key task (Some w) p (is, h) = (ap put is, waits_so line key p ∙ h)
 
-  number_so : (side : Side) (n : ℕ) (p q : Parts T W) → q ≡ with_roster (with_count side n p.roster) p → seen q ≡ with_roster (with_count side n (roster_by put p.roster)) (seen p)
-  number_so side n p q is = ap seen is ∙ ap (λ (a : WaitLists V). with_roster a (seen p)) (sym (with_number put side n p.roster))
+  number_so : (side : Side) (n : ℕ) (p q : Parts T W) → q ≡ with_wait_lists (with_count side n p.wait_lists) p → seen q ≡ with_wait_lists (with_count side n (wait_lists_by put p.wait_lists)) (seen p)
+  number_so side n p q is = ap seen is ∙ ap (λ (a : WaitLists V). with_wait_lists a (seen p)) (sym (with_number put side n p.wait_lists))
 
-  raised_so : (side : Side) (n : ℕ) (b : Bool) (p q : Parts T W) → q ≡ (if b then with_roster (with_count side n p.roster) p else p)
-      → seen q ≡ (if b then with_roster (with_count side n (roster_by put p.roster)) (seen p) else seen p)
+  raised_so : (side : Side) (n : ℕ) (b : Bool) (p q : Parts T W) → q ≡ (if b then with_wait_lists (with_count side n p.wait_lists) p else p)
+      → seen q ≡ (if b then with_wait_lists (with_count side n (wait_lists_by put p.wait_lists)) (seen p) else seen p)
   raised_so side n true p q is = number_so side n p q is
   raised_so side n false p q is = ap seen is
 
   pub does_so : (d : Deed T W) (p q : Parts T W) → Does d p q → Does (deed_by put d) (seen p) (seen q)
-  does_so (stepped call after r) p q (h, same) = (h, ap (λ (a : WaitLists W). roster_by put a) same)
+  does_so (stepped call after r) p q (h, same) = (h, ap (λ (a : WaitLists W). wait_lists_by put a) same)
   does_so (inserted line (Ok key)) p q (none, is) = (kind_so line key p ∙ none, list_so line (listened key) (listened key) (listened_by put key) p q is)
   does_so (inserted line (Err e)) p q is = ap seen is
   does_so (registered line key task r) p q (how, is) = (registers_so line key task r p how, list_so line (registration key task) (registration key (put task)) (registration_by put key task) p q is)
@@ -134,9 +134,9 @@ module _ {T W V : Type 0} (put : W → V) where
   does_so (more_told line n names) p q (told, is) =
       (told_so line (told_more_wakes n) (told_more_wakes n) (more_wakes put n) p names told, list_so line (told_more n) (told_more n) (more_alike put n) p q is)
   does_so (all_told line names) p q (told, is) = (told_so line told_all_wakes told_all_wakes (all_wakes put) p names told, list_so line told_all told_all (all_alike put) p q is)
-  does_so (counted side n) p q (is, same) = (is ∙ sym (count_of put side p.roster), ap seen same)
-  does_so (lowered side n) p q (is, now) = (is ∙ sym (count_of put side p.roster), number_so side (n - 1) p q now)
-  does_so (raised side n b) p q (is, now) = (is ∙ sym (is_raised_alike put side n p.roster), raised_so side (n + 1) b p q now)
+  does_so (counted side n) p q (is, same) = (is ∙ sym (count_of put side p.wait_lists), ap seen same)
+  does_so (lowered side n) p q (is, now) = (is ∙ sym (count_of put side p.wait_lists), number_so side (n - 1) p q now)
+  does_so (raised side n b) p q (is, now) = (is ∙ sym (is_raised_alike put side n p.wait_lists), raised_so side (n + 1) b p q now)
 
   whom_woke : (d : Deed T W) → woken_by (deed_by put d) ≡ map put (woken_by d)
   whom_woke (taken_off line key names) = refl
@@ -155,18 +155,18 @@ module _ {T W V : Type 0} (put : W → V) where
     pub were : map put names_before ≡ names
     pub parts : Parts T W
     pub left : seen parts ≡ q
-    pub told : names_before ≡ woke (listeners line p.roster)
-    pub on_it : OnList line (here (listeners line p.roster)) p parts
+    pub told : names_before ≡ woke (listeners line p.wait_lists)
+    pub on_it : OnList line (here (listeners line p.wait_lists)) p parts
 
   pub told_before : (line : WaitList) (here : Listeners W → Listeners W) (there : Listeners V → Listeners V) (alike : (l : Listeners W) → there (listeners_by put l) ≡ listeners_by put (here l))
       (woke : Listeners W → List W) (woken : Listeners V → List V) (woke_alike : (l : Listeners W) → woken (listeners_by put l) ≡ map put (woke l))
       (p : Parts T W) (names : List V) (q : Parts T V)
-      → names ≡ woken (listeners line (roster_by put p.roster)) → OnList line (there (listeners line (roster_by put p.roster))) (seen p) q → ToldBefore line here woke p names q
+      → names ≡ woken (listeners line (wait_lists_by put p.wait_lists)) → OnList line (there (listeners line (wait_lists_by put p.wait_lists))) (seen p) q → ToldBefore line here woke p names q
   told_before line here there alike woke woken woke_alike p names q told is =
       record {
-        names_before = woke (listeners line p.roster);
+        names_before = woke (listeners line p.wait_lists);
         were = sym (told ∙ whom line woke woken woke_alike p);
-        parts = with_line line (here (listeners line p.roster)) p;
+        parts = with_line line (here (listeners line p.wait_lists)) p;
         left = sym (is ∙ on_list line here there alike p);
         told = refl;
         on_it = refl;
@@ -175,7 +175,7 @@ module _ {T W V : Type 0} (put : W → V) where
   -- a listener that came
   pub inserted_before : (line : WaitList) (r : Result Key ListenError) (p : Parts T W) (q : Parts T V) → Does (inserted line r) (seen p) q → (x : Parts T W) × (seen x ≡ q) × Does (inserted line r) p x
   inserted_before line (Ok key) p q (none, is) =
-      (with_line line (listened key (listeners line p.roster)) p, sym (is ∙ on_list line (listened key) (listened key) (listened_by put key) p), (sym (kind_so line key p) ∙ none, refl))
+      (with_line line (listened key (listeners line p.wait_lists)) p, sym (is ∙ on_list line (listened key) (listened key) (listened_by put key) p), (sym (kind_so line key p) ∙ none, refl))
   inserted_before line (Err e) p q is = (p, sym is, refl)
 
   -- a task that came to a listener: that of a told one comes back
@@ -184,32 +184,32 @@ module _ {T W V : Type 0} (put : W → V) where
   registered_before line key task None p q (how, is) = (
     None,
     refl,
-    with_line line (registration key task (listeners line p.roster)) p,
+    with_line line (registration key task (listeners line p.wait_lists)) p,
     sym (is ∙ on_list line (registration key task) (registration key (put task)) (registration_by put key task) p),
     (sym (waits_so line key p) ∙ how, refl),
   )
   registered_before line key task (Some v) p q ((same, how), is) = (
     Some task,
     ap (λ (x : V). Some x) (sym same),
-    with_line line (registration key task (listeners line p.roster)) p,
+    with_line line (registration key task (listeners line p.wait_lists)) p,
     sym (is ∙ on_list line (registration key task) (registration key (put task)) (registration_by put key task) p),
     ((refl, sym (waits_so line key p) ∙ how), refl),
   )
 
   -- a count
   pub counted_before : (side : Side) (n : ℕ) (p : Parts T W) (q : Parts T V) → Does (counted side n) (seen p) q → (x : Parts T W) × (seen x ≡ q) × Does (counted side n) p x
-  counted_before side n p q (is, same) = (p, sym same, (is ∙ count_of put side p.roster, refl))
+  counted_before side n p q (is, same) = (p, sym same, (is ∙ count_of put side p.wait_lists, refl))
 
   pub lowered_before : (side : Side) (n : ℕ) (p : Parts T W) (q : Parts T V) → Does (lowered side n) (seen p) q → (x : Parts T W) × (seen x ≡ q) × Does (lowered side n) p x
   lowered_before side n p q (is, now) =
-      let x = with_roster (with_count side (n - 1) p.roster) p in
-      (x, number_so side (n - 1) p x refl ∙ sym now, (is ∙ count_of put side p.roster, refl))
+      let x = with_wait_lists (with_count side (n - 1) p.wait_lists) p in
+      (x, number_so side (n - 1) p x refl ∙ sym now, (is ∙ count_of put side p.wait_lists, refl))
 
   pub raised_before : (side : Side) (n : ℕ) (b : Bool) (p : Parts T W) (q : Parts T V) → Does (raised side n b) (seen p) q → (x : Parts T W) × (seen x ≡ q) × Does (raised side n b) p x
   raised_before side n b p q (is, now) =
-      let x = if b then with_roster (with_count side (n + 1) p.roster) p else p in
-      (x, raised_so side (n + 1) b p x refl ∙ sym now, (is ∙ is_raised_alike put side n p.roster, refl))
+      let x = if b then with_wait_lists (with_count side (n + 1) p.wait_lists) p else p in
+      (x, raised_so side (n + 1) b p x refl ∙ sym now, (is ∙ is_raised_alike put side n p.wait_lists, refl))
 
   -- a step of the queue
-  pub stepped_before : (p : Parts T W) (q : Parts T V) → q.roster ≡ roster_by put p.roster → seen (record { cells = q.cells; roster = p.roster }) ≡ q
-  stepped_before p q same = ap (λ (a : WaitLists V). record { cells = q.cells; roster = a }) (sym same)
+  pub stepped_before : (p : Parts T W) (q : Parts T V) → q.wait_lists ≡ wait_lists_by put p.wait_lists → seen (record { cells = q.cells; wait_lists = p.wait_lists }) ≡ q
+  stepped_before p q same = ap (λ (a : WaitLists V). record { cells = q.cells; wait_lists = a }) (sym same)

@@ -1,6 +1,6 @@
 -- Other tasks put for those of a merge.
 use Rattle.std.proofs.Common.{◌≡◌, ℕ, ◌==◌, Bool, true, false, if◌then◌else◌, List, [], ◌∷◌, map, Option, None, Some, option_map, refl, sym, ap, subst, ◌∙◌}
-use Rattle.channel_steps.proofs.every_run.Words.{QueueForm, QueueCall, first, Deed, stepped, Parts, WaitLists, Takes, ChannelMakes, Mark, Reply, Returned, Stage, NextStep, Act, on_queue, on_roster, on_nothing, Event, begins, Happening, Given, Notes, Acts, own, Changes, InOneOrder, WakesSo, MergesHaveAnyTasks, roster_by, parts_by, deed_by, act_by, stage_by, event_by, all_by}
+use Rattle.channel_steps.proofs.every_run.Words.{QueueForm, QueueCall, first, Deed, stepped, Parts, WaitLists, Takes, ChannelMakes, Mark, Reply, Returned, Stage, NextStep, Act, on_queue, on_wait_lists, on_nothing, Event, begins, Happening, Completed, Notes, Acts, own, Changes, InOneOrder, WakesSo, MergesHaveAnyTasks, wait_lists_by, parts_by, deed_by, act_by, stage_by, event_by, all_by}
 use Rattle.channel_steps.specs.every_run.Bridge.{does}
 use Rattle.channel_steps.proofs.every_run.TaskCells.{done_so}
 use Rattle.channel_steps.proofs.every_run.TaskTurns.{first_alike, kept_alike, takes}
@@ -31,7 +31,7 @@ module _ {T W V : Type 0} (put : W → V) where
   abbrev at_so : Option (Stage (QueueCall T) T W) → Option (Stage (QueueCall T) T V)
   at_so at = option_map (λ s. stage_by put s) at
 
-  acts_so : (form : QueueForm) (at : Option (Stage (QueueCall T) T W)) (ys : List (Event T W)) (rs : List (Given T)) → Acts form at ys rs → Acts form (at_so at) (map (λ y. event_by put y) ys) rs
+  acts_so : (form : QueueForm) (at : Option (Stage (QueueCall T) T W)) (ys : List (Event T W)) (rs : List (Completed T)) → Acts form at ys rs → Acts form (at_so at) (map (λ y. event_by put y) ys) rs
   acts_so form None [] rs is = is
   acts_so form (Some at) [] rs is = is
   acts_so form None (begins a ∷ ys) rs (s, start, more) =
@@ -53,8 +53,8 @@ module _ {T W V : Type 0} (put : W → V) where
     both_so c = (parts_by put c.0, c.1)
 
     changes_so : (y : Event T W) (c e : Parts T W × S) → Changes wakes y c e → Changes (WakesSo put wakes) (event_by put y) (both_so c) (both_so e)
-    changes_so (does (on_queue (Some d))) c e (h, same, sink) = (h, ap (λ (a : WaitLists W). roster_by put a) same, sink)
-    changes_so (does (on_roster d)) c e h = done_so put wakes d c e h
+    changes_so (does (on_queue (Some d))) c e (h, same, sink) = (h, ap (λ (a : WaitLists W). wait_lists_by put a) same, sink)
+    changes_so (does (on_wait_lists d)) c e h = done_so put wakes d c e h
     changes_so w c e is = ap both_so is
 
     in_order_so : (xs : List (Happening T W)) (c e : Parts T W × S) → InOneOrder wakes xs c e → InOneOrder (WakesSo put wakes) (all_by put xs) (both_so c) (both_so e)

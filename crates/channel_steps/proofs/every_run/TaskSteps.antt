@@ -1,7 +1,7 @@
 -- A step of a merge, with other tasks for which its tasks were put.
 use Rattle.std.proofs.Common.{◌≡◌, ℕ, true, List, map, Option, None, Some, refl, sym, ap, subst, ◌∙◌}
 use Rattle.concurrent_queue.specs.Deeds as cell
-use Rattle.channel_steps.proofs.every_run.Words.{QueueReply, QueueForm, QueueCall, removed, removed_wakes, Woken, Key, answered_next, Deed, inserted, registered, taken_off, one_told, more_told, all_told, counted, lowered, raised, Done, Does, Parts, told_one, told_one_wakes, told_more, told_more_wakes, told_all, told_all_wakes, line_of, leaving, nothing_kept, registered_next, Takes, Heard, Leaves, WorkMakes, ChannelMakes, Marked, Mark, Reply, Purpose, ListenerRef, WaitList, Stage, Trying, Working, Finished, NextStep, Works, Ends, ListStep, TellReceive, TellStreams, TellSend, TellSends, TakeRoom, TellAll, Insert, Register, Leave, Lower, Count, Load, Raise, Act, on_queue, on_roster, on_nothing, Notes, Changes, WakesFor, parts_by, act_by, aim_by, work_by, stage_by, Listeners, turn_by, OnList, listeners, listeners_by, roster_by}
+use Rattle.channel_steps.proofs.every_run.Words.{QueueReply, QueueForm, QueueCall, removed, removed_wakes, Woken, Key, answered_next, Deed, inserted, registered, taken_off, one_told, more_told, all_told, counted, lowered, raised, Done, Does, Parts, told_one, told_one_wakes, told_more, told_more_wakes, told_all, told_all_wakes, line_of, leaving, nothing_kept, registered_next, Takes, Heard, Leaves, WorkMakes, ChannelMakes, Marked, Mark, Reply, Purpose, ListenerRef, WaitList, Stage, Trying, Working, Finished, NextStep, Works, Ends, ListStep, TellReceive, TellStreams, TellSend, TellSends, TakeRoom, TellAll, Insert, Register, Leave, Lower, Count, Load, Raise, Act, on_queue, on_wait_lists, on_nothing, Notes, Changes, WakesFor, parts_by, act_by, aim_by, work_by, stage_by, Listeners, turn_by, OnList, listeners, listeners_by, wait_lists_by}
 use Rattle.channel_calls.specs.declared.mark.Mark.TheVariants.{Nothing}
 use Rattle.channel_calls.specs.declared.reply.Reply.TheVariants as reply
 use Rattle.channel_steps.specs.every_run.Bridge.{does}
@@ -31,7 +31,7 @@ module _ {T W V S : Type 0} (put : W → V) (wakes : S → V → S → Type 0) (
       pub goes : stage_by put after ≡ next
       pub makes : ChannelMakes (Notes form) at on_nothing act m after r
 
-    on : (e : Deed T V) → o ≡ on_roster e → Done Does wakes e (both_so put c) d
+    on : (e : Deed T V) → o ≡ on_wait_lists e → Done Does wakes e (both_so put c) d
     on e is = subst (λ (x : Act T V). Changes wakes (does x) (both_so put c) d) is change
 
     ends_in : (x : Parts T W) (s : S) → parts_by put x ≡ d.0 → s ≡ d.1 → both_so put (x, s) ≡ d
@@ -48,54 +48,54 @@ module _ {T W V S : Type 0} (put : W → V) (wakes : S → V → S → Type 0) (
 
     -- A telling, or a removal, which may pass a notice on: what it does to its list and whom it wakes are alike whatever the tasks are.
     abbrev Tells : (List W → Deed T W) → Type 0
-    Tells deed = (names : List W) × ActBefore (on_roster (deed names))
+    Tells deed = (names : List W) × ActBefore (on_wait_lists (deed names))
 
     module _ (line : WaitList) (here : Listeners W → Listeners W) (there : Listeners V → Listeners V) (alike : (l : Listeners W) → there (listeners_by put l) ≡ listeners_by put (here l))
         (woken_here : Listeners W → List W) (woken_there : Listeners V → List V) (woken_alike : (l : Listeners W) → woken_there (listeners_by put l) ≡ map put (woken_here l)) where
-      tells : (deed : List W → Deed T W) (deed_there : List V → Deed T V) (names : List V) → ((ns : List W) → act_by put (on_roster (deed ns)) ≡ on_roster (deed_there (map put ns)))
-          → o ≡ on_roster (deed_there names)
-          → (names ≡ woken_there (listeners line (roster_by put c.0.roster))) × OnList line (there (listeners line (roster_by put c.0.roster))) (parts_by put c.0) d.0 × Woken wakes c.1 names d.1
-          → ((ns : List W) (x : Parts T W) → ns ≡ woken_here (listeners line c.0.roster) → OnList line (here (listeners line c.0.roster)) c.0 x → Woken (WakesFor put wakes) c.1 ns d.1
-          → Changes (WakesFor put wakes) (does (on_roster (deed ns))) c (x, d.1))
+      tells : (deed : List W → Deed T W) (deed_there : List V → Deed T V) (names : List V) → ((ns : List W) → act_by put (on_wait_lists (deed ns)) ≡ on_wait_lists (deed_there (map put ns)))
+          → o ≡ on_wait_lists (deed_there names)
+          → (names ≡ woken_there (listeners line (wait_lists_by put c.0.wait_lists))) × OnList line (there (listeners line (wait_lists_by put c.0.wait_lists))) (parts_by put c.0) d.0 × Woken wakes c.1 names d.1
+          → ((ns : List W) (x : Parts T W) → ns ≡ woken_here (listeners line c.0.wait_lists) → OnList line (here (listeners line c.0.wait_lists)) c.0 x → Woken (WakesFor put wakes) c.1 ns d.1
+          → Changes (WakesFor put wakes) (does (on_wait_lists (deed ns))) c (x, d.1))
           → Tells deed
       tells deed deed_there names same is (told, left, woke_so) changes =
           let t = told_before put line here there alike woken_here woken_there woken_alike c.0 names d.0 told left in (
             t.names_before,
             record {
-              acts = same t.names_before ∙ ap (λ (xs : List V). on_roster (deed_there xs)) t.were ∙ sym is;
+              acts = same t.names_before ∙ ap (λ (xs : List V). on_wait_lists (deed_there xs)) t.were ∙ sym is;
               left = (t.parts, d.1);
               seen = ends_in t.parts d.1 t.left refl;
               changes = changes t.names_before t.parts t.told t.on_it (wakes_for put wakes c.1 t.names_before d.1 (subst (λ (xs : List V). Woken wakes c.1 xs d.1) (sym t.were) woke_so));
             },
           )
 
-    one : (line : WaitList) (names : List V) → o ≡ on_roster (one_told line names) → Tells (λ ns. one_told line ns)
+    one : (line : WaitList) (names : List V) → o ≡ on_wait_lists (one_told line names) → Tells (λ ns. one_told line ns)
     one line names is =
         let h = on (one_told line names) is in
         tells line told_one told_one (one_alike put) told_one_wakes told_one_wakes (one_wakes put) (λ ns. one_told line ns) (λ ns. one_told line ns) names (λ ns. refl) is (h.0.0, h.0.1, h.1) (λ ns x e f k. ((e, f), k))
 
-    more : (line : WaitList) (n : ℕ) (names : List V) → o ≡ on_roster (more_told line n names) → Tells (λ ns. more_told line n ns)
+    more : (line : WaitList) (n : ℕ) (names : List V) → o ≡ on_wait_lists (more_told line n names) → Tells (λ ns. more_told line n ns)
     more line n names is =
         let h = on (more_told line n names) is in
         tells line (told_more n) (told_more n) (more_alike put n) (told_more_wakes n) (told_more_wakes n) (more_wakes put n) (λ ns. more_told line n ns) (λ ns. more_told line n ns) names (λ ns. refl) is (h.0.0, h.0.1, h.1) (λ ns x e f k. ((e, f), k))
 
-    all : (line : WaitList) (names : List V) → o ≡ on_roster (all_told line names) → Tells (λ ns. all_told line ns)
+    all : (line : WaitList) (names : List V) → o ≡ on_wait_lists (all_told line names) → Tells (λ ns. all_told line ns)
     all line names is =
         let h = on (all_told line names) is in
         tells line told_all told_all (all_alike put) told_all_wakes told_all_wakes (all_wakes put) (λ ns. all_told line ns) (λ ns. all_told line ns) names (λ ns. refl) is (h.0.0, h.0.1, h.1) (λ ns x e f k. ((e, f), k))
 
-    off : (line : WaitList) (key : Key) (names : List V) → o ≡ on_roster (taken_off line key names) → Tells (λ ns. taken_off line key ns)
+    off : (line : WaitList) (key : Key) (names : List V) → o ≡ on_wait_lists (taken_off line key names) → Tells (λ ns. taken_off line key ns)
     off line key names is =
         let h = on (taken_off line key names) is in
         tells line (removed key true) (removed key true) (removed_by put key) (removed_wakes key true) (removed_wakes key true) (removed_wakes_by put key) (λ ns. taken_off line key ns) (λ ns. taken_off line key ns) names (λ ns. refl) is (h.0.0, h.0.1, h.1) (λ ns x e f k. ((e, f), k))
 
     leaves : (held : Option ListenerRef) → Leaves (Notes form) held on_nothing o → (act : Act T W) × ActBefore act × Leaves (Notes form) held on_nothing act
     leaves None is = (on_nothing, nothing is, refl)
-    leaves (Some held) (names, is) = let t = off held.line held.key names is in (on_roster (taken_off held.line held.key t.0), t.1, (t.0, refl))
+    leaves (Some held) (names, is) = let t = off held.line held.key names is in (on_wait_lists (taken_off held.line held.key t.0), t.1, (t.0, refl))
 
     -- a deed that wakes nobody
-    quiet : (e : Deed T V) (b : Deed T W) → o ≡ on_roster e → act_by put (on_roster b) ≡ on_roster e → d.1 ≡ c.1 → (x : Parts T W) → parts_by put x ≡ d.0
-        → Changes (WakesFor put wakes) (does (on_roster b)) c (x, c.1) → ActBefore (on_roster b)
+    quiet : (e : Deed T V) (b : Deed T W) → o ≡ on_wait_lists e → act_by put (on_wait_lists b) ≡ on_wait_lists e → d.1 ≡ c.1 → (x : Parts T W) → parts_by put x ≡ d.0
+        → Changes (WakesFor put wakes) (does (on_wait_lists b)) c (x, c.1) → ActBefore (on_wait_lists b)
     quiet e b is same sink x left changes = record { acts = same ∙ sym is; left = (x, c.1); seen = ends_in x c.1 left (sym sink); changes = changes }
 
     -- a step of the queue's call
@@ -111,8 +111,8 @@ module _ {T W V S : Type 0} (put : W → V) (wakes : S → V → S → Type 0) (
         let h : Changes wakes (does (on_queue (Some e))) (both_so put c) d = subst (λ (y : Act T V). Changes wakes (does y) (both_so put c) d) is change in
         record {
           acts = sym is;
-          left = (record { cells = d.0.cells; roster = c.0.roster }, c.1);
-          seen = ends_in (record { cells = d.0.cells; roster = c.0.roster }) c.1 (stepped_before put c.0 d.0 h.1) (sym h.2);
+          left = (record { cells = d.0.cells; wait_lists = c.0.wait_lists }, c.1);
+          seen = ends_in (record { cells = d.0.cells; wait_lists = c.0.wait_lists }) c.1 (stepped_before put c.0 d.0 h.1) (sym h.2);
           changes = (h.0, refl, refl);
         }
 
@@ -143,7 +143,7 @@ module _ {T W V S : Type 0} (put : W → V) (wakes : S → V → S → Type 0) (
       worked (Register w key task) (answer, is, x) =
           let h = on (registered (line_of w) key (put task) answer) is in
           let b = registered_before put (line_of w) key task answer c.0 d.0 h.0 in
-          then_turns _ _ (quiet _ (registered (line_of w) key task b.0) is (ap (λ (y : Option V). on_roster (registered (line_of w) key (put task) y)) b.1) h.1 b.2 b.3 (b.4, refl)) _ _ _
+          then_turns _ _ (quiet _ (registered (line_of w) key task b.0) is (ap (λ (y : Option V). on_wait_lists (registered (line_of w) key (put task) y)) b.1) h.1 b.2 b.3 (b.4, refl)) _ _ _
           (registered_alike put w key b.0) (subst (λ (y : Option V). Marked Nothing (registered_next w key y) m next r) (sym b.1) x) (λ s k. (b.0, refl, k))
       worked (Leave e) (l, x) = let t = leaves e.held l in then_turns _ t.0 t.1 _ (Ends e.reply (leaving None e.message)) _ refl x (λ s k. (t.2, k))
       worked (Lower side key) (n, is, x) =

@@ -9,7 +9,7 @@ use Rattle.concurrent_queue.specs.declared.error.PopError.TheVariants as pop_err
 use Rattle.channel_calls.specs.Asks.{begins}
 use Rattle.channel_calls.specs.declared.ask.ChannelAsk.TheVariants as call
 use Rattle.channel_calls.specs.declared.reply.Reply.TheVariants as reply
-use Rattle.channel_calls.specs.declared.stage.Purpose.TheVariants as aim
+use Rattle.channel_calls.specs.declared.stage.Purpose.TheVariants as purpose
 use Rattle.channel_calls.specs.declared.stage.Making.TheVariants as making
 use Rattle.channel_calls.specs.declared.stage.Waiting.TheVariants as waiting
 use Rattle.channel_calls.specs.declared.stage.ListStep.TheVariants as work
@@ -41,8 +41,8 @@ module _ {T W V : Type 0} (put : W → V) where
 
   pub lowered_alike : (side : Side) (key : Option Key) (n : ℕ) → Same (lowered_next side key n) (lowered_next side key n)
   lowered_alike side key n = at (n == 1) where
-    at : (b : Bool) → Same (if b then Tries ask.Close (aim.Close (dropper side key)) else ends_by (closer_ending (dropper side key) false))
-        (if b then Tries ask.Close (aim.Close (dropper side key)) else ends_by (closer_ending (dropper side key) false))
+    at : (b : Bool) → Same (if b then Tries ask.Close (purpose.Close (dropper side key)) else ends_by (closer_ending (dropper side key) false))
+        (if b then Tries ask.Close (purpose.Close (dropper side key)) else ends_by (closer_ending (dropper side key) false))
     at true = refl
     at false = ends_alike (closer_ending (dropper side key) false)
 
@@ -90,25 +90,25 @@ module _ {T W V : Type 0} (put : W → V) where
   short_alike (v ∷ vs) e = refl
 
   pub answered_alike : (a : Purpose T W) (x : QueueReply T) → Same (answered_next a x) (answered_next (aim_by put a) x)
-  answered_alike aim.TrySend (Push (Err (push_error.Full m))) = refl
-  answered_alike aim.ForceSend (Force (Err (force_error.Closed m))) = refl
-  answered_alike aim.TryRecv (Pop (Err pop_error.Empty)) = refl
-  answered_alike (aim.RecvMany g) (Pop (Ok m)) = gathered_alike (g.taken ++ m ∷ []) g.more
-  answered_alike (aim.RecvMany g) (Pop (Err pop_error.Empty)) = short_alike g.taken _
-  answered_alike (aim.RecvMany g) (Pop (Err pop_error.Closed)) = short_alike g.taken _
-  answered_alike (aim.Poll Sends key task) (Push (Err (push_error.Full m))) = refused_alike (waiting.Send m) key task
-  answered_alike (aim.Poll Sends key task) (Push (Err (push_error.Closed m))) = ends_alike _
-  answered_alike (aim.Poll Sends key task) (Push (Err (push_error.NoMemory m))) = ends_alike _
-  answered_alike (aim.Poll Receives key task) (Pop (Err pop_error.Empty)) = refused_alike waiting.Receive key task
-  answered_alike (aim.Poll Receives key task) (Pop (Err pop_error.Closed)) = ends_alike _
-  answered_alike (aim.Poll Streams key task) (Pop (Err pop_error.Empty)) = refused_alike waiting.Stream key task
-  answered_alike (aim.Poll Streams key task) (Pop (Err pop_error.Closed)) = ends_alike _
-  answered_alike (aim.Poll Closings key task) (Flag true) = ends_alike _
-  answered_alike (aim.Poll Closings key task) (Flag false) = refused_alike waiting.Closing key task
-  answered_alike (aim.Close c) (Close false) = ends_alike (closer_ending c false)
-  answered_alike aim.Ask (Flag b) = refl
-  answered_alike aim.IsTerminated (Flag true) = refl
-  answered_alike (aim.Upgrade side) (Flag true) = refl
+  answered_alike purpose.TrySend (Push (Err (push_error.Full m))) = refl
+  answered_alike purpose.ForceSend (Force (Err (force_error.Closed m))) = refl
+  answered_alike purpose.TryRecv (Pop (Err pop_error.Empty)) = refl
+  answered_alike (purpose.RecvMany g) (Pop (Ok m)) = gathered_alike (g.taken ++ m ∷ []) g.more
+  answered_alike (purpose.RecvMany g) (Pop (Err pop_error.Empty)) = short_alike g.taken _
+  answered_alike (purpose.RecvMany g) (Pop (Err pop_error.Closed)) = short_alike g.taken _
+  answered_alike (purpose.Poll Sends key task) (Push (Err (push_error.Full m))) = refused_alike (waiting.Send m) key task
+  answered_alike (purpose.Poll Sends key task) (Push (Err (push_error.Closed m))) = ends_alike _
+  answered_alike (purpose.Poll Sends key task) (Push (Err (push_error.NoMemory m))) = ends_alike _
+  answered_alike (purpose.Poll Receives key task) (Pop (Err pop_error.Empty)) = refused_alike waiting.Receive key task
+  answered_alike (purpose.Poll Receives key task) (Pop (Err pop_error.Closed)) = ends_alike _
+  answered_alike (purpose.Poll Streams key task) (Pop (Err pop_error.Empty)) = refused_alike waiting.Stream key task
+  answered_alike (purpose.Poll Streams key task) (Pop (Err pop_error.Closed)) = ends_alike _
+  answered_alike (purpose.Poll Closings key task) (Flag true) = ends_alike _
+  answered_alike (purpose.Poll Closings key task) (Flag false) = refused_alike waiting.Closing key task
+  answered_alike (purpose.Close c) (Close false) = ends_alike (closer_ending c false)
+  answered_alike purpose.Ask (Flag b) = refl
+  answered_alike purpose.IsTerminated (Flag true) = refl
+  answered_alike (purpose.Upgrade side) (Flag true) = refl
   answered_alike a x = refl
 
   -- ---- the first turn

@@ -56,10 +56,10 @@ module _ {T W : Type 0} where
     pub moved_told : (c : Channel T W) (at : Stage (Phase T) T W) (e : Effect T W) (r : Option (Reply T))
         (s : Stage (Phase T) T W) → Moves c at e r s
         → AnyTold b (told_of line e.channel) → AnyTold b (told_of line c) ⊎ Tells line b at
-    moved_told c (Trying f aim) e r s g h = inl (subst (λ (z : Effect T W). AnyTold b (told_of line z.channel)) g.effect h)
+    moved_told c (Trying f purpose) e r s g h = inl (subst (λ (z : Effect T W). AnyTold b (told_of line z.channel)) g.effect h)
     moved_told c (Working w) e r s g h =
         ⊎_elim (λ same. inl (subst (λ (z : Listeners W). AnyTold b z.told) same.0 h))
-        (λ made. touched_told w r s (listeners line c.roster) (listeners line e.channel.roster) made h) (section line c e r s w g)
+        (λ made. touched_told w r s (listeners line c.wait_lists) (listeners line e.channel.wait_lists) made h) (section line c e r s w g)
     moved_told c (Finished kept) e r s g h = inl (subst (λ (z : Effect T W). AnyTold b (told_of line z.channel)) g.0 h)
 
   -- ---- how many are told
@@ -122,9 +122,9 @@ module _ {T W : Type 0} where
     touched_counts (Leave x) l l' (o, at, is) = counts_to (Leave x) l l' _ is (λ h. ⊎_elim (λ n. inl (omega (arith, n))) (λ d. inr (inr d)) (removed_counts o.key key l h))
     touched_counts w l l' none = absurd none
 
-    pub worked_counts : (c : Channel T W) (w : ListStep T W) (e : Effect T W) → Worked c w e r s → Counts w (listeners line c.roster) (listeners line e.channel.roster)
+    pub worked_counts : (c : Channel T W) (w : ListStep T W) (e : Effect T W) → Worked c w e r s → Counts w (listeners line c.wait_lists) (listeners line e.channel.wait_lists)
     worked_counts c w e g = by (section line c e r s w g)
       where
-        by : Section line c e r s w → Counts w (listeners line c.roster) (listeners line e.channel.roster)
+        by : Section line c e r s w → Counts w (listeners line c.wait_lists) (listeners line e.channel.wait_lists)
         by (inl (same, others)) h = let told = none_told w line others in let kept = ap (λ (z : Listeners W). length z.told) same in inl (omega (arith, told, kept))
-        by (inr made) h = touched_counts w (listeners line c.roster) (listeners line e.channel.roster) made h
+        by (inr made) h = touched_counts w (listeners line c.wait_lists) (listeners line e.channel.wait_lists) made h

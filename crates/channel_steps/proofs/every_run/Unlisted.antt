@@ -16,21 +16,21 @@ module _ {W : Type 0} where
   counted_same Senders n a = refl
   counted_same Receivers n a = refl
 
-module _ {T W : Type 0} (c : Channel T W) (none : c.roster.sends ≡ nobody_listens) where
+module _ {T W : Type 0} (c : Channel T W) (none : c.wait_lists.sends ≡ nobody_listens) where
   abbrev Stays : Effect T W → Type 0
-  Stays e = e.channel.roster.sends ≡ nobody_listens
+  Stays e = e.channel.wait_lists.sends ≡ nobody_listens
 
   -- one list is changed by a change that leaves nobody's alone
   on_list : (line : WaitList) (change : Listeners W → Listeners W) → change nobody_listens ≡ nobody_listens
-      → (with_listeners line (change (listeners line c.roster)) c.roster).sends ≡ nobody_listens
+      → (with_listeners line (change (listeners line c.wait_lists)) c.wait_lists).sends ≡ nobody_listens
   on_list Sends change same = ap change none ∙ same
   on_list w change same = none
 
   by : (e d : Effect T W) → e ≡ d → Stays d → Stays e
-  by e d same k = ap (λ (x : Effect T W). x.channel.roster.sends) same ∙ k
+  by e d same k = ap (λ (x : Effect T W). x.channel.wait_lists.sends) same ∙ k
 
-  lowered : (side : Side) (n : ℕ) → (with_count side n c.roster).sends ≡ nobody_listens
-  lowered side n = counted_same side n c.roster ∙ none
+  lowered : (side : Side) (n : ℕ) → (with_count side n c.wait_lists).sends ≡ nobody_listens
+  lowered side n = counted_same side n c.wait_lists ∙ none
 
   raised : (side : Side) (n : ℕ) (b : Bool) (m : Mark) → Stays (if b then on_count side n m c else untouched c)
   raised side n true m = lowered side n
@@ -43,7 +43,7 @@ module _ {T W : Type 0} (c : Channel T W) (none : c.roster.sends ≡ nobody_list
   -- no step makes a send listen but one that inserts it
   stays : (at : Stage (Phase T) T W) (e : Effect T W) (r : Option (Reply T)) (s : Stage (Phase T) T W) → Moves c at e r s
       → ((m : T) (task : W) → at ≡ Working (Insert (waiting.Send m) task) → ⊥) → Stays e
-  stays (Trying f aim) e r s h never = by e (queued f h.mark c) h.effect none
+  stays (Trying f purpose) e r s h never = by e (queued f h.mark c) h.effect none
   stays (Working (TellReceive x)) e r s h never = by e (tells_one Receives c) h.0 none
   stays (Working (TellStreams x)) e r s h never = by e (tells_all Streams c) h.0 none
   stays (Working (TellSend x)) e r s h never = by e (tells_one Sends c) h.0 (on_list Sends told_one refl)
@@ -59,9 +59,9 @@ module _ {T W : Type 0} (c : Channel T W) (none : c.roster.sends ≡ nobody_list
   stays (Working (Register w key task)) e r s h never =
       by e (registers (line_of w) key task c) h.0 (on_list (line_of w) (λ (l : Listeners W). registration key task l) refl)
   stays (Working (Leave x)) e r s h never = by e (leaves x.held c) h.0 (left x.held)
-  stays (Working (Lower side key)) e r s h never = by e (lowers side c) h.0 (lowered side (count side c.roster - 1))
+  stays (Working (Lower side key)) e r s h never = by e (lowers side c) h.0 (lowered side (count side c.wait_lists - 1))
   stays (Working (Raise side n making)) e r s h never =
-      by e (raises side n c) h.0 (raised side (n + 1) (is_raised side n c.roster) (up side))
+      by e (raises side n c) h.0 (raised side (n + 1) (is_raised side n c.wait_lists) (up side))
   stays w e r s h never = by e (untouched c) h.0 none
 
 module _ {T W : Type 0} where

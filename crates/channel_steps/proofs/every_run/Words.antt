@@ -6,7 +6,7 @@ pub use Rattle.channel_calls.specs.Deeds.{Deed, Done, all_told, counted, inserte
 pub use Rattle.channel_calls.specs.Effects.{Does, OnList}
 pub use Rattle.channel_calls.specs.Marks.{down, mark_of_queue, up}
 pub use Rattle.channel_calls.specs.Moves.{Channel, Effect, Inserts, IsChannelStep, IsNewCall, Moves, Turned, Worked, leaves, listens, lowers, on_count, on_line, phase, queued, raises, registers, removes, seats, tells_all, tells_more, tells_one, untouched}
-pub use Rattle.channel_calls.specs.Parts.{Listeners, Parts, Registers, WaitLists, count, is_raised, listeners, new_roster, nobody_listens, told_all, told_all_wakes, told_more, told_more_wakes, told_one, told_one_wakes, waits, with_count, with_listeners, with_roster}
+pub use Rattle.channel_calls.specs.Parts.{Listeners, Parts, Registers, WaitLists, count, is_raised, listeners, new_wait_lists, nobody_listens, told_all, told_all_wakes, told_more, told_more_wakes, told_one, told_one_wakes, waits, with_count, with_listeners, with_wait_lists}
 pub use Rattle.channel_calls.specs.Several.{Gathered, with_last}
 pub use Rattle.channel_calls.specs.Turns.{TakesRoom, again, closer_ending, counted_next, dropper, ends_by, inserted_next, leaving, line_of, loaded_next, lowered_next, message_of, most, nothing_kept, pends_by, raised_next, refused_next, refused_reply, registered_next, room_next, roomless, told_all_next}
 pub use Rattle.channel_calls.specs.Walks.{ChannelMakes, Heard, Leads, Leaves, Marked, Takes, Walked, WalkedFrom, WorkMakes}
@@ -41,7 +41,8 @@ pub use Rattle.channel_calls.specs.declared.stage.ListStep.{ListStep}
 pub use Rattle.channel_calls.specs.declared.stage.ListStep.TheVariants.{Count, Insert, Leave, Load, Lower, Raise, Register, TakeRoom, TellAll, TellReceive, TellSend, TellSends, TellStreams}
 pub use Rattle.channel_steps.specs.every_run.Amounts.{AreOwed, HoldsListener, PendingAreOwed, is_trying, is_trying_anew, total}
 pub use Rattle.channel_steps.specs.every_run.Bounds.{AllOf, BoundSound, BoundsStay, EachRunClosesOnce, EachUnboundedRunIsNeverFull, IsDisplacing, IsWithinBound, NeverOverfull, NoneFull, SaysFull, closings_in, one_if_closed}
-pub use Rattle.channel_steps.specs.every_run.Bridge.{Act, Acts, Along, Changes, Event, Given, Happening, InOneOrder, LastsFor, MergeMoment, MergesAreRuns, NextMoment, Notes, QueueIsWalked, StandsAct, WalksAct, begins, given_by, given_to, just_opened, on_nothing, on_queue, on_roster, opened_parts, own, step_of, steps_of}
+pub use Rattle.channel_calls.specs.declared.whole.Completed.{Completed}
+pub use Rattle.channel_steps.specs.every_run.Bridge.{Act, Acts, Along, Changes, Event, Happening, InOneOrder, LastsFor, MergeMoment, MergesAreRuns, NextMoment, Notes, QueueIsWalked, StandsAct, WalksAct, begins, given_by, given_to, just_opened, on_nothing, on_queue, on_wait_lists, opened_parts, own, step_of, steps_of}
 pub use Rattle.channel_steps.specs.every_run.BridgeBlocks.{BlocksInCalls, InCalls, IsLeft, PollsInTurn, Rested, Rests, first_poll, poll_refused}
 pub use Rattle.channel_steps.specs.every_run.BridgeEnd.{NewCallsGiveNothing, NoMessageAfter}
 pub use Rattle.channel_steps.specs.every_run.BridgeHeadline.{MergeBeginSays, MergeCallSays, MergeMomentSays, MergeStepSays, MergeWorkSays, MergesKeepTheHeadline}
@@ -63,7 +64,7 @@ pub use Rattle.channel_steps.specs.every_run.Receives.{MessagesAreFew, NoReceive
 pub use Rattle.channel_steps.specs.every_run.Sends.{HasPlaces, NoSendIsForgotten, PlacesAreFew, SendsSound, SendsStayOwed, counts_for_sends, has_displaced, has_taken, is_to_tell_send}
 pub use Rattle.channel_steps.specs.every_run.Sound.{WakeInvariant}
 pub use Rattle.channel_steps.specs.every_run.Streams.{AnswersFor, HasAppended, HasInHand, IsBringing, IsSending, NoStreamIsForgotten, PendingStreamsAreOwed, StreamsAreOwed, StreamsSound, StreamsStayOwed}
-pub use Rattle.channel_steps.specs.every_run.Tasks.{act_by, aim_by, all_by, ask_by, deed_by, event_by, listener_by, listeners_by, parts_by, roster_by, stage_by, turn_by, work_by}
+pub use Rattle.channel_steps.specs.every_run.Tasks.{act_by, aim_by, all_by, ask_by, deed_by, event_by, listener_by, listeners_by, parts_by, wait_lists_by, stage_by, turn_by, work_by}
 pub use Rattle.channel_steps.specs.every_run.Unlisted.{NoSendListens, SendsUnlisted}
 pub use Rattle.channel_steps.specs.every_run.Waits.{Any, Apart, IsIn, WaitApart, Waits}
 pub use Rattle.channel_steps.specs.every_run.Words.{HasLetIn, IsAtQueue, IsWith, IsWithOne, WordsSay}

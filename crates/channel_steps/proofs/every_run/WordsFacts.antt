@@ -8,7 +8,7 @@ use Rattle.concurrent_queue.specs.declared.call.QueueAsk.TheVariants as q
 use Rattle.concurrent_queue.proofs.FitsFacts as fits_facts
 use Rattle.concurrent_queue.proofs.Interface.{shows}
 use Rattle.channel_calls.specs.declared.ask.ChannelAsk.TheVariants as ask
-use Rattle.channel_calls.specs.declared.stage.Purpose.TheVariants as aim
+use Rattle.channel_calls.specs.declared.stage.Purpose.TheVariants as purpose
 use Rattle.channel_steps.specs.every_run.Ends.{Each}
 use Rattle.channel_steps.specs.every_run.Chained.{AreChained}
 use Rattle.channel_steps.specs.every_run.Put.{yet_to_put}
@@ -51,8 +51,8 @@ module _ {T W : Type 0} where
 
   let_in : (v : T) (now : Channel T W) (y : Purpose T W) (a : ChannelAsk T W) (x : QueueAsk T) (s : queue.Stage T) (ds : List (MarkedMoment T W))
       (seen : List (Channel T W)) → message x ≡ v ∷ [] → HasBrought s → TriesFor a y x ds seen → TriesAt now y x s ds seen → HasLetIn ds
-  let_in v now (aim.RecvMany g) (ask.RecvMany n) q.Pop s ds seen one b t h = absurd cc
-  let_in v now (aim.RecvMany g) a x s ds seen one b t h = absurd t
+  let_in v now (purpose.RecvMany g) (ask.RecvMany n) q.Pop s ds seen one b t h = absurd cc
+  let_in v now (purpose.RecvMany g) a x s ds seen one b t h = absurd t
   let_in v now y a (q.Push w) s ds seen one b t h = push_in now w s ds seen b h
   let_in v now y a (q.ForcePush w) s ds seen one b t h = force_in now w s ds seen b h
   let_in v now y a x s ds seen one b t h = absurd cc

@@ -181,8 +181,8 @@ module _ {T W : Type 0} where
       nobody : names ≡ []
       nobody = ap (λ (e : Effect T W). e.woken) tried.effect
 
-      same_roster : parts'.roster ≡ parts.roster
-      same_roster = ap (λ (e : Effect T W). e.channel.roster) tried.effect
+      same_wait_lists : parts'.wait_lists ≡ parts.wait_lists
+      same_wait_lists = ap (λ (e : Effect T W). e.channel.wait_lists) tried.effect
 
       queue_now : made.queue ≡ after x.at tried.mark x.now
       queue_now = ap (λ (e : Effect T W). e.channel.queue) tried.effect
@@ -217,7 +217,7 @@ module _ {T W : Type 0} where
                 let k3 : RestTry x.at.ask y (channel x.from parts') o =
                 subst (λ (b : QueueAsk T). RestTry b y (channel x.from parts') o) goes.0 k2 in
                 let k4 : RestTry x.at.ask y (channel x.from parts) o =
-                subst (λ (z : WaitLists W). RestTry x.at.ask y (record { queue = x.from; roster = z }) o) same_roster k3 in
+                subst (λ (z : WaitLists W). RestTry x.at.ask y (record { queue = x.from; wait_lists = z }) o) same_wait_lists k3 in
                 woken_none nobody o (x.on o k4);
           }
           in
@@ -244,11 +244,11 @@ module _ {T W : Type 0} where
                 omega (arith, n, k, e));
             unspent = λ h. unspent_still h (brought_by_is z);
             on = λ o k.
-                let k1 : RestTurn (answered_next y z) (record { queue = made.queue; roster = parts.roster }) o =
-                subst (λ (b : WaitLists W). RestTurn (answered_next y z) (record { queue = made.queue; roster = b }) o)
-                same_roster k in
-                let k2 : RestTurn (answered_next y z) (record { queue = left_by x.at.ask z x.from; roster = parts.roster }) o =
-                subst (λ (q : Queue T). RestTurn (answered_next y z) (record { queue = q; roster = parts.roster }) o) found.left
+                let k1 : RestTurn (answered_next y z) (record { queue = made.queue; wait_lists = parts.wait_lists }) o =
+                subst (λ (b : WaitLists W). RestTurn (answered_next y z) (record { queue = made.queue; wait_lists = b }) o)
+                same_wait_lists k in
+                let k2 : RestTurn (answered_next y z) (record { queue = left_by x.at.ask z x.from; wait_lists = parts.wait_lists }) o =
+                subst (λ (q : Queue T). RestTurn (answered_next y z) (record { queue = q; wait_lists = parts.wait_lists }) o) found.left
                 k1
                 in
                 woken_none nobody o (x.on o (answered_rest (channel x.from parts) o x.at.ask y z found.finds k2));
@@ -317,7 +317,7 @@ module _ {T W : Type 0} where
 
     pub step_nearer : (stage : Stage (QueueCall T) T W) → IsAlone a c0 parts stage so_far
         → IsStepOver parts stage names parts' stage' m r
-        → steps_left parts'.cells parts'.roster stage' < steps_left parts.cells parts.roster stage
+        → steps_left parts'.cells parts'.wait_lists stage' < steps_left parts.cells parts.wait_lists stage
     step_nearer stage x step =
         step_lessens parts parts' names stage' m r x.fits.0 x.now x.at [] [] stage (at_work x.from x.now x.at stage x.known)
         (made_by stage x step) (tt, λ e. inr refl)

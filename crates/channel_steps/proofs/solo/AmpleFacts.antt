@@ -10,7 +10,7 @@ use Rattle.concurrent_queue.specs.declared.call.QueueReply.TheVariants as answer
 use Rattle.concurrent_queue.specs.declared.error.PushError.TheVariants as push_error
 use Rattle.concurrent_queue.specs.declared.error.PopError.TheVariants as pop_error
 use Rattle.event_listener.specs.declared.error.ListenError.TheVariants as listen_error
-use Rattle.channel_calls.specs.declared.stage.Purpose.TheVariants as aim
+use Rattle.channel_calls.specs.declared.stage.Purpose.TheVariants as purpose
 use Rattle.channel_calls.specs.declared.stage.Waiting.TheVariants as waiting
 use Rattle.channel_steps.proofs.solo.AloneFacts.{IsAlone, in_range}
 use Rattle.channel_steps.proofs.solo.ConfigurationLoop.{IsBetween, alone_there}
@@ -78,14 +78,14 @@ module _ {T : Type 0} where
 
 module _ {T W : Type 0} where
   abbrev lists_in : PlainChannel T W → WaitLists W
-  lists_in c = (parts_of c).roster
+  lists_in c = (parts_of c).wait_lists
 
 module _ {T W : Type 0} (cap : Option ℕ) where
   -- ---- stages from which no call comes to be refused memory, over a queue of this capacity, and these lists and their room
 
   abbrev pub ReadyAim : WaitLists W → Rooms → Purpose T W → Type 0
-  ReadyAim a m (aim.Poll line None task) = (0 < room_on line m) × HasBound cap line
-  ReadyAim a m (aim.Poll line (Some key) task) = IsOnList line (Some key) a × HasBound cap line
+  ReadyAim a m (purpose.Poll line None task) = (0 < room_on line m) × HasBound cap line
+  ReadyAim a m (purpose.Poll line (Some key) task) = IsOnList line (Some key) a × HasBound cap line
   ReadyAim a m _ = ⊥
 
   abbrev pub ReadyWork : WaitLists W → Rooms → ListStep T W → Type 0
@@ -129,22 +129,22 @@ module _ {T W : Type 0} (cap : Option ℕ) where
   -- ---- an answer of the queue
 
   module _ (a : WaitLists W) (m : Rooms) where
-    refused_ready : (w : Waiting T) (key : Option Key) (task : W) → ReadyAim a m (aim.Poll (line_of w) key task) → ReadyTurn a m (refused_next w key task)
+    refused_ready : (w : Waiting T) (key : Option Key) (task : W) → ReadyAim a m (purpose.Poll (line_of w) key task) → ReadyTurn a m (refused_next w key task)
     refused_ready w None task h = h
     refused_ready w (Some key) task h = h
 
     answered : (y : Purpose T W) (x : QueueReply T) → HasMemory cap x → ReadyAim a m y → ReadyTurn a m (answered_next y x)
-    answered (aim.Poll Sends key task) (answer.Push (Err (push_error.Full v))) ample h = refused_ready (waiting.Send v) key task h
-    answered (aim.Poll Sends key task) (answer.Push (Err (push_error.Closed v))) ample h = ends_ready a m _ refl
-    answered (aim.Poll Sends None task) (answer.Push (Err (push_error.NoMemory v))) ample h = absurd (ample h.1 v refl)
-    answered (aim.Poll Sends (Some key) task) (answer.Push (Err (push_error.NoMemory v))) ample h = absurd (ample h.1 v refl)
-    answered (aim.Poll Receives key task) (answer.Pop (Err pop_error.Empty)) ample h = refused_ready waiting.Receive key task h
-    answered (aim.Poll Receives key task) (answer.Pop (Err pop_error.Closed)) ample h = ends_ready a m _ refl
-    answered (aim.Poll Streams key task) (answer.Pop (Err pop_error.Empty)) ample h = refused_ready waiting.Stream key task h
-    answered (aim.Poll Streams key task) (answer.Pop (Err pop_error.Closed)) ample h = ends_ready a m _ refl
-    answered (aim.Poll Closings key task) (answer.Flag true) ample h = ends_ready a m _ refl
-    answered (aim.Poll Closings key task) (answer.Flag false) ample h = refused_ready waiting.Closing key task h
-    answered (aim.Poll line key task) x ample h = refl
+    answered (purpose.Poll Sends key task) (answer.Push (Err (push_error.Full v))) ample h = refused_ready (waiting.Send v) key task h
+    answered (purpose.Poll Sends key task) (answer.Push (Err (push_error.Closed v))) ample h = ends_ready a m _ refl
+    answered (purpose.Poll Sends None task) (answer.Push (Err (push_error.NoMemory v))) ample h = absurd (ample h.1 v refl)
+    answered (purpose.Poll Sends (Some key) task) (answer.Push (Err (push_error.NoMemory v))) ample h = absurd (ample h.1 v refl)
+    answered (purpose.Poll Receives key task) (answer.Pop (Err pop_error.Empty)) ample h = refused_ready waiting.Receive key task h
+    answered (purpose.Poll Receives key task) (answer.Pop (Err pop_error.Closed)) ample h = ends_ready a m _ refl
+    answered (purpose.Poll Streams key task) (answer.Pop (Err pop_error.Empty)) ample h = refused_ready waiting.Stream key task h
+    answered (purpose.Poll Streams key task) (answer.Pop (Err pop_error.Closed)) ample h = ends_ready a m _ refl
+    answered (purpose.Poll Closings key task) (answer.Flag true) ample h = ends_ready a m _ refl
+    answered (purpose.Poll Closings key task) (answer.Flag false) ample h = refused_ready waiting.Closing key task h
+    answered (purpose.Poll line key task) x ample h = refl
     answered y x ample h = absurd h
 
   -- ---- a step on a list
@@ -154,7 +154,7 @@ module _ {T W : Type 0} (cap : Option ℕ) where
   came w task (Ok key) c d h ready =
       let l = listeners (line_of w) (lists_in c) in
       let there : listeners (line_of w) (lists_in d) ≡ listened key l =
-      ap (λ (p : Parts T W). listeners (line_of w) p.roster) h.0.1 ∙ same_list (line_of w) (listened key l) (lists_in c) in
+      ap (λ (p : Parts T W). listeners (line_of w) p.wait_lists) h.0.1 ∙ same_list (line_of w) (listened key l) (lists_in c) in
       (subst (λ (k : Listeners W). is_some (kind_of k key) ≡ true) (sym there) (listed_now key l), ready.1)
   came w task (Err listen_error.NoMemory) c d h ready = let none = h.1.1 in let room = ready.0 in absurd (omega (arith, none, room))
   came w task (Err listen_error.SerialsUsedUp) c d h ready = serials_ample T (line_of w)
@@ -223,8 +223,8 @@ module _ {T W : Type 0} where
     -- a step of a call that is alone at work
     pub step_ready : (stage : Stage (QueueCall T) T W) → IsAlone a c0 (parts_of s.0) stage so_far
         → ChannelMakes (Done DoesPlain wakes) stage s t m next r
-        → ReadyStage c0.queue.capacity (parts_of s.0).roster (rooms_of s.0) stage
-        → StaysReady c0.queue.capacity (parts_of t.0).roster (rooms_of t.0) next r
+        → ReadyStage c0.queue.capacity (parts_of s.0).wait_lists (rooms_of s.0) stage
+        → StaysReady c0.queue.capacity (parts_of t.0).wait_lists (rooms_of t.0) next r
     step_ready (Trying call y) x (after, o, is, k, h) ready =
         tried c0.queue.capacity wakes s t m next r y after o is.0.0.1 is.0.1
         (λ z e. memory_there a c0 (parts_of s.0) (parts_of t.0) so_far call after y x z
@@ -237,7 +237,7 @@ module _ {T W : Type 0} where
   -- where it holds a listener that is listed, it is refused no memory
   abbrev pub StaysAmple : ChannelAsk T W → PlainChannel T W → PlainChannel T W → Stage (QueueCall T) T W → Type 0
   StaysAmple a c0 c stage =
-      HasNode a (parts_of c0) → ReadyStage (capacity_of (parts_of c0).cells.form) (parts_of c).roster (rooms_of c) stage
+      HasNode a (parts_of c0) → ReadyStage (capacity_of (parts_of c0).cells.form) (parts_of c).wait_lists (rooms_of c) stage
 
   module _ (cap : Option ℕ) (b : WaitLists W) (m : Rooms) where
     first_again : (w : Waiting T) (key : Option Key) (task : W) → IsOnList (line_of w) key b → HasBound cap (line_of w)
@@ -255,17 +255,17 @@ module _ {T W : Type 0} where
     first_polls w true key task h bound = first_asks w key task h bound
     first_polls w false key task h bound = first_again w key task h bound
 
-  first_ready : (a : ChannelAsk T W) (p : Parts T W) (m : Rooms) → HasNode a p → ReadyTurn (capacity_of p.cells.form) p.roster m (first a)
-  first_ready (PollSend v l task) p m h = first_polls (capacity_of p.cells.form) p.roster m (waiting.Send v) l.asks_first l.key task h.0 h.1
-  first_ready (PollRecv l task) p m h = first_polls (capacity_of p.cells.form) p.roster m waiting.Receive l.asks_first l.key task h tt
-  first_ready (PollClosed key task) p m h = first_again (capacity_of p.cells.form) p.roster m waiting.Closing key task h tt
-  first_ready (PollNext key task) p m h = first_asks (capacity_of p.cells.form) p.roster m waiting.Stream key task h tt
+  first_ready : (a : ChannelAsk T W) (p : Parts T W) (m : Rooms) → HasNode a p → ReadyTurn (capacity_of p.cells.form) p.wait_lists m (first a)
+  first_ready (PollSend v l task) p m h = first_polls (capacity_of p.cells.form) p.wait_lists m (waiting.Send v) l.asks_first l.key task h.0 h.1
+  first_ready (PollRecv l task) p m h = first_polls (capacity_of p.cells.form) p.wait_lists m waiting.Receive l.asks_first l.key task h tt
+  first_ready (PollClosed key task) p m h = first_again (capacity_of p.cells.form) p.wait_lists m waiting.Closing key task h tt
+  first_ready (PollNext key task) p m h = first_asks (capacity_of p.cells.form) p.wait_lists m waiting.Stream key task h tt
   first_ready a p m h = absurd h
 
   pub ample_first : (a : ChannelAsk T W) (c : PlainChannel T W) (stage : Stage (QueueCall T) T W) → Takes (first a) stage None
       → StaysAmple a c c stage
   ample_first a c stage takes h =
-      (taken (capacity_of (parts_of c).cells.form) (parts_of c).roster (rooms_of c) (first a) stage None takes
+      (taken (capacity_of (parts_of c).cells.form) (parts_of c).wait_lists (rooms_of c) (first a) stage None takes
       (first_ready a (parts_of c) (rooms_of c) h)).0
 
   module _ {S : Type 0} (wakes : S → W → S → Type 0) (a : ChannelAsk T W) (c0 : PlainChannel T W) (sink0 : S) (messages0 messages : ℕ) (rest : IsAtRest (parts_of c0))
@@ -273,11 +273,11 @@ module _ {T W : Type 0} where
       (way : IsBetween wakes a (parts_of c0) sink0 messages0 (parts_of s.0) stage s.1 messages) (made : ChannelMakes (Done DoesPlain wakes) stage s t m next r)
       (ample : StaysAmple a c0 s.0 stage) where
     pub ample_next : HasNode a (parts_of c0)
-        → StaysReady (capacity_of (parts_of c0).cells.form) (parts_of t.0).roster (rooms_of t.0) next r
+        → StaysReady (capacity_of (parts_of c0).cells.form) (parts_of t.0).wait_lists (rooms_of t.0) next r
     ample_next h =
         let q = rest.0 in
         let x = alone_there wakes a (parts_of c0) sink0 messages0 (parts_of s.0) stage s.1 messages way q rest.1 rest.2 in
         let same : q.capacity ≡ capacity_of (parts_of c0).cells.form = (shows (parts_of c0).cells q [] rest.2).limit in
-        subst (λ (cap : Option ℕ). StaysReady cap (parts_of t.0).roster (rooms_of t.0) next r) same
+        subst (λ (cap : Option ℕ). StaysReady cap (parts_of t.0).wait_lists (rooms_of t.0) next r) same
         (step_ready wakes a (channel q (parts_of c0)) x.0 s t m next r stage x.1 made
-        (subst (λ (cap : Option ℕ). ReadyStage cap (parts_of s.0).roster (rooms_of s.0) stage) (sym same) (ample h)))
+        (subst (λ (cap : Option ℕ). ReadyStage cap (parts_of s.0).wait_lists (rooms_of s.0) stage) (sym same) (ample h)))

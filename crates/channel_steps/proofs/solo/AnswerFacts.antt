@@ -11,7 +11,7 @@ use Rattle.futures.specs.declared.task.Poll.TheVariants as poll
 use Rattle.channel_calls.specs.declared.error.Refused.TheVariants as refused
 use Rattle.channel_calls.specs.declared.error.TryRecvError.TheVariants as try_recv_error
 use Rattle.channel_calls.specs.declared.reply.Reply.TheVariants as reply
-use Rattle.channel_calls.specs.declared.stage.Purpose.TheVariants as aim
+use Rattle.channel_calls.specs.declared.stage.Purpose.TheVariants as purpose
 use Rattle.channel_calls.specs.declared.stage.Waiting.TheVariants as waiting
 use Rattle.channel_steps.specs.solo.Alone as alone
 use Rattle.channel_steps.proofs.solo.TryFacts.{left_by}
@@ -54,17 +54,17 @@ bounded (Some n) items e h = absurd cc
 module _ {T W : Type 0} where
   -- ---- a poll that the channel refused
 
-  module _ (c : Channel T W) (w : Waiting T) (fresh : (key : Key) → kind_of (listeners (line_of w) c.roster) key ≡ None → waits key (listeners (line_of w) (listens (line_of w) key c).channel.roster) ≡ true)
-      (stuck : (d : Channel T W) (key : Option Key) (task : W) (o : Outcome T W) → d.queue ≡ c.queue → RestTry (ask_of w) (aim.Poll (line_of w) key task) d o → WaitsOrGoesOn w key task d o) (task : W) (o : Outcome T W) where
+  module _ (c : Channel T W) (w : Waiting T) (fresh : (key : Key) → kind_of (listeners (line_of w) c.wait_lists) key ≡ None → waits key (listeners (line_of w) (listens (line_of w) key c).channel.wait_lists) ≡ true)
+      (stuck : (d : Channel T W) (key : Option Key) (task : W) (o : Outcome T W) → d.queue ≡ c.queue → RestTry (ask_of w) (purpose.Poll (line_of w) key task) d o → WaitsOrGoesOn w key task d o) (task : W) (o : Outcome T W) where
     inserts : RestWork (Insert w task) c o → ListensOrIsRefused w task c o
     inserts (inl (key, none, k)) =
-        inl (key, none, given_then (waits key (listeners (line_of w) (listens (line_of w) key c).channel.roster)) _ _ (fresh key none) (stuck (listens (line_of w) key c).channel (Some key) task o refl k))
+        inl (key, none, given_then (waits key (listeners (line_of w) (listens (line_of w) key c).channel.wait_lists)) _ _ (fresh key none) (stuck (listens (line_of w) key c).channel (Some key) task o refl k))
     inserts (inr h) = inr h
 
     pub refused_rest : (key : Option Key) → RestTurn (refused_next w key task) c o → WaitsOrGoesOn w key task c o
     refused_rest None k = inserts k
     refused_rest (Some key) k =
-        where_map (waits key (listeners (line_of w) c.roster)) _ _ _ (λ h. stuck (registers (line_of w) key task c).channel None task o refl h) k
+        where_map (waits key (listeners (line_of w) c.wait_lists)) _ _ _ (λ h. stuck (registers (line_of w) key task c).channel None task o refl h) k
 
   -- ---- by what the queue was asked for
 
@@ -85,7 +85,7 @@ module _ {T W : Type 0} where
     -- ---- polls
 
     stuck_send : (m : T) → c.queue.closed ≡ false → is_filled c.queue ≡ true → (d : Channel T W) (key : Option Key) (task : W) (p : Outcome T W) → d.queue ≡ c.queue
-        → RestTry (ask.Push m) (aim.Poll Sends key task) d p → WaitsOrGoesOn (waiting.Send m) key task d p
+        → RestTry (ask.Push m) (purpose.Poll Sends key task) d p → WaitsOrGoesOn (waiting.Send m) key task d p
     stuck_send m opened full d key task p e (inl h) =
         absurd (bounded d.queue.capacity d.queue.items h.1 (ap (λ (q : Queue T). is_filled q) e ∙ full))
     stuck_send m opened full d key task p e (inr h) =
@@ -103,102 +103,102 @@ module _ {T W : Type 0} where
     abbrev ForStream : Option Key → W → List T → Type 0
     ForStream key task xs = PollsFor xs waiting.Stream (λ m. reply.Next (poll.Ready (Some (Ok m)))) (reply.Next (poll.Ready None)) key task c o
 
-    fresh_on : (line : WaitList) (k : Key) → kind_of (listeners line c.roster) k ≡ None → waits k (listeners line (listens line k c).channel.roster) ≡ true
+    fresh_on : (line : WaitList) (k : Key) → kind_of (listeners line c.wait_lists) k ≡ None → waits k (listeners line (listens line k c).channel.wait_lists) ≡ true
     fresh_on line k none =
-        subst (λ (l : Listeners W). waits k l ≡ true) (sym (same_line line (listened k (listeners line c.roster)) c.roster)) (fresh_waits k (listeners line c.roster) none)
+        subst (λ (l : Listeners W). waits k l ≡ true) (sym (same_line line (listened k (listeners line c.wait_lists)) c.wait_lists)) (fresh_waits k (listeners line c.wait_lists) none)
 
     stuck_closing : c.queue.closed ≡ false → (d : Channel T W) (key : Option Key) (task : W) (p : Outcome T W) → d.queue ≡ c.queue
-        → RestTry ask.IsClosed (aim.Poll Closings key task) d p → WaitsOrGoesOn waiting.Closing key task d p
+        → RestTry ask.IsClosed (purpose.Poll Closings key task) d p → WaitsOrGoesOn waiting.Closing key task d p
     stuck_closing opened d key task p e h = given_else d.queue.closed _ _ (ap (λ (q : Queue T). q.closed) e ∙ opened) h
 
     -- what comes after the queue's answer is what comes of the whole try
     pub answered_rest : (a : QueueAsk T) (x : Purpose T W) (y : QueueReply T) → Finds a c.queue y → RestTurn (answered_next x y) (now_is c (left_by a y c.queue)) o → RestTry a x c o
-    answered_rest (ask.Push m) aim.TrySend (answer.Push (Ok u)) g k = inr (pick_else c.queue.closed o _ _ g.0 (pick_else (is_filled c.queue) o _ _ g.1 k))
-    answered_rest (ask.Push m) aim.TrySend (answer.Push (Err (push_error.Full n))) g k =
+    answered_rest (ask.Push m) purpose.TrySend (answer.Push (Ok u)) g k = inr (pick_else c.queue.closed o _ _ g.0 (pick_else (is_filled c.queue) o _ _ g.1 k))
+    answered_rest (ask.Push m) purpose.TrySend (answer.Push (Err (push_error.Full n))) g k =
         let k' = subst (λ (x : T). RestTurn (sent_next (answer.Push (Err (push_error.Full x)))) c o) g.2 k in
         inr (pick_else c.queue.closed o _ _ g.0 (pick_then (is_filled c.queue) o _ _ g.1 k'))
-    answered_rest (ask.Push m) aim.TrySend (answer.Push (Err (push_error.Closed n))) g k =
+    answered_rest (ask.Push m) purpose.TrySend (answer.Push (Err (push_error.Closed n))) g k =
         let k' = subst (λ (x : T). RestTurn (sent_next (answer.Push (Err (push_error.Closed x)))) c o) g.1 k in
         inr (pick_then c.queue.closed o _ _ g.0 k')
-    answered_rest (ask.Push m) aim.TrySend (answer.Push (Err (push_error.NoMemory n))) g k =
+    answered_rest (ask.Push m) purpose.TrySend (answer.Push (Err (push_error.NoMemory n))) g k =
         let k' = subst (λ (x : T). RestTurn (sent_next (answer.Push (Err (push_error.NoMemory x)))) c o) g.2 k in
         inl (g.0, g.1, k')
-    answered_rest (ask.Push m) aim.TrySend y g k = absurd g
-    answered_rest (ask.ForcePush m) aim.ForceSend (answer.Force (Ok None)) g k = inr (pick_else c.queue.closed o _ _ g.0 (pick_else (is_filled c.queue) o _ _ g.1 k))
-    answered_rest (ask.ForcePush m) aim.ForceSend (answer.Force (Ok (Some d))) g k =
+    answered_rest (ask.Push m) purpose.TrySend y g k = absurd g
+    answered_rest (ask.ForcePush m) purpose.ForceSend (answer.Force (Ok None)) g k = inr (pick_else c.queue.closed o _ _ g.0 (pick_else (is_filled c.queue) o _ _ g.1 k))
+    answered_rest (ask.ForcePush m) purpose.ForceSend (answer.Force (Ok (Some d))) g k =
         let oldest : Some d ≡ slice_get c.queue.items 0 = sym (ap (λ (xs : List T). slice_get xs 0) g.2.1) in
         let k' = k ∙ ap (λ (x : Option T). ends alone.of_message (says (reply.ForceSend (Ok x))) (now_is c (alone.replaced m c.queue))) oldest in
         inr (pick_else c.queue.closed o _ _ g.0 (pick_then (is_filled c.queue) o _ _ g.1 k'))
-    answered_rest (ask.ForcePush m) aim.ForceSend (answer.Force (Err (force_error.Closed n))) g k =
+    answered_rest (ask.ForcePush m) purpose.ForceSend (answer.Force (Err (force_error.Closed n))) g k =
         let k' = subst (λ (x : T). RestTurn (forced_next (answer.Force (Err (force_error.Closed x)))) c o) g.1 k in
         inr (pick_then c.queue.closed o _ _ g.0 k')
-    answered_rest (ask.ForcePush m) aim.ForceSend (answer.Force (Err (force_error.NoMemory n))) g k =
+    answered_rest (ask.ForcePush m) purpose.ForceSend (answer.Force (Err (force_error.NoMemory n))) g k =
         let k' = subst (λ (x : T). RestTurn (forced_next (answer.Force (Err (force_error.NoMemory x)))) c o) g.2 k in
         inl (g.0, g.1, k')
-    answered_rest (ask.ForcePush m) aim.ForceSend y g k = absurd g
-    answered_rest ask.Pop aim.TryRecv (answer.Pop (Ok m)) g k = subst (λ (xs : List T). o ≡ receives_by xs c) (sym g.1) k
-    answered_rest ask.Pop aim.TryRecv (answer.Pop (Err pop_error.Empty)) g k =
+    answered_rest (ask.ForcePush m) purpose.ForceSend y g k = absurd g
+    answered_rest ask.Pop purpose.TryRecv (answer.Pop (Ok m)) g k = subst (λ (xs : List T). o ≡ receives_by xs c) (sym g.1) k
+    answered_rest ask.Pop purpose.TryRecv (answer.Pop (Err pop_error.Empty)) g k =
         let e : try_recv_error.Empty ≡ (if c.queue.closed then try_recv_error.Closed else try_recv_error.Empty) = pick_else c.queue.closed _ _ _ g.0 refl in
         subst (λ (xs : List T). o ≡ receives_by xs c) (sym g.1) (k ∙ ap (λ (x : TryRecvError). ends [] (says (reply.TryRecv (Err x))) c) e)
-    answered_rest ask.Pop aim.TryRecv (answer.Pop (Err pop_error.Closed)) g k =
+    answered_rest ask.Pop purpose.TryRecv (answer.Pop (Err pop_error.Closed)) g k =
         let e : try_recv_error.Closed ≡ (if c.queue.closed then try_recv_error.Closed else try_recv_error.Empty) = pick_then c.queue.closed _ _ _ g.0 refl in
         subst (λ (xs : List T). o ≡ receives_by xs c) (sym g.1) (k ∙ ap (λ (x : TryRecvError). ends [] (says (reply.TryRecv (Err x))) c) e)
-    answered_rest ask.Pop aim.TryRecv y g k = absurd g
-    answered_rest ask.Pop (aim.RecvMany z) (answer.Pop (Ok m)) g k =
+    answered_rest ask.Pop purpose.TryRecv y g k = absurd g
+    answered_rest ask.Pop (purpose.RecvMany z) (answer.Pop (Ok m)) g k =
         subst (λ (xs : List T). o ≡ gathers xs z.taken z.more c) (sym g.1) (gathered_rest z.taken g.0 z.more m g.1 k)
-    answered_rest ask.Pop (aim.RecvMany z) (answer.Pop (Err pop_error.Empty)) g k =
+    answered_rest ask.Pop (purpose.RecvMany z) (answer.Pop (Err pop_error.Empty)) g k =
         subst (λ (xs : List T). o ≡ gathers xs z.taken z.more c) (sym g.1)
         (short_rest z.taken z.more try_recv_error.Empty (pick_else c.queue.closed _ _ _ g.0 refl) k)
-    answered_rest ask.Pop (aim.RecvMany z) (answer.Pop (Err pop_error.Closed)) g k =
+    answered_rest ask.Pop (purpose.RecvMany z) (answer.Pop (Err pop_error.Closed)) g k =
         subst (λ (xs : List T). o ≡ gathers xs z.taken z.more c) (sym g.1)
         (short_rest z.taken z.more try_recv_error.Closed (pick_then c.queue.closed _ _ _ g.0 refl) k)
-    answered_rest ask.Pop (aim.RecvMany z) y g k = absurd g
-    answered_rest ask.Close (aim.Close by) (answer.Close true) g k = pick_else c.queue.closed o _ _ (not-true c.queue.closed (sym g)) k
-    answered_rest ask.Close (aim.Close by) (answer.Close false) g k = pick_then c.queue.closed o _ _ (not-false c.queue.closed (sym g)) (ends_rest c o _ k)
-    answered_rest ask.Close (aim.Close by) y g k = absurd g
-    answered_rest (ask.Push m) (aim.Poll Sends key task) (answer.Push (Ok u)) g k = inr (where_else c.queue.closed _ _ g.0 (where_else (is_filled c.queue) _ _ g.1 k))
-    answered_rest (ask.Push m) (aim.Poll Sends key task) (answer.Push (Err (push_error.Full n))) g k =
+    answered_rest ask.Pop (purpose.RecvMany z) y g k = absurd g
+    answered_rest ask.Close (purpose.Close by) (answer.Close true) g k = pick_else c.queue.closed o _ _ (not-true c.queue.closed (sym g)) k
+    answered_rest ask.Close (purpose.Close by) (answer.Close false) g k = pick_then c.queue.closed o _ _ (not-false c.queue.closed (sym g)) (ends_rest c o _ k)
+    answered_rest ask.Close (purpose.Close by) y g k = absurd g
+    answered_rest (ask.Push m) (purpose.Poll Sends key task) (answer.Push (Ok u)) g k = inr (where_else c.queue.closed _ _ g.0 (where_else (is_filled c.queue) _ _ g.1 k))
+    answered_rest (ask.Push m) (purpose.Poll Sends key task) (answer.Push (Err (push_error.Full n))) g k =
         let k' = subst (λ (x : T). RestTurn (refused_next (waiting.Send x) key task) c o) g.2 k in
         inr (where_else c.queue.closed _ _ g.0 (where_then (is_filled c.queue) _ _ g.1 (refused_rest c (waiting.Send m) (fresh_on Sends) (stuck_send m g.0 g.1) task o key k')))
-    answered_rest (ask.Push m) (aim.Poll Sends key task) (answer.Push (Err (push_error.Closed n))) g k =
+    answered_rest (ask.Push m) (purpose.Poll Sends key task) (answer.Push (Err (push_error.Closed n))) g k =
         let k' = subst (λ (x : T). o ≡ ends [] (over (reply.SendPoll (poll.Ready (Err (refused.Plain (record { 0 = x }))))) None Sends key) c) g.1 (ends_rest c o _ k) in
         inr (where_then c.queue.closed _ _ g.0 k')
-    answered_rest (ask.Push m) (aim.Poll Sends key task) (answer.Push (Err (push_error.NoMemory n))) g k =
+    answered_rest (ask.Push m) (purpose.Poll Sends key task) (answer.Push (Err (push_error.NoMemory n))) g k =
         let k' = subst (λ (x : T). o ≡ ends [] (over (reply.SendPoll (poll.Ready (Err (refused.NoMemory tt)))) (Some x) Sends key) c) g.2 (ends_rest c o _ k) in
         inl (g.0, g.1, k')
-    answered_rest (ask.Push m) (aim.Poll Sends key task) y g k = absurd g
-    answered_rest ask.Pop (aim.Poll Receives key task) (answer.Pop (Ok m)) g k = subst (λ (xs : List T). ForReceive key task xs) (sym g.1) k
-    answered_rest ask.Pop (aim.Poll Receives key task) (answer.Pop (Err pop_error.Empty)) g k =
+    answered_rest (ask.Push m) (purpose.Poll Sends key task) y g k = absurd g
+    answered_rest ask.Pop (purpose.Poll Receives key task) (answer.Pop (Ok m)) g k = subst (λ (xs : List T). ForReceive key task xs) (sym g.1) k
+    answered_rest ask.Pop (purpose.Poll Receives key task) (answer.Pop (Err pop_error.Empty)) g k =
         subst (λ (xs : List T). ForReceive key task xs) (sym g.1)
         (where_else c.queue.closed _ _ g.0 (refused_rest c waiting.Receive (fresh_on Receives) (stuck_for waiting.Receive (λ m. reply.RecvPoll (poll.Ready (Ok m))) (reply.RecvPoll (poll.Ready (Err (refused.Plain (record {}))))) g.0 g.1) task o key k))
-    answered_rest ask.Pop (aim.Poll Receives key task) (answer.Pop (Err pop_error.Closed)) g k =
+    answered_rest ask.Pop (purpose.Poll Receives key task) (answer.Pop (Err pop_error.Closed)) g k =
         subst (λ (xs : List T). ForReceive key task xs) (sym g.1) (where_then c.queue.closed _ (WaitsOrGoesOn waiting.Receive key task c o) g.0 (ends_rest c o _ k))
-    answered_rest ask.Pop (aim.Poll Receives key task) y g k = absurd g
-    answered_rest ask.Pop (aim.Poll Streams key task) (answer.Pop (Ok m)) g k = subst (λ (xs : List T). ForStream key task xs) (sym g.1) k
-    answered_rest ask.Pop (aim.Poll Streams key task) (answer.Pop (Err pop_error.Empty)) g k =
+    answered_rest ask.Pop (purpose.Poll Receives key task) y g k = absurd g
+    answered_rest ask.Pop (purpose.Poll Streams key task) (answer.Pop (Ok m)) g k = subst (λ (xs : List T). ForStream key task xs) (sym g.1) k
+    answered_rest ask.Pop (purpose.Poll Streams key task) (answer.Pop (Err pop_error.Empty)) g k =
         subst (λ (xs : List T). ForStream key task xs) (sym g.1)
         (where_else c.queue.closed _ _ g.0 (refused_rest c waiting.Stream (fresh_on Streams) (stuck_for waiting.Stream (λ m. reply.Next (poll.Ready (Some (Ok m)))) (reply.Next (poll.Ready None)) g.0 g.1) task o key k))
-    answered_rest ask.Pop (aim.Poll Streams key task) (answer.Pop (Err pop_error.Closed)) g k =
+    answered_rest ask.Pop (purpose.Poll Streams key task) (answer.Pop (Err pop_error.Closed)) g k =
         subst (λ (xs : List T). ForStream key task xs) (sym g.1) (where_then c.queue.closed _ (WaitsOrGoesOn waiting.Stream key task c o) g.0 (ends_rest c o _ k))
-    answered_rest ask.Pop (aim.Poll Streams key task) y g k = absurd g
-    answered_rest ask.IsClosed (aim.Poll Closings key task) (answer.Flag true) g k = where_then c.queue.closed _ _ (sym g) (ends_rest c o _ k)
-    answered_rest ask.IsClosed (aim.Poll Closings key task) (answer.Flag false) g k =
+    answered_rest ask.Pop (purpose.Poll Streams key task) y g k = absurd g
+    answered_rest ask.IsClosed (purpose.Poll Closings key task) (answer.Flag true) g k = where_then c.queue.closed _ _ (sym g) (ends_rest c o _ k)
+    answered_rest ask.IsClosed (purpose.Poll Closings key task) (answer.Flag false) g k =
         where_else c.queue.closed _ _ (sym g) (refused_rest c waiting.Closing (fresh_on Closings) (stuck_closing (sym g)) task o key k)
-    answered_rest ask.IsClosed (aim.Poll Closings key task) y g k = absurd g
-    answered_rest ask.IsClosed aim.Ask (answer.Flag b) g k = k ∙ ap (λ (x : Bool). says_only (reply.Flag x) c) g
-    answered_rest ask.IsEmpty aim.Ask (answer.Flag b) g k = k ∙ ap (λ (x : Bool). says_only (reply.Flag x) c) g
-    answered_rest ask.IsFull aim.Ask (answer.Flag b) g k = k ∙ ap (λ (x : Bool). says_only (reply.Flag x) c) g
-    answered_rest ask.Len aim.Ask (answer.Count n) g k = k ∙ ap (λ (x : ℕ). says_only (reply.Count x) c) g
-    answered_rest ask.Capacity aim.Ask (answer.Cap n) g k = k ∙ ap (λ (x : Option ℕ). says_only (reply.Cap x) c) g
-    answered_rest (ask.Push v) aim.Ask y g k = tt
-    answered_rest (ask.ForcePush v) aim.Ask y g k = tt
-    answered_rest ask.Pop aim.Ask y g k = tt
-    answered_rest ask.Close aim.Ask y g k = tt
-    answered_rest a aim.Ask y g k = absurd g
-    answered_rest ask.IsClosed aim.IsTerminated (answer.Flag true) g k = k ∙ ap (λ (x : Bool). says_only (reply.Flag (x && (length c.queue.items == 0))) c) g
-    answered_rest ask.IsClosed aim.IsTerminated (answer.Flag false) g k = k ∙ ap (λ (x : Bool). says_only (reply.Flag (x && (length c.queue.items == 0))) c) g
-    answered_rest ask.IsClosed aim.IsTerminated y g k = absurd g
-    answered_rest ask.IsClosed (aim.Upgrade side) (answer.Flag true) g k = pick_then c.queue.closed o _ _ (sym g) k
-    answered_rest ask.IsClosed (aim.Upgrade side) (answer.Flag false) g k = pick_else c.queue.closed o _ _ (sym g) k
-    answered_rest ask.IsClosed (aim.Upgrade side) y g k = absurd g
+    answered_rest ask.IsClosed (purpose.Poll Closings key task) y g k = absurd g
+    answered_rest ask.IsClosed purpose.Ask (answer.Flag b) g k = k ∙ ap (λ (x : Bool). says_only (reply.Flag x) c) g
+    answered_rest ask.IsEmpty purpose.Ask (answer.Flag b) g k = k ∙ ap (λ (x : Bool). says_only (reply.Flag x) c) g
+    answered_rest ask.IsFull purpose.Ask (answer.Flag b) g k = k ∙ ap (λ (x : Bool). says_only (reply.Flag x) c) g
+    answered_rest ask.Len purpose.Ask (answer.Count n) g k = k ∙ ap (λ (x : ℕ). says_only (reply.Count x) c) g
+    answered_rest ask.Capacity purpose.Ask (answer.Cap n) g k = k ∙ ap (λ (x : Option ℕ). says_only (reply.Cap x) c) g
+    answered_rest (ask.Push v) purpose.Ask y g k = tt
+    answered_rest (ask.ForcePush v) purpose.Ask y g k = tt
+    answered_rest ask.Pop purpose.Ask y g k = tt
+    answered_rest ask.Close purpose.Ask y g k = tt
+    answered_rest a purpose.Ask y g k = absurd g
+    answered_rest ask.IsClosed purpose.IsTerminated (answer.Flag true) g k = k ∙ ap (λ (x : Bool). says_only (reply.Flag (x && (length c.queue.items == 0))) c) g
+    answered_rest ask.IsClosed purpose.IsTerminated (answer.Flag false) g k = k ∙ ap (λ (x : Bool). says_only (reply.Flag (x && (length c.queue.items == 0))) c) g
+    answered_rest ask.IsClosed purpose.IsTerminated y g k = absurd g
+    answered_rest ask.IsClosed (purpose.Upgrade side) (answer.Flag true) g k = pick_then c.queue.closed o _ _ (sym g) k
+    answered_rest ask.IsClosed (purpose.Upgrade side) (answer.Flag false) g k = pick_else c.queue.closed o _ _ (sym g) k
+    answered_rest ask.IsClosed (purpose.Upgrade side) y g k = absurd g
     answered_rest a x y g k = tt

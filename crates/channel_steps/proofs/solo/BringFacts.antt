@@ -1,7 +1,7 @@
 -- How long a call that is alone at work may still bring a message.
 use Rattle.channel_steps.proofs.solo.Words.{◌≡◌, true, Option, None, Some, Ok, subst, Phase, QueueReply, Reply, Purpose, Closer, Ending, ListenerRef, WaitList, Sends, Closings, Stage, Working, Finished, NextStep, ListStep, TellReceive, TellStreams, TellSend, TellSends, TellAll, Leave, Count, ends_by, closer_ending, told_all_next, answered_next, Channel, Effect, Turned, Worked}
 use Rattle.concurrent_queue.specs.declared.call.QueueReply.TheVariants as answer
-use Rattle.channel_calls.specs.declared.stage.Purpose.TheVariants as aim
+use Rattle.channel_calls.specs.declared.stage.Purpose.TheVariants as purpose
 use Rattle.channel_steps.proofs.solo.TryFacts.{brought_by}
 
 module _ {T W : Type 0} where
@@ -43,10 +43,10 @@ module _ {T W : Type 0} where
 
     -- once a message came in, none comes any more
     pub brings_once : (x : Purpose T W) (y : QueueReply T) → brought_by y ≡ 1 → Turned (answered_next x y) r s → MayBring s → ⊥
-    brings_once (aim.Poll Sends key task) (answer.Push (Ok u)) e t h = subst (λ (z : Stage (Phase T) T W). MayBring z) t.1 h
-    brings_once (aim.Poll line key task) (answer.Push (Ok u)) e t h = subst (λ (z : Stage (Phase T) T W). MayBring z) t.1 h
+    brings_once (purpose.Poll Sends key task) (answer.Push (Ok u)) e t h = subst (λ (z : Stage (Phase T) T W). MayBring z) t.1 h
+    brings_once (purpose.Poll line key task) (answer.Push (Ok u)) e t h = subst (λ (z : Stage (Phase T) T W). MayBring z) t.1 h
     brings_once x (answer.Push (Ok u)) e t h = subst (λ (z : Stage (Phase T) T W). MayBring z) t.1 h
-    brings_once (aim.Poll Sends key task) (answer.Force (Ok d)) e t h = subst (λ (z : Stage (Phase T) T W). MayBring z) t.1 h
-    brings_once (aim.Poll line key task) (answer.Force (Ok d)) e t h = subst (λ (z : Stage (Phase T) T W). MayBring z) t.1 h
+    brings_once (purpose.Poll Sends key task) (answer.Force (Ok d)) e t h = subst (λ (z : Stage (Phase T) T W). MayBring z) t.1 h
+    brings_once (purpose.Poll line key task) (answer.Force (Ok d)) e t h = subst (λ (z : Stage (Phase T) T W). MayBring z) t.1 h
     brings_once x (answer.Force (Ok d)) e t h = subst (λ (z : Stage (Phase T) T W). MayBring z) t.1 h
     brings_once x y e t h = absurd (let never : brought_by y ≡ 1 = e in cc)

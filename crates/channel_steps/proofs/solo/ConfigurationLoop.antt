@@ -9,7 +9,7 @@ use Rattle.channel_steps.specs.declared.party.Party.{Party}
 use Rattle.channel_steps.specs.Run.{Begins, EachStep, IsRun, NextConfiguration, end_of}
 use Rattle.channel_steps.specs.Configuration.{ActiveCall, Configuration, ActiveCallWitness, blocks_after, does, active_call_of, all_seats, Known, AllKnown, IsBalanced, MayHave, Steps, Represents}
 use Rattle.channel_steps.specs.solo.Configurations.{steps_by, woken_by_steps, EndsWith, RanInConfigurations, RunsInConfigurations}
-use Rattle.channel_steps.specs.declared.alone.Done.{Done}
+use Rattle.channel_calls.specs.declared.whole.Completed.{Completed}
 use Rattle.channel_steps.specs.declared.run.Step.TheVariants as step
 use Rattle.channel_steps.specs.Run as steps
 use Rattle.channel_steps.proofs.solo.TryFacts.{idle}
@@ -444,7 +444,7 @@ module _ {T W S : Type 0} (wakes : S → W → S → Type 0) where
           }
 
       pub configurations_nearer : IsChannelStep wakes parts stage sink parts' stage' m None sink' → IsAtRest parts0
-          → steps_left parts'.cells parts'.roster stage' < steps_left parts.cells parts.roster stage
+          → steps_left parts'.cells parts'.wait_lists stage' < steps_left parts.cells parts.wait_lists stage
       configurations_nearer step (q, position, fits) =
           let x = alone_there parts stage sink messages way q position fits in
           step_nearer a (channel q parts0) parts x.0 step.0 parts' stage' m None stage x.1 step.2
@@ -454,14 +454,14 @@ module _ {T W S : Type 0} (wakes : S → W → S → Type 0) where
           → RunsInConfigurations wakes a parts0 sink0 messages0 (record { reply = y; kept = kept }) parts' sink' messages'
       configurations_end y step kept left s p position sh =
           let x = way s p position sh in
-          let done : Done T = record { reply = y; kept = kept } in
+          let done : Completed T = record { reply = y; kept = kept } in
           let woken = woken_on wakes sink0 sink sink' x.so_far step.0 x.woken step.1 in
           let over = ends_so a parts0 messages0 s p sh parts stage x.so_far messages x.between parts' stage' m step.0 wakes sink0
           sink' woken y kept left step.2 in
           subst (λ (n : ℕ). RanInConfigurations wakes a sink0 messages0 done parts' sink' n s p) (sym counts) over
 
   -- what it answers in every configuration it answers over whatever queue the cells mean
-  pub answers_alone : (a : ChannelAsk T W) (parts0 : Parts T W) (sink0 : S) (messages0 : ℕ) (done : Done T) (parts' : Parts T W) (sink' : S) (messages' : ℕ)
+  pub answers_alone : (a : ChannelAsk T W) (parts0 : Parts T W) (sink0 : S) (messages0 : ℕ) (done : Completed T) (parts' : Parts T W) (sink' : S) (messages' : ℕ)
       → RunsInConfigurations wakes a parts0 sink0 messages0 done parts' sink' messages' → AnswersAlone wakes a parts0 sink0 done parts' sink'
   answers_alone a parts0 sink0 messages0 done parts' sink' messages' runs q position fits =
       let rest = shows_rest q parts0 fits in
@@ -472,7 +472,7 @@ module _ {T W S : Type 0} (wakes : S → W → S → Type 0) where
         does = r.does;
         reply = r.reply;
         kept = r.kept;
-        roster = ap (λ (c : Channel T W). c.roster) same;
+        wait_lists = ap (λ (c : Channel T W). c.wait_lists) same;
         at_rest = subst (λ (c : Channel T W). Fits parts'.cells c.queue []) same (at_rest parts' r.after r.shown);
         capacity = r.capacity;
         accepted = r.accepted;

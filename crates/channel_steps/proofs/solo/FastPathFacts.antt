@@ -29,7 +29,7 @@ use Rattle.channel_calls.specs.Walks.{ChannelMakes}
 use Rattle.channel_steps.specs.Count.{counted}
 use Rattle.channel_steps.specs.solo.Run.{IsAtRest}
 use Rattle.channel_steps.specs.solo.Configurations.{RunsInConfigurations}
-use Rattle.channel_steps.specs.declared.alone.Done.{Done}
+use Rattle.channel_calls.specs.declared.whole.Completed.{Completed}
 use Rattle.channel_steps.specs.Left.{steps_left}
 use Rattle.channel_steps.proofs.solo.ConfigurationLoop.{IsBetween, plain_step, configurations_start, configurations_more, configurations_nearer, configurations_end}
 
@@ -39,19 +39,19 @@ module _ {T W S : Type 0} (wakes : S → W → S → Type 0) (a : ChannelAsk T W
   HasCome c stage sink messages = IsBetween wakes a (parts_of c0) sink0 messages0 (parts_of c) stage sink messages
 
   -- what a call left that answers this, with nothing kept
-  abbrev pub IsOver : Done T → PlainChannel T W → S → ℕ → Type 0
+  abbrev pub IsOver : Completed T → PlainChannel T W → S → ℕ → Type 0
   IsOver done d l messages = RunsInConfigurations wakes a (parts_of c0) sink0 messages0 done (parts_of d) l messages
 
   -- one that tries first has asked the queue, and nothing more
-  pub comes_in : (x : QueueAsk T) (aim : Purpose T W) (call : QueueCall T) → first a ≡ Tries x aim → Starts call x
-      → HasCome c0 (Trying call aim) sink0 messages0
-  comes_in x aim call tries starts =
-      let begins : IsTaken (first a) None (Trying call aim) = rw tries (call, starts, refl, refl) in
-      configurations_start wakes a (parts_of c0) sink0 messages0 (record { stage = Trying call aim; mark = Nothing }) (None, begins)
+  pub comes_in : (x : QueueAsk T) (purpose : Purpose T W) (call : QueueCall T) → first a ≡ Tries x purpose → Starts call x
+      → HasCome c0 (Trying call purpose) sink0 messages0
+  comes_in x purpose call tries starts =
+      let begins : IsTaken (first a) None (Trying call purpose) = rw tries (call, starts, refl, refl) in
+      configurations_start wakes a (parts_of c0) sink0 messages0 (record { stage = Trying call purpose; mark = Nothing }) (None, begins)
 
-  over_as : (done : Done T) (y : Reply T) (d : PlainChannel T W) (l : S) (n : ℕ) → done ≡ record { reply = y; kept = nothing_kept }
+  over_as : (done : Completed T) (y : Reply T) (d : PlainChannel T W) (l : S) (n : ℕ) → done ≡ record { reply = y; kept = nothing_kept }
       → IsOver (record { reply = y; kept = nothing_kept }) d l n → IsOver done d l n
-  over_as done y d l n is x = subst (λ (o : Done T). IsOver o d l n) (sym is) x
+  over_as done y d l n is x = subst (λ (o : Completed T). IsOver o d l n) (sym is) x
 
   module _ (c d : PlainChannel T W) (stage next : Stage (QueueCall T) T W) (k l : S) (messages n : ℕ) (m : Mark)
       (x : HasCome c stage k messages) (count : n ≡ counted messages m) where
@@ -63,7 +63,7 @@ module _ {T W S : Type 0} (wakes : S → W → S → Type 0) (a : ChannelAsk T W
           (plain_step wakes c d k l m next None stage made)
 
       comes_nearer : IsAtRest (parts_of c0)
-          → steps_left (parts_of d).cells (parts_of d).roster next < steps_left (parts_of c).cells (parts_of c).roster stage
+          → steps_left (parts_of d).cells (parts_of d).wait_lists next < steps_left (parts_of c).cells (parts_of c).wait_lists stage
       comes_nearer rest =
           configurations_nearer wakes a (parts_of c0) sink0 messages0 (parts_of c) stage k messages x (parts_of d) next m l n m refl count
           (plain_step wakes c d k l m next None stage made) rest
@@ -76,8 +76,8 @@ module _ {T W S : Type 0} (wakes : S → W → S → Type 0) (a : ChannelAsk T W
         y (plain_step wakes c d k l m next (Some y) stage made) (kept_by next) refl
 
   -- a step of the queue's call
-  module _ (aim : Purpose T W) (c d : PlainChannel T W) (call after : QueueCall T) (k : S) (messages n : ℕ)
-      (x : HasCome c (Trying call aim) k messages) (last : QueueMark) (last_is : last ≡ mark_of after) (now : n ≡ counted messages (mark_of_queue last))
+  module _ (purpose : Purpose T W) (c d : PlainChannel T W) (call after : QueueCall T) (k : S) (messages n : ℕ)
+      (x : HasCome c (Trying call purpose) k messages) (last : QueueMark) (last_is : last ≡ mark_of after) (now : n ≡ counted messages (mark_of_queue last))
       (o : Option (QueueReply T)) (deed : DoesPlain (stepped call after o) c d) where
     abbrev mark : Mark
     mark = mark_of_queue (mark_of after)
@@ -91,29 +91,29 @@ module _ {T W S : Type 0} (wakes : S → W → S → Type 0) (a : ChannelAsk T W
     abbrev answered : (z : QueueReply T) → o ≡ Some z → DoesPlain (stepped call after (Some z)) c d
     answered z e = subst (λ (p : Option (QueueReply T)). DoesPlain (stepped call after p) c d) e deed
 
-    pub tries_on : o ≡ None → HasCome d (Trying after aim) k n
-    tries_on e = comes_on c d (Trying call aim) (Trying after aim) k k messages n mark x count (after, None, (silent e, refl), refl, (refl, refl))
+    pub tries_on : o ≡ None → HasCome d (Trying after purpose) k n
+    tries_on e = comes_on c d (Trying call purpose) (Trying after purpose) k k messages n mark x count (after, None, (silent e, refl), refl, (refl, refl))
 
     pub tries_nearer : o ≡ None → IsAtRest (parts_of c0)
-        → steps_left (parts_of d).cells (parts_of d).roster (Trying after aim) < steps_left (parts_of c).cells (parts_of c).roster (Trying call aim)
+        → steps_left (parts_of d).cells (parts_of d).wait_lists (Trying after purpose) < steps_left (parts_of c).cells (parts_of c).wait_lists (Trying call purpose)
     tries_nearer e rest =
-        comes_nearer c d (Trying call aim) (Trying after aim) k k messages n mark x count (after, None, (silent e, refl), refl, (refl, refl)) rest
+        comes_nearer c d (Trying call purpose) (Trying after purpose) k k messages n mark x count (after, None, (silent e, refl), refl, (refl, refl)) rest
 
     -- one that the queue answers for good
-    pub tries_over : (z : QueueReply T) (y : Reply T) (done : Done T) → o ≡ Some z → answered_next aim z ≡ Ends y nothing_kept
+    pub tries_over : (z : QueueReply T) (y : Reply T) (done : Completed T) → o ≡ Some z → answered_next purpose z ≡ Ends y nothing_kept
         → done ≡ record { reply = y; kept = nothing_kept } → IsOver done d k n
     tries_over z y done e ends is =
-        over_as done y d k n is (comes_to c d (Trying call aim) (Finished nothing_kept) k k messages n mark x count y
+        over_as done y d k n is (comes_to c d (Trying call purpose) (Finished nothing_kept) k k messages n mark x count y
         (after, Some z, (answered z e, refl), refl, rw ends (refl, refl)))
 
     -- and one after which somebody is to be told
-    pub tries_well : (z : QueueReply T) (w : ListStep T W) → o ≡ Some z → answered_next aim z ≡ Works w → HasCome d (Working w) k n
+    pub tries_well : (z : QueueReply T) (w : ListStep T W) → o ≡ Some z → answered_next purpose z ≡ Works w → HasCome d (Working w) k n
     tries_well z w e works =
-        comes_on c d (Trying call aim) (Working w) k k messages n mark x count
+        comes_on c d (Trying call purpose) (Working w) k k messages n mark x count
         (after, Some z, (answered z e, refl), refl, rw works (refl, refl))
 
   -- a message is in: one receive is told, and then all streams
-  pub tells_all_over : (y : Reply T) (done : Done T) (c d e : PlainChannel T W) (k l s : S) (n : ℕ)
+  pub tells_all_over : (y : Reply T) (done : Completed T) (c d e : PlainChannel T W) (k l s : S) (n : ℕ)
       → HasCome c (Working (TellReceive (says y))) k n
       → (names : List W) → DoesPlain (one_told Receives names) c d → Woken wakes k names l
       → (others : List W) → DoesPlain (all_told Streams others) d e → Woken wakes l others s
@@ -125,7 +125,7 @@ module _ {T W S : Type 0} (wakes : S → W → S → Type 0) (a : ChannelAsk T W
       refl y (others, (all, told), (refl, (refl, refl))))
 
   -- a message was taken: one send is told
-  pub tells_one_over : (y : Reply T) (done : Done T) (c d : PlainChannel T W) (k l : S) (n : ℕ)
+  pub tells_one_over : (y : Reply T) (done : Completed T) (c d : PlainChannel T W) (k l : S) (n : ℕ)
       → HasCome c (Working (TellSend (says y))) k n
       → (names : List W) → DoesPlain (one_told Sends names) c d → Woken wakes k names l
       → done ≡ record { reply = y; kept = nothing_kept } → IsOver done d l n

@@ -61,7 +61,7 @@ module _ {T W : Type 0} where
     pub fits : Fits cells q (seats at s ++ [])
 
   pub begun : (cells : Contents T) (q : Queue T) → Fits cells q [] → (turn : NextStep T W) (r : Option (Reply T)) (s : Stage (QueueCall T) T W) → r ≡ None → IsTaken turn r s → Begun turn cells q s
-  begun cells q h (Tries x aim) r s none (call, starts, here, e) =
+  begun cells q h (Tries x purpose) r s none (call, starts, here, e) =
       record {
         at = asked x;
         turned = (refl, ap (λ (z : Stage (QueueCall T) T W). phase (asked x) z) e);

@@ -5,7 +5,7 @@ use Rattle.channel_calls.specs.declared.ask.ChannelAsk.TheVariants as call
 use Rattle.channel_calls.specs.declared.error.Refused.TheVariants as refused
 use Rattle.channel_calls.specs.declared.error.TryRecvError.TheVariants as try_recv_error
 use Rattle.channel_calls.specs.declared.reply.Reply.TheVariants as reply
-use Rattle.channel_calls.specs.declared.stage.Purpose.TheVariants as aim
+use Rattle.channel_calls.specs.declared.stage.Purpose.TheVariants as purpose
 use Rattle.channel_calls.specs.declared.stage.Making.TheVariants as making
 
 module _ {T W : Type 0} where
@@ -49,22 +49,22 @@ module _ {T W : Type 0} where
 
   -- a try that begins, by what it asks of the queue and what for; no other asks are made for these
   abbrev pub RestTry : QueueAsk T → Purpose T W → Channel T W → Outcome T W → Type 0
-  RestTry (ask.Push m) aim.TrySend c o = Alone (call.TrySend m) c o
-  RestTry (ask.ForcePush m) aim.ForceSend c o = Alone (call.ForceSend m) c o
-  RestTry ask.Pop aim.TryRecv c o = Alone call.TryRecv c o
-  RestTry ask.Pop (aim.RecvMany g) c o = o ≡ gathers c.queue.items g.taken g.more c
-  RestTry ask.Close (aim.Close closer) c o = o ≡ closes closer c
-  RestTry (ask.Push m) (aim.Poll Sends key task) c o = PollsSend m key task c o
-  RestTry ask.Pop (aim.Poll Receives key task) c o = PollsReceive key task c o
-  RestTry ask.Pop (aim.Poll Streams key task) c o = PollsStream key task c o
-  RestTry ask.IsClosed (aim.Poll Closings key task) c o = PollsClosing key task c o
-  RestTry ask.IsClosed aim.Ask c o = Alone call.IsClosed c o
-  RestTry ask.IsEmpty aim.Ask c o = Alone call.IsEmpty c o
-  RestTry ask.IsFull aim.Ask c o = Alone call.IsFull c o
-  RestTry ask.Len aim.Ask c o = Alone call.Len c o
-  RestTry ask.Capacity aim.Ask c o = Alone call.Capacity c o
-  RestTry ask.IsClosed aim.IsTerminated c o = Alone call.IsTerminated c o
-  RestTry ask.IsClosed (aim.Upgrade side) c o = Alone (call.Upgrade side) c o
+  RestTry (ask.Push m) purpose.TrySend c o = Alone (call.TrySend m) c o
+  RestTry (ask.ForcePush m) purpose.ForceSend c o = Alone (call.ForceSend m) c o
+  RestTry ask.Pop purpose.TryRecv c o = Alone call.TryRecv c o
+  RestTry ask.Pop (purpose.RecvMany g) c o = o ≡ gathers c.queue.items g.taken g.more c
+  RestTry ask.Close (purpose.Close closer) c o = o ≡ closes closer c
+  RestTry (ask.Push m) (purpose.Poll Sends key task) c o = PollsSend m key task c o
+  RestTry ask.Pop (purpose.Poll Receives key task) c o = PollsReceive key task c o
+  RestTry ask.Pop (purpose.Poll Streams key task) c o = PollsStream key task c o
+  RestTry ask.IsClosed (purpose.Poll Closings key task) c o = PollsClosing key task c o
+  RestTry ask.IsClosed purpose.Ask c o = Alone call.IsClosed c o
+  RestTry ask.IsEmpty purpose.Ask c o = Alone call.IsEmpty c o
+  RestTry ask.IsFull purpose.Ask c o = Alone call.IsFull c o
+  RestTry ask.Len purpose.Ask c o = Alone call.Len c o
+  RestTry ask.Capacity purpose.Ask c o = Alone call.Capacity c o
+  RestTry ask.IsClosed purpose.IsTerminated c o = Alone call.IsTerminated c o
+  RestTry ask.IsClosed (purpose.Upgrade side) c o = Alone (call.Upgrade side) c o
   RestTry a x c o = Unit {0}
 
   -- the lists that a closing still tells
@@ -76,7 +76,7 @@ module _ {T W : Type 0} where
 
   abbrev pub RestLoad : Side → Making → Channel T W → Outcome T W → Type 0
   RestLoad side making.Clone c o = o ≡ clones side c
-  RestLoad side making.Upgrade c o = o ≡ (if count side c.roster == 0 then answers reply.NotMade nothing_kept c else clones side c)
+  RestLoad side making.Upgrade c o = o ≡ (if count side c.wait_lists == 0 then answers reply.NotMade nothing_kept c else clones side c)
 
   abbrev pub RestWork : ListStep T W → Channel T W → Outcome T W → Type 0
   RestWork (TellReceive x) c o = o ≡ ends of_message x c
@@ -86,15 +86,15 @@ module _ {T W : Type 0} where
   RestWork (TakeRoom n) c o = ReceivesSeveral n c o
   RestWork (TellAll line closer) c o = o ≡ ends (of_closing_from line) (closer_ending closer true) c
   RestWork (Insert w task) c o =
-      ((key : Key) × (kind_of (listeners (line_of w) c.roster) key ≡ None) × RestTry (ask_of w) (aim.Poll (line_of w) (Some key) task) (listens (line_of w) key c).channel o)
+      ((key : Key) × (kind_of (listeners (line_of w) c.wait_lists) key ≡ None) × RestTry (ask_of w) (purpose.Poll (line_of w) (Some key) task) (listens (line_of w) key c).channel o)
       ⊎ ((error : ListenError) × (o ≡ answers (refused_reply (line_of w) error) (leaving None (message_of w)) c))
-  RestWork (Register w key task) c o = RegistersOrGoesOn w key task c o (λ d. RestTry (ask_of w) (aim.Poll (line_of w) None task) d o)
+  RestWork (Register w key task) c o = RegistersOrGoesOn w key task c o (λ d. RestTry (ask_of w) (purpose.Poll (line_of w) None task) d o)
   RestWork (Leave x) c o = o ≡ ends [] x c
   RestWork (Lower side key) c o = o ≡ drops side key c
-  RestWork (Count side) c o = o ≡ says_only (reply.Count (count side c.roster)) c
+  RestWork (Count side) c o = o ≡ says_only (reply.Count (count side c.wait_lists)) c
   RestWork (Load side m) c o = RestLoad side m c o
   RestWork (Raise side n m) c o =
-      Where (is_raised side n c.roster) (o ≡ answers reply.Made nothing_kept (raises side n c).channel) (RestLoad side m c o)
+      Where (is_raised side n c.wait_lists) (o ≡ answers reply.Made nothing_kept (raises side n c).channel) (RestLoad side m c o)
 
   abbrev pub RestTurn : NextStep T W → Channel T W → Outcome T W → Type 0
   RestTurn (Tries a x) c o = RestTry a x c o

@@ -3,7 +3,7 @@ use Rattle.channel_steps.proofs.solo.Words.{zero, suc, ◌∙◌, ◌≡◌, ℕ
 use Rattle.channel_calls.specs.Marks.{up}
 use Rattle.concurrent_queue.specs.declared.call.QueueAsk.TheVariants as ask
 use Rattle.channel_calls.specs.declared.reply.Reply.TheVariants as reply
-use Rattle.channel_calls.specs.declared.stage.Purpose.TheVariants as aim
+use Rattle.channel_calls.specs.declared.stage.Purpose.TheVariants as purpose
 use Rattle.channel_calls.specs.declared.stage.Making.TheVariants as making
 use Rattle.channel_steps.proofs.LeftFacts.{raised_now}
 use Rattle.channel_steps.proofs.solo.Rest.{RestTry, RestWork, RestTurn, RestLoad, ends_rest, gathers_all}
@@ -41,14 +41,14 @@ module _ {T W : Type 0} where
         record { turn = told_all_next line by; turned = h; back = λ o k. ap (λ (p : Outcome T W). after_waking (tells_all line c).woken p) k; queue = refl }
 
     registered_back : (b : Bool) (w : Waiting T) (key : Key) (task : W) (d : Channel T W) (o : Outcome T W) → RestTurn (if b then pends_by w key else again w None task) d o
-        → Where b (o ≡ answers (pending_reply (line_of w)) (leaving (Some key) (message_of w)) d) (RestTry (ask_of w) (aim.Poll (line_of w) None task) d o)
+        → Where b (o ≡ answers (pending_reply (line_of w)) (leaving (Some key) (message_of w)) d) (RestTry (ask_of w) (purpose.Poll (line_of w) None task) d o)
     registered_back true w key task d o k = k
     registered_back false w key task d o k = k
 
-    registered : (w : Waiting T) (key : Key) (task : W) → Turned (if waits key (listeners (line_of w) c.roster) then pends_by w key else again w None task) r s
+    registered : (w : Waiting T) (key : Key) (task : W) → Turned (if waits key (listeners (line_of w) c.wait_lists) then pends_by w key else again w None task) r s
         → Backs c (Register w key task) (registers (line_of w) key task c) r s
     registered w key task h =
-        let b = waits key (listeners (line_of w) c.roster) in
+        let b = waits key (listeners (line_of w) c.wait_lists) in
         let d = (registers (line_of w) key task c).channel in
         record {
           turn = if b then pends_by w key else again w None task;
@@ -70,17 +70,17 @@ module _ {T W : Type 0} where
           queue = left_queue x.held;
         }
 
-    lowered_back : (b : Bool) (by : Closer) (d : Channel T W) (o : Outcome T W) → RestTurn (if b then Tries ask.Close (aim.Close by) else ends_by (closer_ending by false)) d o
+    lowered_back : (b : Bool) (by : Closer) (d : Channel T W) (o : Outcome T W) → RestTurn (if b then Tries ask.Close (purpose.Close by) else ends_by (closer_ending by false)) d o
         → o ≡ (if b then closes by d else ends [] (closer_ending by false) d)
     lowered_back true by d o k = k
     lowered_back false by d o k = ends_rest d o (closer_ending by false) k
 
-    lowered : (side : Side) (key : Option Key) → Turned (lowered_next side key (count side c.roster)) r s → Backs c (Lower side key) (lowers side c) r s
+    lowered : (side : Side) (key : Option Key) → Turned (lowered_next side key (count side c.wait_lists)) r s → Backs c (Lower side key) (lowers side c) r s
     lowered side key h =
-        let b = count side c.roster == 1 in
+        let b = count side c.wait_lists == 1 in
         let d = (lowers side c).channel in
         record {
-          turn = lowered_next side key (count side c.roster);
+          turn = lowered_next side key (count side c.wait_lists);
           turned = h;
           back = λ o k. lowered_back b (dropper side key) d o k;
           queue = refl;
@@ -88,21 +88,21 @@ module _ {T W : Type 0} where
 
     -- ---- a count that is raised
 
-    counted_back : (b : Bool) (side : Side) (m : Making) → b ≡ nat_lt most (count side c.roster) → (o : Outcome T W)
-        → RestTurn (if b then Ends reply.TooMany nothing_kept else Works (Raise side (count side c.roster) m)) c o
-        → o ≡ (if b then answers reply.TooMany nothing_kept c else answers reply.Made nothing_kept (raises side (count side c.roster) c).channel)
+    counted_back : (b : Bool) (side : Side) (m : Making) → b ≡ nat_lt most (count side c.wait_lists) → (o : Outcome T W)
+        → RestTurn (if b then Ends reply.TooMany nothing_kept else Works (Raise side (count side c.wait_lists) m)) c o
+        → o ≡ (if b then answers reply.TooMany nothing_kept c else answers reply.Made nothing_kept (raises side (count side c.wait_lists) c).channel)
     counted_back true side m e o k = k
-    counted_back false side m e o k = given_then (is_raised side (count side c.roster) c.roster) _ _ (raised_now (count side c.roster) (sym e)) k
+    counted_back false side m e o k = given_then (is_raised side (count side c.wait_lists) c.wait_lists) _ _ (raised_now (count side c.wait_lists) (sym e)) k
 
     upgraded_back : (b : Bool) (side : Side) (o : Outcome T W)
-        → RestTurn (if b then Ends reply.NotMade nothing_kept else counted_next side making.Upgrade (count side c.roster)) c o
+        → RestTurn (if b then Ends reply.NotMade nothing_kept else counted_next side making.Upgrade (count side c.wait_lists)) c o
         → o ≡ (if b then answers reply.NotMade nothing_kept c else clones side c)
     upgraded_back true side o k = k
-    upgraded_back false side o k = counted_back (nat_lt most (count side c.roster)) side making.Upgrade refl o k
+    upgraded_back false side o k = counted_back (nat_lt most (count side c.wait_lists)) side making.Upgrade refl o k
 
-    loaded : (side : Side) (m : Making) → Turned (loaded_next side m (count side c.roster)) r s → Backs c (Load side m) (untouched c) r s
+    loaded : (side : Side) (m : Making) → Turned (loaded_next side m (count side c.wait_lists)) r s → Backs c (Load side m) (untouched c) r s
     loaded side making.Clone h =
-        let n = count side c.roster in
+        let n = count side c.wait_lists in
         record {
           turn = loaded_next side making.Clone n;
           turned = h;
@@ -110,7 +110,7 @@ module _ {T W : Type 0} where
           queue = refl;
         }
     loaded side making.Upgrade h =
-        let n = count side c.roster in
+        let n = count side c.wait_lists in
         record {
           turn = loaded_next side making.Upgrade n;
           turned = h;
@@ -128,9 +128,9 @@ module _ {T W : Type 0} where
     raised_queue true side n = refl
     raised_queue false side n = refl
 
-    raised : (side : Side) (n : ℕ) (m : Making) → Turned (raised_next side m (is_raised side n c.roster)) r s → Backs c (Raise side n m) (raises side n c) r s
+    raised : (side : Side) (n : ℕ) (m : Making) → Turned (raised_next side m (is_raised side n c.wait_lists)) r s → Backs c (Raise side n m) (raises side n c) r s
     raised side n m h =
-        let b = is_raised side n c.roster in
+        let b = is_raised side n c.wait_lists in
         record {
           turn = raised_next side m b;
           turned = h;
@@ -151,6 +151,6 @@ module _ {T W : Type 0} where
   work_backs c (Leave x) e r s h = at_effect c _ e _ r s h.0 (left c r s x h.1)
   work_backs c (Lower side key) e r s h = at_effect c _ e _ r s h.0 (lowered c r s side key h.1)
   work_backs c (Count side) e r s h =
-      at_effect c _ e _ r s h.0 (record { turn = Ends (reply.Count (count side c.roster)) nothing_kept; turned = h.1; back = λ o k. k; queue = refl })
+      at_effect c _ e _ r s h.0 (record { turn = Ends (reply.Count (count side c.wait_lists)) nothing_kept; turned = h.1; back = λ o k. k; queue = refl })
   work_backs c (Load side m) e r s h = at_effect c _ e _ r s h.0 (loaded c r s side m h.1)
   work_backs c (Raise side n m) e r s h = at_effect c _ e _ r s h.0 (raised c r s side n m h.1)

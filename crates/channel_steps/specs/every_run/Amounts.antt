@@ -4,7 +4,7 @@ use Rattle.concurrent_queue.specs.Queue.{Phase, Stage, trying}
 use Rattle.event_listener.specs.declared.key.Key.{Key}
 use Rattle.channel_calls.specs.Moves.{Channel}
 use Rattle.channel_calls.specs.declared.ask.ChannelAsk.{ChannelAsk}
-use Rattle.channel_calls.specs.declared.stage.Purpose.TheVariants as aim
+use Rattle.channel_calls.specs.declared.stage.Purpose.TheVariants as purpose
 use Rattle.channel_calls.specs.declared.stage.WaitList.{WaitList}
 use Rattle.channel_calls.specs.declared.stage.Stage as stage
 use Rattle.channel_calls.specs.declared.stage.Stage.TheVariants.{Trying, Working}
@@ -22,7 +22,7 @@ module _ {T : Type 0} where
 module _ {T W : Type 0} where
   -- 1 for a poll that tries with no listener in hand: it has none yet, or its listener was told and is used up
   abbrev pub is_trying_anew : stage.Stage (Phase T) T W → ℕ
-  is_trying_anew (Trying f (aim.Poll line None task)) = is_trying f.stage
+  is_trying_anew (Trying f (purpose.Poll line None task)) = is_trying f.stage
   is_trying_anew at = 0
 
   -- what these calls count for together, where each counts for so much by what it asks and how far it has come
@@ -32,7 +32,7 @@ module _ {T W : Type 0} where
 
   -- the poll that listens on this list under this key tries again, or it has its answer and leaves the list at its end
   abbrev pub HoldsListener : WaitList → Key → stage.Stage (Phase T) T W → Type 0
-  HoldsListener line key (Trying f (aim.Poll at (Some k) task)) = (at ≡ line) × (k ≡ key)
+  HoldsListener line key (Trying f (purpose.Poll at (Some k) task)) = (at ≡ line) × (k ≡ key)
   HoldsListener line key (Working (TellReceive x)) = x.held ≡ Some (record { line = line; key = key })
   HoldsListener line key (Working (TellStreams x)) = x.held ≡ Some (record { line = line; key = key })
   HoldsListener line key (Working (TellSend x)) = x.held ≡ Some (record { line = line; key = key })

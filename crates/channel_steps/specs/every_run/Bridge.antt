@@ -20,9 +20,10 @@ use Rattle.event_listener.specs.Notices.{Woken}
 use Rattle.channel_calls.specs.Asks.{first, kept_by}
 use Rattle.channel_calls.specs.Deeds.{Deed, stepped, Done}
 use Rattle.channel_calls.specs.Effects.{Does}
-use Rattle.channel_calls.specs.Parts.{Parts, new_roster}
+use Rattle.channel_calls.specs.Parts.{Parts, new_wait_lists}
 use Rattle.channel_calls.specs.Walks as walks
 use Rattle.channel_calls.specs.Walks.{Takes, ChannelMakes, WalkedFrom}
+use Rattle.channel_calls.specs.declared.whole.Completed.{Completed}
 use Rattle.channel_calls.specs.declared.ask.ChannelAsk.{ChannelAsk}
 use Rattle.channel_calls.specs.declared.mark.Mark.{Mark}
 use Rattle.channel_calls.specs.declared.reply.Reply.{Reply}
@@ -39,7 +40,7 @@ use Rattle.channel_steps.specs.declared.run.Step.TheVariants as step
 -- none; a section on a list or an operation on a count, with its answer; or nothing
 pub data Act (T W : Type 0) : Type 0 where
   on_queue : Option (cell.Deed T) → Act T W
-  on_roster : Deed T W → Act T W
+  on_wait_lists : Deed T W → Act T W
   on_nothing : Act T W
 
 -- a party begins a call, or its call makes a step
@@ -52,11 +53,6 @@ pub record Happening (T W : Type 0) : Type 0 where
   pub party : ℕ
   pub event : Event T W
 
--- what a call answers, and what it leaves to its operation
-pub record Given (T : Type 0) : Type 0 where
-  pub reply : Reply T
-  pub kept : Returned T
-
 -- a moment: what the cells hold, the parties with their calls under way, the channel with these calls, and the sink of whom was woken
 pub record MergeMoment (T W S : Type 0) : Type 0 where
   pub parts : Parts T W
@@ -65,7 +61,7 @@ pub record MergeMoment (T W S : Type 0) : Type 0 where
   pub sink : S
 
 module _ {T : Type 0} where
-  abbrev pub given_by : Option (Reply T) → Option (Returned T) → List (Given T)
+  abbrev pub given_by : Option (Reply T) → Option (Returned T) → List (Completed T)
   given_by (Some r) (Some kept) = record { reply = r; kept = kept } ∷ []
   given_by _ _ = []
 
@@ -76,17 +72,17 @@ module _ {T W : Type 0} where
   abbrev pub Notes : QueueForm → Deed T W → Act T W → Act T W → Type 0
   Notes form (stepped call next answer) before after =
       (o : Option (cell.Deed T)) × CallMakes queue.Notes form None call o next answer × (after ≡ on_queue o)
-  Notes form d before after = after ≡ on_roster d
+  Notes form d before after = after ≡ on_wait_lists d
 
   -- these are the events of a party whose call stands at this stage, or that has none, and what it is given: calls one after
   -- another, each step of which is its machine's, and the last of which may not have answered yet
-  abbrev pub Acts : QueueForm → Option (Stage (QueueCall T) T W) → List (Event T W) → List (Given T) → Type 0
+  abbrev pub Acts : QueueForm → Option (Stage (QueueCall T) T W) → List (Event T W) → List (Completed T) → Type 0
   Acts form at [] given = given ≡ []
   Acts form None (begins ask ∷ xs) given = (at : Stage (QueueCall T) T W) × Takes (first ask) at None × Acts form (Some at) xs given
   Acts form (Some at) (does o ∷ xs) given =
       (m : Mark) × (next : Stage (QueueCall T) T W) × (answer : Option (Reply T)) × ChannelMakes (Notes form) at on_nothing o m next answer
       × MatchOption answer (Acts form (Some next) xs given)
-      (λ r. (more : List (Given T)) × (given ≡ record { reply = r; kept = kept_by next } ∷ more) × Acts form None xs more)
+      (λ r. (more : List (Completed T)) × (given ≡ record { reply = r; kept = kept_by next } ∷ more) × Acts form None xs more)
   Acts form at xs given = ⊥
 
   -- the events of one party, in their order
@@ -105,13 +101,13 @@ module _ {T W : Type 0} where
   steps_of (x ∷ xs) = step_of x.party x.event ∷ steps_of xs
 
   -- what a party was given in a run of these steps
-  abbrev pub given_to : ℕ → List (Happening T W) → List (Entry T) → List (Given T)
+  abbrev pub given_to : ℕ → List (Happening T W) → List (Entry T) → List (Completed T)
   given_to p (x ∷ xs) (e ∷ es) = if x.party == p then given_by e.reply e.kept ++ given_to p xs es else given_to p xs es
   given_to p _ _ = []
 
   -- a channel that was just opened
   abbrev pub opened_parts : QueueForm → Parts T W
-  opened_parts form = record { cells = new_cells form; roster = new_roster }
+  opened_parts form = record { cells = new_cells form; wait_lists = new_wait_lists }
 
   -- with nobody at work
   abbrev pub just_opened : {S : Type 0} → QueueForm → S → MergeMoment T W S
@@ -121,8 +117,8 @@ module _ {T W : Type 0} where
     -- ---- what is asked of the cells, and of the sink that is given whom a step wakes
 
     abbrev pub Changes : Event T W → Parts T W × S → Parts T W × S → Type 0
-    Changes (does (on_queue (Some d))) c e = cell_effect.Does d c.0.cells e.0.cells × (e.0.roster ≡ c.0.roster) × (e.1 ≡ c.1)
-    Changes (does (on_roster d)) c e = Done Does wakes d c e
+    Changes (does (on_queue (Some d))) c e = cell_effect.Does d c.0.cells e.0.cells × (e.0.wait_lists ≡ c.0.wait_lists) × (e.1 ≡ c.1)
+    Changes (does (on_wait_lists d)) c e = Done Does wakes d c e
     Changes _ c e = e ≡ c
 
     -- the events of all, one after another, each with the answer that the cells gave
@@ -140,7 +136,7 @@ module _ {T W : Type 0} where
 
     -- a run from a channel that was opened over a queue of this form, with nobody at work, made just these steps, gave each party
     -- this, and left these cells and this sink
-    pub record IsRunOf (form : QueueForm) (events : List (Happening T W)) (given : ℕ → List (Given T)) (sink : S) (last : Parts T W) (woken : S) : Type 0 where
+    pub record IsRunOf (form : QueueForm) (events : List (Happening T W)) (given : ℕ → List (Completed T)) (sink : S) (last : Parts T W) (woken : S) : Type 0 where
       pub trace : List (Entry T)
       pub parties : List (Party T W)
       pub configuration : Configuration T W
@@ -158,7 +154,7 @@ LastsFor n form = (capacity_of form ≡ Some 1) ⊎ (n < 2 ^ 61)
 -- whatever parties do to a new channel, each by the machine and all in one order, is a run, as long as its positions last
 abbrev pub MergesAreRuns : (T W S : Type 0) → (S → W → S → Type 0) → Type 0
 MergesAreRuns T W S wakes =
-    (form : QueueForm) (events : List (Happening T W)) (given : ℕ → List (Given T)) (sink : S) (last : Parts T W) (woken : S)
+    (form : QueueForm) (events : List (Happening T W)) (given : ℕ → List (Completed T)) (sink : S) (last : Parts T W) (woken : S)
     → HasCells form → LastsFor (length events) form → ((p : ℕ) → Acts form None (own p events) (given p))
     → InOneOrder wakes events (opened_parts form, sink) (last, woken) → IsRunOf wakes form events given sink last woken
 
@@ -183,7 +179,7 @@ module _ {T W X : Type 0} (did : Deed T W → X → X → Type 0) (cells_did : c
   Along [] s t = t ≡ s
   Along (on_queue (Some d) ∷ os) s t = (m : X) × cells_did d s m × Along os m t
   Along (on_queue None ∷ os) s t = Along os s t
-  Along (on_roster d ∷ os) s t = (m : X) × did d s m × Along os m t
+  Along (on_wait_lists d ∷ os) s t = (m : X) × did d s m × Along os m t
   Along (on_nothing ∷ os) s t = Along os s t
 
   -- a call that was walked to its answer has done steps that are its party's next events, whatever the party does then
@@ -191,7 +187,7 @@ module _ {T W X : Type 0} (did : Deed T W → X → X → Type 0) (cells_did : c
   WalksAct =
       (form : QueueForm) (ask : ChannelAsk T W) (s t : X) (r : Reply T) (kept : Returned T) → QueueIsWalked form → WalkedFrom did (first ask) s r kept t
       → (os : List (Act T W)) × Along os s t
-      × ((xs : List (Event T W)) (more : List (Given T)) → Acts form None xs more → Acts form None (begins ask ∷ map does os ++ xs) (record { reply = r; kept = kept } ∷ more))
+      × ((xs : List (Event T W)) (more : List (Completed T)) → Acts form None xs more → Acts form None (begins ask ∷ map does os ++ xs) (record { reply = r; kept = kept } ∷ more))
 
   -- and so has one that was walked to some stage and makes no more steps: its party's last events
   abbrev pub StandsAct : Type 0

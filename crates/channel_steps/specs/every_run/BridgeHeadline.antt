@@ -19,7 +19,8 @@ use Rattle.channel_steps.specs.declared.party.Entry.{Entry}
 use Rattle.channel_steps.specs.declared.run.Step.{Step}
 use Rattle.channel_steps.specs.declared.run.Step.TheVariants as step
 use Rattle.channel_steps.specs.every_run.Bounds.{IsWithinBound}
-use Rattle.channel_steps.specs.every_run.Bridge.{MergeMoment, just_opened, Happening, Given, Acts, own, steps_of, opened_parts, InOneOrder, IsRunOf, LastsFor}
+use Rattle.channel_calls.specs.declared.whole.Completed.{Completed}
+use Rattle.channel_steps.specs.every_run.Bridge.{MergeMoment, just_opened, Happening, Acts, own, steps_of, opened_parts, InOneOrder, IsRunOf, LastsFor}
 use Rattle.channel_steps.specs.every_run.BridgeEnd.{NoMessageAfter}
 use Rattle.channel_steps.specs.every_run.BridgeMoments.{FewStepsLeft, MergeEndsInARow, left_to}
 use Rattle.channel_steps.specs.every_run.Closings.{PendingIsOwedTheClosing}
@@ -134,7 +135,7 @@ module _ {T W S : Type 0} (wakes : S → W → S → Type 0) where
   -- ---- a run
 
   -- What these events are is a run; and each of its moments and of its steps says what the headline says.
-  pub record KeepsTheHeadline (form : QueueForm) (events : List (Happening T W)) (given : ℕ → List (Given T)) (sink : S) (last : Parts T W) (woken : S) : Type 0 where
+  pub record KeepsTheHeadline (form : QueueForm) (events : List (Happening T W)) (given : ℕ → List (Completed T)) (sink : S) (last : Parts T W) (woken : S) : Type 0 where
     pub is : IsRunOf wakes form events given sink last woken
     -- what is said of a moment is said of the first one; and what is said of a step, and of the moment after it, of each step
     pub at_first : MergeMomentSays (just_opened {T = T} {W = W} form sink)
@@ -148,6 +149,6 @@ module _ {T W S : Type 0} (wakes : S → W → S → Type 0) where
 -- whatever parties do to a new channel, each by the machine and all in one order, as long as its positions last
 abbrev pub MergesKeepTheHeadline : (T W S : Type 0) → (S → W → S → Type 0) → Type 0
 MergesKeepTheHeadline T W S wakes =
-    (form : QueueForm) (events : List (Happening T W)) (given : ℕ → List (Given T)) (sink : S) (last : Parts T W) (woken : S)
+    (form : QueueForm) (events : List (Happening T W)) (given : ℕ → List (Completed T)) (sink : S) (last : Parts T W) (woken : S)
     → HasCells form → LastsFor (length events) form → ((p : ℕ) → Acts form None (own p events) (given p))
     → InOneOrder wakes events (opened_parts form, sink) (last, woken) → KeepsTheHeadline wakes form events given sink last woken

@@ -73,7 +73,7 @@ module _ {T : Type 0} where
 
 module _ {T W : Type 0} where
   abbrev pub IsInState : Stage (QueueCall T) T W → (CallState T → Type 0) → Type 0
-  IsInState (Trying call aim) P = P call.state
+  IsInState (Trying call purpose) P = P call.state
   IsInState stage P = ⊥
 
   -- the call of the queue of one of these calls is so

@@ -24,7 +24,7 @@ module _ {T : Type 0} where
 module _ {T W : Type 0} where
   -- a sending call that took the oldest message out to make room, and is to bring its own in
   abbrev pub HasMadeRoom : Stage (Phase T) T W → Type 0
-  HasMadeRoom (Trying f aim) = is_displaced f.stage ≡ true
+  HasMadeRoom (Trying f purpose) = is_displaced f.stage ≡ true
   HasMadeRoom at = ⊥
 
   -- what a step of a call at this stage may do to a closed channel: take a message, or bring in the one on its way

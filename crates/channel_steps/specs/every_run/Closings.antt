@@ -3,7 +3,7 @@ use Rattle.std.specs.Prelude.{◌≡◌, ℕ, ◌≤◌, false, List, ◌∷◌,
 use Rattle.concurrent_queue.specs.Queue.{Phase, Stage, trying, taken}
 use Rattle.event_listener.specs.declared.key.Key.{Key}
 use Rattle.channel_calls.specs.declared.mark.Mark.TheVariants.{Close}
-use Rattle.channel_calls.specs.declared.stage.Purpose.TheVariants as aim
+use Rattle.channel_calls.specs.declared.stage.Purpose.TheVariants as purpose
 use Rattle.channel_calls.specs.declared.stage.WaitList.{WaitList}
 use Rattle.channel_calls.specs.declared.stage.WaitList.TheVariants.{Sends, Receives, Streams, Closings}
 use Rattle.channel_calls.specs.declared.stage.Stage as stage
@@ -49,7 +49,7 @@ module _ {T W : Type 0} where
   -- the poll that listens on this list under this key tries again and has found no cause to wait, or it has its answer and
   -- leaves the list next
   abbrev pub LooksAgain : WaitList → Key → stage.Stage (Phase T) T W → Type 0
-  LooksAgain line key (Trying f (aim.Poll at (Some k) task)) = (at ≡ line) × (k ≡ key) × HasNoCauseToWait f.stage
+  LooksAgain line key (Trying f (purpose.Poll at (Some k) task)) = (at ≡ line) × (k ≡ key) × HasNoCauseToWait f.stage
   LooksAgain line key (Working (TellSend x)) = x.held ≡ Some (record { line = line; key = key })
   LooksAgain line key (Working (Leave x)) = x.held ≡ Some (record { line = line; key = key })
   LooksAgain line key at = ⊥

@@ -13,8 +13,8 @@ module _ {T W : Type 0} where
     messages = c.queue.items;
     capacity = c.queue.capacity;
     closed = c.queue.closed;
-    senders = c.roster.senders;
-    receivers = c.roster.receivers;
+    senders = c.wait_lists.senders;
+    receivers = c.wait_lists.receivers;
   }
 
 module _ {T : Type 0} where

@@ -12,7 +12,8 @@ use Rattle.channel_calls.specs.declared.stage.Returned.{Returned}
 use Rattle.channel_calls.specs.declared.stage.NextStep.{NextStep}
 use Rattle.channel_steps.specs.declared.run.Step.{Step}
 use Rattle.channel_steps.specs.declared.run.Step.TheVariants as step
-use Rattle.channel_steps.specs.every_run.Bridge.{Event, begins, does, Happening, Given, Acts, own, steps_of, opened_parts, InOneOrder, LastsFor}
+use Rattle.channel_calls.specs.declared.whole.Completed.{Completed}
+use Rattle.channel_steps.specs.every_run.Bridge.{Event, begins, does, Happening, Acts, own, steps_of, opened_parts, InOneOrder, LastsFor}
 use Rattle.channel_steps.specs.every_run.BridgeHeadline.{KeepsTheHeadline}
 use Rattle.channel_steps.specs.every_run.Tasks.{deed_by, turn_by, parts_by, ask_by, all_by}
 
@@ -63,13 +64,13 @@ module _ {T W : Type 0} where
 -- for the tasks of all calls.
 abbrev pub MergesHaveAnyTasks : {W V : Type 0} → (W → V) → (T S : Type 0) → (S → W → S → Type 0) → Type 0
 MergesHaveAnyTasks {W} {V} put T S wakes =
-    (form : QueueForm) (events : List (Happening T W)) (given : ℕ → List (Given T)) (sink : S) (last : Parts T W) (woken : S)
+    (form : QueueForm) (events : List (Happening T W)) (given : ℕ → List (Completed T)) (sink : S) (last : Parts T W) (woken : S)
     → ((p : ℕ) → Acts form None (own p events) (given p)) → InOneOrder wakes events (opened_parts form, sink) (last, woken)
     → ((p : ℕ) → Acts form None (own p (all_by put events)) (given p))
     × InOneOrder (WakesSo put wakes) (all_by put events) (opened_parts form, sink) (parts_by put last, woken)
 
 -- A merge in which the calls ask just this, and which is the given one where these are put for their tasks.
-pub record IsBehind {T W V S : Type 0} (put : W → V) (wakes : S → V → S → Type 0) (form : QueueForm) (events : List (Happening T V)) (given : ℕ → List (Given T))
+pub record IsBehind {T W V S : Type 0} (put : W → V) (wakes : S → V → S → Type 0) (form : QueueForm) (events : List (Happening T V)) (given : ℕ → List (Completed T))
     (sink : S) (last : Parts T V) (woken : S) (asks : List (ChannelAsk T W)) : Type 0 where
   pub behind : List (Happening T W)
   pub events_are : all_by put behind ≡ events
@@ -83,7 +84,7 @@ pub record IsBehind {T W V S : Type 0} (put : W → V) (wakes : S → V → S �
 -- have had two: so there is such a merge behind it for whatever the calls asked then.
 abbrev pub TasksMayTellMore : {W V : Type 0} → (W → V) → (T S : Type 0) → (S → V → S → Type 0) → Type 0
 TasksMayTellMore {W} {V} put T S wakes =
-    (form : QueueForm) (events : List (Happening T V)) (given : ℕ → List (Given T)) (sink : S) (last : Parts T V) (woken : S) (asks : List (ChannelAsk T W))
+    (form : QueueForm) (events : List (Happening T V)) (given : ℕ → List (Completed T)) (sink : S) (last : Parts T V) (woken : S) (asks : List (ChannelAsk T W))
     → ((p : ℕ) → Acts form None (own p events) (given p)) → InOneOrder wakes events (opened_parts form, sink) (last, woken)
     → map (λ a. ask_by put a) asks ≡ asks_of events → IsBehind put wakes form events given sink last woken asks
 
@@ -103,7 +104,7 @@ module _ {W V : Type 0} where
 
 -- The merge in which the task of each call has the name beside it that this call was given. With the names alone for tasks it keeps the
 -- headline; and each party was given what it was given.
-pub record KeepsItByNames {T W V S : Type 0} (wakes : S → W → S → Type 0) (form : QueueForm) (events : List (Happening T W)) (given : ℕ → List (Given T))
+pub record KeepsItByNames {T W V S : Type 0} (wakes : S → W → S → Type 0) (form : QueueForm) (events : List (Happening T W)) (given : ℕ → List (Completed T))
     (sink : S) (last : Parts T W) (woken : S) (named : List (ChannelAsk T (W × V))) : Type 0 where
   pub both : IsBehind task_of wakes form events given sink last woken named
   pub headline : KeepsTheHeadline (WakesNamed wakes) form (all_by name_of both.behind) given sink (parts_by name_of both.parts) woken
@@ -113,7 +114,7 @@ pub record KeepsItByNames {T W V S : Type 0} (wakes : S → W → S → Type 0) 
 -- whatever parties do to a new channel, with tasks of any kind, and whichever name each call is given beside its task
 abbrev pub NamedMergesKeepTheHeadline : (T W V S : Type 0) → (S → W → S → Type 0) → Type 0
 NamedMergesKeepTheHeadline T W V S wakes =
-    (form : QueueForm) (events : List (Happening T W)) (given : ℕ → List (Given T)) (sink : S) (last : Parts T W) (woken : S) (named : List (ChannelAsk T (W × V)))
+    (form : QueueForm) (events : List (Happening T W)) (given : ℕ → List (Completed T)) (sink : S) (last : Parts T W) (woken : S) (named : List (ChannelAsk T (W × V)))
     → HasCells form → LastsFor (length events) form → ((p : ℕ) → Acts form None (own p events) (given p))
     → InOneOrder wakes events (opened_parts form, sink) (last, woken) → map (λ a. ask_by task_of a) named ≡ asks_of events
     → KeepsItByNames wakes form events given sink last woken named

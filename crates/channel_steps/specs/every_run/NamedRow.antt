@@ -9,13 +9,14 @@ use Rattle.event_listener.specs.Lists.{Notice}
 use Rattle.event_listener.specs.declared.key.Key.{Key}
 use Rattle.futures.specs.declared.task.Poll.TheVariants.{Pending}
 use Rattle.channel_calls.specs.Deeds.{inserted, registered, all_told}
-use Rattle.channel_calls.specs.Parts.{Parts, Listeners, new_roster, with_listeners}
+use Rattle.channel_calls.specs.Parts.{Parts, Listeners, new_wait_lists, with_listeners}
 use Rattle.channel_calls.specs.Turns.{leaving, nothing_kept}
 use Rattle.channel_calls.specs.declared.ask.ChannelAsk.{ChannelAsk}
 use Rattle.channel_calls.specs.declared.ask.ChannelAsk.TheVariants.{PollClosed, Close}
 use Rattle.channel_calls.specs.declared.reply.Reply.TheVariants.{ClosedPoll, Closed}
 use Rattle.channel_calls.specs.declared.stage.WaitList.TheVariants.{Sends, Receives, Streams, Closings}
-use Rattle.channel_steps.specs.every_run.Bridge.{begins, does, on_queue, on_roster, Happening, Given, Acts, own, opened_parts, InOneOrder, LastsFor}
+use Rattle.channel_calls.specs.declared.whole.Completed.{Completed}
+use Rattle.channel_steps.specs.every_run.Bridge.{begins, does, on_queue, on_wait_lists, Happening, Acts, own, opened_parts, InOneOrder, LastsFor}
 use Rattle.channel_steps.specs.every_run.Named.{IsBehind, task_of}
 
 abbrev pub first_key : Key
@@ -37,9 +38,9 @@ module _ {T W : Type 0} where
   waits_once p key task =
       record { party = p; event = begins (PollClosed None task) }
       ∷ record { party = p; event = does (on_queue (Some (loaded State 0))) }
-      ∷ record { party = p; event = does (on_roster (inserted Closings (Ok key))) }
+      ∷ record { party = p; event = does (on_wait_lists (inserted Closings (Ok key))) }
       ∷ record { party = p; event = does (on_queue (Some (loaded State 0))) }
-      ∷ record { party = p; event = does (on_roster (registered Closings key task None)) }
+      ∷ record { party = p; event = does (on_wait_lists (registered Closings key task None)) }
       ∷ []
 
   -- the closing, which wakes these
@@ -47,10 +48,10 @@ module _ {T W : Type 0} where
   one_close p woken =
       record { party = p; event = begins Close }
       ∷ record { party = p; event = does (on_queue (Some (bits_set State 4 0))) }
-      ∷ record { party = p; event = does (on_roster (all_told Sends [])) }
-      ∷ record { party = p; event = does (on_roster (all_told Receives [])) }
-      ∷ record { party = p; event = does (on_roster (all_told Streams [])) }
-      ∷ record { party = p; event = does (on_roster (all_told Closings woken)) }
+      ∷ record { party = p; event = does (on_wait_lists (all_told Sends [])) }
+      ∷ record { party = p; event = does (on_wait_lists (all_told Receives [])) }
+      ∷ record { party = p; event = does (on_wait_lists (all_told Streams [])) }
+      ∷ record { party = p; event = does (on_wait_lists (all_told Closings woken)) }
       ∷ []
 
   abbrev pub two_are_told : W → W → List (Happening T W)
@@ -64,16 +65,16 @@ module _ {T W : Type 0} where
   abbrev pub parts_of_two : Parts T W
   parts_of_two =
       let new : Parts T W = opened_parts (Bounded 1) in
-      record { cells = set_state new.cells 4; roster = with_listeners Closings both_told new_roster }
+      record { cells = set_state new.cells 4; wait_lists = with_listeners Closings both_told new_wait_lists }
 
 module _ {T : Type 0} where
-  abbrev pub pends_on : Key → List (Given T)
+  abbrev pub pends_on : Key → List (Completed T)
   pends_on key = record { reply = ClosedPoll Pending; kept = leaving (Some key) None } ∷ []
 
-  abbrev pub has_closed : List (Given T)
+  abbrev pub has_closed : List (Completed T)
   has_closed = record { reply = Closed true; kept = nothing_kept } ∷ []
 
-  abbrev pub given_to_three : ℕ → List (Given T)
+  abbrev pub given_to_three : ℕ → List (Completed T)
   given_to_three p = if 1 == p then pends_on first_key else (if 2 == p then pends_on second_key else (if 3 == p then has_closed else []))
 
 -- it is a merge as `MergesAreRuns` asks it, whether the tasks are one or two

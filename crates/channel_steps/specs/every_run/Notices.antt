@@ -42,7 +42,7 @@ AnyTold additional (w ∷ ws) = (w.1.additional ≡ additional) ⊎ AnyTold addi
 module _ {T W : Type 0} where
   -- those of a list that were told
   abbrev pub told_of : WaitList → Channel T W → List (Key × Notice Unit)
-  told_of line c = (listeners line c.roster).told
+  told_of line c = (listeners line c.wait_lists).told
 
   -- how those who are told now were told
   pub record TellingsFit (s : Configuration T W) : Type 0 where

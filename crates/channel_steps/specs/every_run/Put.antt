@@ -50,5 +50,5 @@ module _ {T : Type 0} where
 module _ {T W : Type 0} where
   -- by the stage of a call of the channel: that of its call of the queue, while the queue has its next step
   unfoldable pub yet_to_put : QueueForm → Stage (QueueCall T) T W → Option (Slot × T)
-  yet_to_put form (Trying call aim) = puts_by form call.state
+  yet_to_put form (Trying call purpose) = puts_by form call.state
   yet_to_put form stage = None

@@ -23,7 +23,7 @@ module _ {T : Type 0} where
 module _ {T W : Type 0} where
   -- 1 for a call whose message is in and that has not told a receive yet
   abbrev pub is_to_tell_receive : stage.Stage (Phase T) T W → ℕ
-  is_to_tell_receive (Trying f aim) = has_appended f.stage
+  is_to_tell_receive (Trying f purpose) = has_appended f.stage
   is_to_tell_receive (Working (TellReceive x)) = 1
   is_to_tell_receive at = 0
 

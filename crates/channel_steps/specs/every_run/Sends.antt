@@ -4,7 +4,7 @@ use Rattle.concurrent_queue.specs.Queue.{Phase, Stage, displaced, taken}
 use Rattle.channel_calls.specs.Moves.{Channel}
 use Rattle.channel_calls.specs.declared.ask.ChannelAsk.{ChannelAsk}
 use Rattle.channel_calls.specs.declared.ask.ChannelAsk.TheVariants.{ForceSend, TryRecv, RecvMany, PollSend, PollRecv, PollNext}
-use Rattle.channel_calls.specs.declared.stage.Purpose.TheVariants as aim
+use Rattle.channel_calls.specs.declared.stage.Purpose.TheVariants as purpose
 use Rattle.channel_calls.specs.declared.stage.WaitList.TheVariants.{Sends}
 use Rattle.channel_calls.specs.declared.stage.Stage as stage
 use Rattle.channel_calls.specs.declared.stage.Stage.TheVariants.{Trying, Working}
@@ -34,7 +34,7 @@ HasPlaces (Some cap) n = cap ≤ n
 module _ {T W : Type 0} where
   -- how many messages a call has taken for which it has not told a send yet
   abbrev pub is_to_tell_send : stage.Stage (Phase T) T W → ℕ
-  is_to_tell_send (Trying f (aim.RecvMany g)) = length g.taken + has_taken f.stage
+  is_to_tell_send (Trying f (purpose.RecvMany g)) = length g.taken + has_taken f.stage
   is_to_tell_send (Trying f a) = has_taken f.stage
   is_to_tell_send (Working (TellSend x)) = 1
   is_to_tell_send (Working (TellSends n x)) = n
@@ -42,7 +42,7 @@ module _ {T W : Type 0} where
 
   -- 1 for a displacing send that made room and has not brought its message yet
   abbrev pub is_on_its_way : stage.Stage (Phase T) T W → ℕ
-  is_on_its_way (Trying f aim) = has_displaced f.stage
+  is_on_its_way (Trying f purpose) = has_displaced f.stage
   is_on_its_way at = 0
 
   -- what a call under way counts for beside the messages and the told sends: a receiving one for each send that it is to tell,

@@ -4,7 +4,7 @@ use Rattle.concurrent_queue.specs.Queue.{Phase, Stage, appended}
 use Rattle.event_listener.specs.declared.key.Key.{Key}
 use Rattle.channel_calls.specs.declared.ask.ChannelAsk.{ChannelAsk}
 use Rattle.channel_calls.specs.declared.ask.ChannelAsk.TheVariants.{TrySend, ForceSend, PollSend}
-use Rattle.channel_calls.specs.declared.stage.Purpose.TheVariants as aim
+use Rattle.channel_calls.specs.declared.stage.Purpose.TheVariants as purpose
 use Rattle.channel_calls.specs.declared.stage.WaitList.TheVariants.{Streams}
 use Rattle.channel_calls.specs.declared.stage.Stage as stage
 use Rattle.channel_calls.specs.declared.stage.Stage.TheVariants.{Trying, Working}
@@ -38,7 +38,7 @@ module _ {T W : Type 0} where
 
   -- the poll of a stream that listens under this key and is about to try again, or has its answer and drops the listener next
   abbrev pub HasInHand : Key → stage.Stage (Phase T) T W → Type 0
-  HasInHand key (Trying f (aim.Poll Streams (Some k) task)) = k ≡ key
+  HasInHand key (Trying f (purpose.Poll Streams (Some k) task)) = k ≡ key
   HasInHand key (Working (TellSend x)) = x.held ≡ Some (record { line = Streams; key = key })
   HasInHand key (Working (Leave x)) = x.held ≡ Some (record { line = Streams; key = key })
   HasInHand key at = ⊥

@@ -8,14 +8,14 @@ use Rattle.channel_calls.specs.Parts.{Parts, Listeners, WaitLists}
 use Rattle.channel_calls.specs.declared.ask.ChannelAsk.{ChannelAsk}
 use Rattle.channel_calls.specs.declared.ask.ChannelAsk.TheVariants as ask
 use Rattle.channel_calls.specs.declared.stage.Purpose.{Purpose}
-use Rattle.channel_calls.specs.declared.stage.Purpose.TheVariants as aim
+use Rattle.channel_calls.specs.declared.stage.Purpose.TheVariants as purpose
 use Rattle.channel_calls.specs.declared.stage.Stage.{Stage}
 use Rattle.channel_calls.specs.declared.stage.Stage.TheVariants.{Trying, Working, Finished}
 use Rattle.channel_calls.specs.declared.stage.NextStep.{NextStep}
 use Rattle.channel_calls.specs.declared.stage.NextStep.TheVariants.{Tries, Works, Ends}
 use Rattle.channel_calls.specs.declared.stage.ListStep.{ListStep}
 use Rattle.channel_calls.specs.declared.stage.ListStep.TheVariants as work
-use Rattle.channel_steps.specs.every_run.Bridge.{Act, on_queue, on_roster, on_nothing, Event, begins, does, Happening}
+use Rattle.channel_steps.specs.every_run.Bridge.{Act, on_queue, on_wait_lists, on_nothing, Event, begins, does, Happening}
 
 -- ---- the cells
 
@@ -27,8 +27,8 @@ module _ {W V : Type 0} (put : W → V) where
   abbrev pub listeners_by : Listeners W → Listeners V
   listeners_by l = record { told = l.told; waiting = map listener_by l.waiting }
 
-  abbrev pub roster_by : WaitLists W → WaitLists V
-  roster_by a =
+  abbrev pub wait_lists_by : WaitLists W → WaitLists V
+  wait_lists_by a =
       record {
         sends = listeners_by a.sends;
         receives = listeners_by a.receives;
@@ -40,7 +40,7 @@ module _ {W V : Type 0} (put : W → V) where
 
 module _ {T W V : Type 0} (put : W → V) where
   abbrev pub parts_by : Parts T W → Parts T V
-  parts_by p = record { cells = p.cells; roster = roster_by put p.roster }
+  parts_by p = record { cells = p.cells; wait_lists = wait_lists_by put p.wait_lists }
 
   -- ---- what is done to them; also those who are told to have been woken are others then
 
@@ -58,7 +58,7 @@ module _ {T W V : Type 0} (put : W → V) where
 
   abbrev pub act_by : Act T W → Act T V
   act_by (on_queue o) = on_queue o
-  act_by (on_roster d) = on_roster (deed_by d)
+  act_by (on_wait_lists d) = on_wait_lists (deed_by d)
   act_by on_nothing = on_nothing
 
   -- ---- calls
@@ -93,15 +93,15 @@ module _ {T W V : Type 0} (put : W → V) where
   ask_by ask.DropWeak = ask.DropWeak
 
   abbrev pub aim_by : Purpose T W → Purpose T V
-  aim_by aim.TrySend = aim.TrySend
-  aim_by aim.ForceSend = aim.ForceSend
-  aim_by aim.TryRecv = aim.TryRecv
-  aim_by (aim.RecvMany g) = aim.RecvMany g
-  aim_by (aim.Poll line key task) = aim.Poll line key (put task)
-  aim_by (aim.Close c) = aim.Close c
-  aim_by aim.Ask = aim.Ask
-  aim_by aim.IsTerminated = aim.IsTerminated
-  aim_by (aim.Upgrade side) = aim.Upgrade side
+  aim_by purpose.TrySend = purpose.TrySend
+  aim_by purpose.ForceSend = purpose.ForceSend
+  aim_by purpose.TryRecv = purpose.TryRecv
+  aim_by (purpose.RecvMany g) = purpose.RecvMany g
+  aim_by (purpose.Poll line key task) = purpose.Poll line key (put task)
+  aim_by (purpose.Close c) = purpose.Close c
+  aim_by purpose.Ask = purpose.Ask
+  aim_by purpose.IsTerminated = purpose.IsTerminated
+  aim_by (purpose.Upgrade side) = purpose.Upgrade side
 
   abbrev pub work_by : ListStep T W → ListStep T V
   work_by (work.TellReceive e) = work.TellReceive e

@@ -8,7 +8,7 @@ use Rattle.channel_steps.specs.every_run.Bounds.{BoundSound}
 module _ {T W : Type 0} where
   -- the list of sends is empty, of the told and of those who wait
   abbrev pub NoSendListens : Channel T W → Type 0
-  NoSendListens c = c.queue.capacity ≡ None → c.roster.sends ≡ nobody_listens
+  NoSendListens c = c.queue.capacity ≡ None → c.wait_lists.sends ≡ nobody_listens
 
   -- with what every run needs to keep it
   pub record SendsUnlisted (s : Configuration T W) : Type 0 where

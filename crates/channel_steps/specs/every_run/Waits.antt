@@ -20,10 +20,10 @@ module _ {W : Type 0} where
 module _ {T W : Type 0} where
   -- this listener waits, on this list
   abbrev pub Waits : WaitList → Key → Channel T W → Type 0
-  Waits line key c = IsIn key (listeners line c.roster).waiting
+  Waits line key c = IsIn key (listeners line c.wait_lists).waiting
 
   abbrev pub WaitApart : WaitList → Channel T W → Type 0
-  WaitApart line c = Apart (listeners line c.roster).waiting
+  WaitApart line c = Apart (listeners line c.wait_lists).waiting
 
   -- at least one of the calls under way
   abbrev pub Any : (ActiveCall T W → Type 0) → List (ActiveCall T W) → Type 0

@@ -18,7 +18,7 @@ use Rattle.channel_steps.specs.every_run.Put.{yet_to_put}
 module _ {T W : Type 0} where
   -- the queue has the next step of a call at this stage
   abbrev pub IsAtQueue : Stage (Phase T) T W → Type 0
-  IsAtQueue (Trying f aim) = Unit {0}
+  IsAtQueue (Trying f purpose) = Unit {0}
   IsAtQueue stage = ⊥
 
   -- one of these marks let a message in

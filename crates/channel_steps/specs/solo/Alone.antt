@@ -142,14 +142,14 @@ module _ {T W : Type 0} where
   -- where a poll finds nothing, a listener comes in and keeps the task, under a key that is not listed; or it is refused
   abbrev pub ListensOrIsRefused : Waiting T → W → Channel T W → Outcome T W → Type 0
   ListensOrIsRefused w task c o =
-      ((key : Key) × (kind_of (listeners (line_of w) c.roster) key ≡ None)
+      ((key : Key) × (kind_of (listeners (line_of w) c.wait_lists) key ≡ None)
       × (o ≡ answers (pending_reply (line_of w)) (leaving (Some key) (message_of w)) (registers (line_of w) key task (listens (line_of w) key c).channel).channel))
       ⊎ ((error : ListenError) × (o ≡ answers (refused_reply (line_of w) error) (leaving None (message_of w)) c))
 
   -- a listener that it holds and that waits keeps the task; one that was told is used up
   abbrev pub RegistersOrGoesOn : Waiting T → Key → W → Channel T W → Outcome T W → (Channel T W → Type 0) → Type 0
   RegistersOrGoesOn w key task c o told =
-      Where (waits key (listeners (line_of w) c.roster))
+      Where (waits key (listeners (line_of w) c.wait_lists))
       (o ≡ answers (pending_reply (line_of w)) (leaving (Some key) (message_of w)) (registers (line_of w) key task c).channel)
       (told (registers (line_of w) key task c).channel)
 
@@ -186,17 +186,17 @@ module _ {T W : Type 0} where
   -- the last handle of its kind closes
   abbrev pub drops : Side → Option Key → Channel T W → Outcome T W
   drops side key c =
-      if count side c.roster == 1 then closes (dropper side key) (lowers side c).channel else ends [] (closer_ending (dropper side key) false) (lowers side c).channel
+      if count side c.wait_lists == 1 then closes (dropper side key) (lowers side c).channel else ends [] (closer_ending (dropper side key) false) (lowers side c).channel
 
   abbrev pub clones : Side → Channel T W → Outcome T W
   clones side c =
-      if nat_lt most (count side c.roster) then answers reply.TooMany nothing_kept c
-      else answers reply.Made nothing_kept (raises side (count side c.roster) c).channel
+      if nat_lt most (count side c.wait_lists) then answers reply.TooMany nothing_kept c
+      else answers reply.Made nothing_kept (raises side (count side c.wait_lists) c).channel
 
   abbrev pub upgrades : Side → Channel T W → Outcome T W
   upgrades side c =
       if c.queue.closed then answers reply.NotMade nothing_kept c
-      else (if count side c.roster == 0 then answers reply.NotMade nothing_kept c else clones side c)
+      else (if count side c.wait_lists == 0 then answers reply.NotMade nothing_kept c else clones side c)
 
   -- ---- every call
 
@@ -227,7 +227,7 @@ module _ {T W : Type 0} where
   Alone (DropReceiver key) c o = o ≡ drops Receivers key c
   Alone (CloneHandle side) c o = o ≡ clones side c
   Alone (Upgrade side) c o = o ≡ upgrades side c
-  Alone (HandleCount side) c o = o ≡ says_only (reply.Count (count side c.roster)) c
+  Alone (HandleCount side) c o = o ≡ says_only (reply.Count (count side c.wait_lists)) c
   Alone IsClosed c o = o ≡ says_only (reply.Flag c.queue.closed) c
   Alone IsEmpty c o = o ≡ says_only (reply.Flag (length c.queue.items == 0)) c
   Alone IsFull c o = o ≡ says_only (reply.Flag (is_filled c.queue)) c

@@ -35,8 +35,8 @@ module _ {T W : Type 0} where
   -- A poll that holds a listener which is on its list. Of a send it is one on a channel with a bound: without one no send waits, and
   -- a message may want a block.
   abbrev pub HasNode : ChannelAsk T W → Parts T W → Type 0
-  HasNode (PollSend m l task) p = IsOnList Sends l.key p.roster × (is_some (capacity_of p.cells.form) ≡ true)
-  HasNode (PollRecv l task) p = IsOnList Receives l.key p.roster
-  HasNode (PollClosed key task) p = IsOnList Closings key p.roster
-  HasNode (PollNext key task) p = IsOnList Streams key p.roster
+  HasNode (PollSend m l task) p = IsOnList Sends l.key p.wait_lists × (is_some (capacity_of p.cells.form) ≡ true)
+  HasNode (PollRecv l task) p = IsOnList Receives l.key p.wait_lists
+  HasNode (PollClosed key task) p = IsOnList Closings key p.wait_lists
+  HasNode (PollNext key task) p = IsOnList Streams key p.wait_lists
   HasNode _ p = ⊥

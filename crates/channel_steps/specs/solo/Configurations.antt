@@ -13,7 +13,7 @@ use Rattle.channel_steps.specs.Run.{EachStep, IsRun, NextConfiguration, Begins}
 use Rattle.channel_steps.specs.Configuration.{Configuration, Represents}
 use Rattle.channel_steps.specs.solo.Alone.{Outcome, Alone}
 use Rattle.channel_steps.specs.solo.Run.{HasNextPosition}
-use Rattle.channel_steps.specs.declared.alone.Done.{Done}
+use Rattle.channel_calls.specs.declared.whole.Completed.{Completed}
 
 module _ {T : Type 0} where
   -- the last of these answers this and leaves this, and no other answers
@@ -45,7 +45,7 @@ module _ {T W : Type 0} where
   module _ {S : Type 0} (wakes : S → W → S → Type 0) where
     -- What a call of the party p left that was made alone in the configuration s: what a lone call leaves there, by steps that lead
     -- from configuration to configuration; and where the messages of s were counted, those of the configuration after it are.
-    pub record RanInConfigurations (ask : ChannelAsk T W) (sink : S) (messages : ℕ) (done : Done T)
+    pub record RanInConfigurations (ask : ChannelAsk T W) (sink : S) (messages : ℕ) (done : Completed T)
         (parts' : Parts T W) (sink' : S) (messages' : ℕ) (s : Configuration T W) (p : ℕ) : Type 0 where
       pub outcome : Outcome T W
       pub after : Configuration T W
@@ -61,7 +61,7 @@ module _ {T W : Type 0} where
       pub counted : messages ≡ length s.now.queue.items → messages' ≡ length after.now.queue.items
 
     -- in every configuration with nobody at work that the cells show, whatever party the call is said to be of
-    abbrev pub RunsInConfigurations : ChannelAsk T W → Parts T W → S → ℕ → Done T → Parts T W → S → ℕ → Type 0
+    abbrev pub RunsInConfigurations : ChannelAsk T W → Parts T W → S → ℕ → Completed T → Parts T W → S → ℕ → Type 0
     RunsInConfigurations ask parts sink messages done parts' sink' messages' =
         (s : Configuration T W) (p : ℕ) → HasNextPosition s.now.queue → Represents parts [] s
         → RanInConfigurations ask sink messages done parts' sink' messages' s p

@@ -173,9 +173,9 @@ module _ {T : Type 0} (held : KeysHeld) (c : Channel T Waiter) (s : State T) (h 
   every (call.Capacity handle) ok does =
       only_answers held c s h (call.Capacity handle) (reply.Cap c.queue.capacity) o refl (inl (ap (λ (cap : Option ℕ). replying s (reply.Cap cap)) h.capacity)) refl does
   every (call.SenderCount handle) ok does =
-      only_answers held c s h (call.SenderCount handle) (reply.Count c.roster.senders) o refl (inl (ap (λ (n : ℕ). replying s (reply.Count n)) h.senders)) refl does
+      only_answers held c s h (call.SenderCount handle) (reply.Count c.wait_lists.senders) o refl (inl (ap (λ (n : ℕ). replying s (reply.Count n)) h.senders)) refl does
   every (call.ReceiverCount handle) ok does =
-      only_answers held c s h (call.ReceiverCount handle) (reply.Count c.roster.receivers) o refl (inl (ap (λ (n : ℕ). replying s (reply.Count n)) h.receivers)) refl does
+      only_answers held c s h (call.ReceiverCount handle) (reply.Count c.wait_lists.receivers) o refl (inl (ap (λ (n : ℕ). replying s (reply.Count n)) h.receivers)) refl does
 
 pub calls_over : (T : Type 0) → CallsAreOver T
 calls_over T c held channel s o ok h awake does = every held channel s h awake o c ok does

@@ -37,20 +37,20 @@ same_receivers line x a = refl
 -- the channel d that the leaving of w makes of c, and the names woken by it
 pub record Departed {T : Type 0} (kind : Kind) (held : KeysHeld) (closed : Bool) (line : WaitList) (w : Waiter) (l : Waiting) (c d : Channel T Waiter) (names : List Waiter) : Type 0 where
   pub queue : d.queue ≡ c.queue
-  pub senders : d.roster.senders ≡ c.roster.senders
-  pub receivers : d.roster.receivers ≡ c.roster.receivers
-  pub lines : ShowsLines kind (with_held w None held) closed d.roster (after_news (passed_on line w l) (gone w l))
+  pub senders : d.wait_lists.senders ≡ c.wait_lists.senders
+  pub receivers : d.wait_lists.receivers ≡ c.wait_lists.receivers
+  pub lines : ShowsLines kind (with_held w None held) closed d.wait_lists (after_news (passed_on line w l) (gone w l))
   pub keys : KeysFit kind (with_held w None held) (after_news (passed_on line w l) (gone w l))
   pub wakes : names ≡ told_by (passed_on line w l) (gone w l)
 
 module _ {T : Type 0} (kind : Kind) (held : KeysHeld) (closed : Bool) (streams : StreamsAreStreams kind) (line : WaitList) (w : Waiter) (k : (kind w ≡ Some line) ⊎ (kind w ≡ None)) (l : Waiting)
-    (placed : Placed kind l) (keys : KeysFit kind held l) (shut : closed ≡ true → (line : WaitList) → untold line l ≡ []) (c : Channel T Waiter) (h : ShowsLines kind held closed c.roster l) where
+    (placed : Placed kind l) (keys : KeysFit kind held l) (shut : closed ≡ true → (line : WaitList) → untold line l ≡ []) (c : Channel T Waiter) (h : ShowsLines kind held closed c.wait_lists l) where
   keys_after : KeysFit kind (with_held w None held) (after_news (passed_on line w l) (gone w l))
   keys_after = keys_news kind (with_held w None held) (passed_on line w l) (gone w l) (keys_gone kind held w l keys)
 
   nowhere_before : held w ≡ None → Nowhere w l
   nowhere_before e = elim k [
-    | inl own ↦ keyless_nowhere kind held closed c.roster l line w own e placed h
+    | inl own ↦ keyless_nowhere kind held closed c.wait_lists l line w own e placed h
     | inr none ↦ kindless_nowhere kind w l none placed
   ]
 
@@ -60,11 +60,11 @@ module _ {T : Type 0} (kind : Kind) (held : KeysHeld) (closed : Bool) (streams :
     | inr none ↦ cc (sym (nowhere_keyless kind held w l (kindless_nowhere kind w l none placed) keys) ∙ e)
   ]
 
-  unheld : (n : Nowhere w l) → ShowsLines kind (with_held w None held) closed c.roster (after_news (passed_on line w l) (gone w l))
+  unheld : (n : Nowhere w l) → ShowsLines kind (with_held w None held) closed c.wait_lists (after_news (passed_on line w l) (gone w l))
   unheld n =
-      subst (λ (news : News). ShowsLines kind (with_held w None held) closed c.roster (after_news news (gone w l))) (sym (passes_nothing line w l n.woken))
-      (nothing_lines kind (with_held w None held) closed c.roster (gone w l)
-      (subst (λ (m : Waiting). ShowsLines kind (with_held w None held) closed c.roster m) (sym (gone_nowhere w l n)) (rekeyed_lines kind held closed c.roster l w None n h)))
+      subst (λ (news : News). ShowsLines kind (with_held w None held) closed c.wait_lists (after_news news (gone w l))) (sym (passes_nothing line w l n.woken))
+      (nothing_lines kind (with_held w None held) closed c.wait_lists (gone w l)
+      (subst (λ (m : Waiting). ShowsLines kind (with_held w None held) closed c.wait_lists m) (sym (gone_nowhere w l n)) (rekeyed_lines kind held closed c.wait_lists l w None n h)))
 
   nobody_told : (n : Nowhere w l) → [] ≡ told_by (passed_on line w l) (gone w l)
   nobody_told n = subst (λ (news : News). [] ≡ told_by news (gone w l)) (sym (passes_nothing line w l n.woken)) refl
@@ -80,9 +80,9 @@ module _ {T : Type 0} (kind : Kind) (held : KeysHeld) (closed : Bool) (streams :
   }
   departed (Some key) e = record {
     queue = refl;
-    senders = same_senders line _ c.roster;
-    receivers = same_receivers line _ c.roster;
-    lines = rekeyed_lines kind held closed _ _ w None (nowhere_after (passed_on line w l) w l) (leave_lines kind held closed streams c.roster l line w key (own_kind key e) e placed keys shut h);
+    senders = same_senders line _ c.wait_lists;
+    receivers = same_receivers line _ c.wait_lists;
+    lines = rekeyed_lines kind held closed _ _ w None (nowhere_after (passed_on line w l) w l) (leave_lines kind held closed streams c.wait_lists l line w key (own_kind key e) e placed keys shut h);
     keys = keys_after;
-    wakes = leave_wakes kind held closed streams c.roster l line w key (own_kind key e) e placed keys shut h;
+    wakes = leave_wakes kind held closed streams c.wait_lists l line w key (own_kind key e) e placed keys shut h;
   }

@@ -28,7 +28,7 @@ module _ {T : Type 0} (held : KeysHeld) (c : Channel T Waiter) (s : State T) (h 
 
   shows_lowered : (side : Side) → Refines held (lowers side c).channel (lowered side)
   shows_lowered side =
-      shows_count held c (dropped s handle) side (count side c.roster - 1) (model.strong_handles (kind_of_side side) s.channel - 1) (ap (λ (n : ℕ). n - 1) (same_count held c s side h))
+      shows_count held c (dropped s handle) side (count side c.wait_lists - 1) (model.strong_handles (kind_of_side side) s.channel - 1) (ap (λ (n : ℕ). n - 1) (same_count held c s side h))
       (shows_handles held c s (dropped s handle).names.handles h)
 
   awake_names : AwakeIn (dropped s handle)
@@ -59,7 +59,7 @@ module _ {T : Type 0} (held : KeysHeld) (c : Channel T Waiter) (s : State T) (h 
   quiet side true false e f g = cc g
   quiet side false closed e f g = (news_are side false closed e f, channel_is side false e)
 
-  same_last : (side : Side) (last : Bool) → (count side c.roster == 1) ≡ last → (model.strong_handles (kind_of_side side) s.channel == 1) ≡ last
+  same_last : (side : Side) (last : Bool) → (count side c.wait_lists == 1) ≡ last → (model.strong_handles (kind_of_side side) s.channel == 1) ≡ last
   same_last side last e = ap (λ (n : ℕ). n == 1) (sym (same_count held c s side h)) ∙ e
 
   -- ---- a sender
@@ -78,7 +78,7 @@ module _ {T : Type 0} (held : KeysHeld) (c : Channel T Waiter) (s : State T) (h 
         matching held s (call.Drop handle) None (ap (λ (o : Option Handle). stream_of handle o) there) (ends [] (closer_ending (dropper Senders None) false) (lowers Senders c).channel)
         (after_telling Nothing (lowered Senders) reply.Unit) (inl (sender_says Nothing (fewer Senders) q.0 q.1)) refl refl
         (shows_again g _ held (after_telling Nothing (lowered Senders) reply.Unit).after refl refl refl refl
-        (nothing_lines (line_at (lowered Senders).names) held s.channel.closed (lowers Senders c).channel.roster s.waiting g.lines)
+        (nothing_lines (line_at (lowered Senders).names) held s.channel.closed (lowers Senders c).channel.wait_lists s.waiting g.lines)
         (keys_news (line_at (lowered Senders).names) held Nothing s.waiting g.keys))
         refl refl
 
@@ -88,7 +88,7 @@ module _ {T : Type 0} (held : KeysHeld) (c : Channel T Waiter) (s : State T) (h 
         let g = shows_lowered Senders in
         let kind = line_at (lowered Senders).names in
         let d : Channel T Waiter = (lowers Senders c).channel in
-        let woken = closing_wakes kind held s.channel.closed d.roster s.waiting [] g.lines ∙ append-nil _ in
+        let woken = closing_wakes kind held s.channel.closed d.wait_lists s.waiting [] g.lines ∙ append-nil _ in
         matching held s (call.Drop handle) None (ap (λ (o : Option Handle). stream_of handle o) there) (ends of_closing (closer_ending (dropper Senders None) true) (over_queue alone.with_closed d))
         (after_telling Closing (with_channel (shut (fewer Senders)) (dropped s handle)) reply.Unit) (inl (sender_says Closing (shut (fewer Senders)) (news_are Senders true false last open_yet) (channel_is Senders true last))) refl woken
         (record {
@@ -97,12 +97,12 @@ module _ {T : Type 0} (held : KeysHeld) (c : Channel T Waiter) (s : State T) (h 
           capacity = g.capacity;
           senders = g.senders;
           receivers = g.receivers;
-          lines = closing_lines kind held d.roster s.waiting (awake_lowered Senders).placed.lines (shut_lines kind held s.channel.closed d.roster s.waiting g.lines);
+          lines = closing_lines kind held d.wait_lists s.waiting (awake_lowered Senders).placed.lines (shut_lines kind held s.channel.closed d.wait_lists s.waiting g.lines);
           keys = keys_news kind held Closing s.waiting g.keys;
         })
         refl (ap (λ (ws : List Waiter). s.waiting.woken ++ ws) (sym woken))
 
-    sender_drops : (last closed : Bool) → (count Senders c.roster == 1) ≡ last → c.queue.closed ≡ closed
+    sender_drops : (last closed : Bool) → (count Senders c.wait_lists == 1) ≡ last → c.queue.closed ≡ closed
         → Matches held s (call.Drop handle) (if last then (if closed then ends [] (closer_ending (dropper Senders None) false) (lowers Senders c).channel
         else ends of_closing (closer_ending (dropper Senders None) true) (over_queue alone.with_closed (lowers Senders c).channel))
         else ends [] (closer_ending (dropper Senders None) false) (lowers Senders c).channel)
@@ -111,7 +111,7 @@ module _ {T : Type 0} (held : KeysHeld) (c : Channel T Waiter) (s : State T) (h 
     sender_drops false closed e f = sender_leaves (quiet Senders false closed (same_last Senders false e) (sym h.closed ∙ f) refl)
 
     pub drop_sender : (o : Outcome T Waiter) → o ≡ drops Senders None c → Matches held s (call.Drop handle) o
-    drop_sender o e = subst (λ (x : Outcome T Waiter). Matches held s (call.Drop handle) x) (sym e) (sender_drops (count Senders c.roster == 1) c.queue.closed refl refl)
+    drop_sender o e = subst (λ (x : Outcome T Waiter). Matches held s (call.Drop handle) x) (sym e) (sender_drops (count Senders c.wait_lists == 1) c.queue.closed refl refl)
 
   -- ---- a receiver
 
@@ -146,13 +146,13 @@ module _ {T : Type 0} (held : KeysHeld) (c : Channel T Waiter) (s : State T) (h 
         let d : Channel T Waiter = (lowers Receivers c).channel in
         let told : Channel T Waiter = (tells_all list.Closings (tells_all list.Streams (tells_all list.Receives (tells_all list.Sends (over_queue alone.with_closed d)).channel).channel).channel).channel in
         let placed = (awake_lowered Receivers).placed in
-        let lines : ShowsLines (line_at names) held true told.roster (after_news Closing s.waiting) =
-        closing_lines (line_at names) held d.roster s.waiting placed.lines (shut_lines (line_at names) held s.channel.closed d.roster s.waiting g.lines) in
+        let lines : ShowsLines (line_at names) held true told.wait_lists (after_news Closing s.waiting) =
+        closing_lines (line_at names) held d.wait_lists s.waiting placed.lines (shut_lines (line_at names) held s.channel.closed d.wait_lists s.waiting g.lines) in
         let left =
         departed (line_at names) held true (streams_are names) Streams w (inl refl) (after_news Closing s.waiting) (placed_news (line_at names) Closing s.waiting placed)
         (keys_news (line_at names) held Closing s.waiting g.keys) (λ f own. nobody_left own s.waiting) told lines key refl in
         let woken =
-        closing_wakes (line_at names) held s.channel.closed d.roster s.waiting ((leaves (held_on list.Streams key) told).woken ++ []) g.lines
+        closing_wakes (line_at names) held s.channel.closed d.wait_lists s.waiting ((leaves (held_on list.Streams key) told).woken ++ []) g.lines
         ∙ ap (λ (ws : List Waiter). told_by Closing s.waiting ++ ws) (append-nil _ ∙ left.wakes) in
         matching held s (call.Drop handle) (Some w) (ap (λ (o : Option Handle). stream_of handle o) there) (ends of_closing (closer_ending (dropper Receivers key) true) (over_queue alone.with_closed d))
         (after_leaving Closing Streams w (with_channel (shut (fewer Receivers)) (dropped s handle)) reply.Unit)
@@ -168,7 +168,7 @@ module _ {T : Type 0} (held : KeysHeld) (c : Channel T Waiter) (s : State T) (h 
         })
         refl (told_left_as Closing Streams w s.waiting _ woken)
 
-    receiver_drops : (last closed : Bool) → (count Receivers c.roster == 1) ≡ last → c.queue.closed ≡ closed
+    receiver_drops : (last closed : Bool) → (count Receivers c.wait_lists == 1) ≡ last → c.queue.closed ≡ closed
         → Matches held s (call.Drop handle) (if last then (if closed then ends [] (closer_ending (dropper Receivers key) false) (lowers Receivers c).channel
         else ends of_closing (closer_ending (dropper Receivers key) true) (over_queue alone.with_closed (lowers Receivers c).channel))
         else ends [] (closer_ending (dropper Receivers key) false) (lowers Receivers c).channel)
@@ -177,4 +177,4 @@ module _ {T : Type 0} (held : KeysHeld) (c : Channel T Waiter) (s : State T) (h 
     receiver_drops false closed e f = receiver_leaves (quiet Receivers false closed (same_last Receivers false e) (sym h.closed ∙ f) refl)
 
     pub drop_receiver : (o : Outcome T Waiter) → o ≡ drops Receivers (held (Stream handle)) c → Matches held s (call.Drop handle) o
-    drop_receiver o e = subst (λ (x : Outcome T Waiter). Matches held s (call.Drop handle) x) (sym e) (receiver_drops (count Receivers c.roster == 1) c.queue.closed refl refl)
+    drop_receiver o e = subst (λ (x : Outcome T Waiter). Matches held s (call.Drop handle) x) (sym e) (receiver_drops (count Receivers c.wait_lists == 1) c.queue.closed refl refl)

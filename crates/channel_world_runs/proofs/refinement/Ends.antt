@@ -12,7 +12,7 @@ module _ {T : Type 0} (held : KeysHeld) (c : Channel T Waiter) (s : State T) (h 
   leaves_now line w k =
       departed (line_at s.names) held s.channel.closed (streams_are s.names) line w k (after_news Nothing s.waiting) (placed_news (line_at s.names) Nothing s.waiting awake.placed)
       (keys_news (line_at s.names) held Nothing s.waiting h.keys) (λ e own. empty_news Nothing own s.waiting (awake.opened e own)) c
-      (nothing_lines (line_at s.names) held s.channel.closed c.roster s.waiting h.lines) (held w) refl
+      (nothing_lines (line_at s.names) held s.channel.closed c.wait_lists s.waiting h.lines) (held w) refl
 
   -- the state after it, where no name changed
   pub left_state : (line : WaitList) (w : Waiter) (r : Reply T) (d : Channel T Waiter) (names : List Waiter)

@@ -31,19 +31,19 @@ module _ {T : Type 0} where
   pub shows_handles : (held : KeysHeld) (c : Channel T Waiter) (s : State T) (handles : Directory Handle) → Refines held c s → Refines held c (with_names (with_handles handles s.names) s)
   shows_handles held c s handles h =
       shows_again h c held (with_names (with_handles handles s.names) s) refl refl refl refl
-      (subst (λ (kind : Kind). ShowsLines kind held s.channel.closed c.roster s.waiting) (sym (same_kinds s.names handles)) h.lines)
+      (subst (λ (kind : Kind). ShowsLines kind held s.channel.closed c.wait_lists s.waiting) (sym (same_kinds s.names handles)) h.lines)
       (subst (λ (kind : Kind). KeysFit kind held s.waiting) (sym (same_kinds s.names handles)) h.keys)
 
   -- a count that changed
   pub shows_count : (held : KeysHeld) (c : Channel T Waiter) (s : State T) (side : Side) (n m : ℕ) → n ≡ m → Refines held c s
-      → Refines held (record c { roster = with_count side n c.roster }) (with_channel (model.with_strong_handles (kind_of_side side) m s.channel) s)
+      → Refines held (record c { wait_lists = with_count side n c.wait_lists }) (with_channel (model.with_strong_handles (kind_of_side side) m s.channel) s)
   shows_count held c s Senders n m e h = record {
     messages = h.messages;
     closed = h.closed;
     capacity = h.capacity;
     senders = e;
     receivers = h.receivers;
-    lines = counted_lines (line_at s.names) held s.channel.closed Senders n c.roster s.waiting h.lines;
+    lines = counted_lines (line_at s.names) held s.channel.closed Senders n c.wait_lists s.waiting h.lines;
     keys = h.keys;
   }
   shows_count held c s Receivers n m e h = record {
@@ -52,11 +52,11 @@ module _ {T : Type 0} where
     capacity = h.capacity;
     senders = h.senders;
     receivers = e;
-    lines = counted_lines (line_at s.names) held s.channel.closed Receivers n c.roster s.waiting h.lines;
+    lines = counted_lines (line_at s.names) held s.channel.closed Receivers n c.wait_lists s.waiting h.lines;
     keys = h.keys;
   }
 
-  pub same_count : (held : KeysHeld) (c : Channel T Waiter) (s : State T) (side : Side) → Refines held c s → count side c.roster ≡ model.strong_handles (kind_of_side side) s.channel
+  pub same_count : (held : KeysHeld) (c : Channel T Waiter) (s : State T) (side : Side) → Refines held c s → count side c.wait_lists ≡ model.strong_handles (kind_of_side side) s.channel
   same_count held c s Senders h = h.senders
   same_count held c s Receivers h = h.receivers
 
@@ -73,28 +73,28 @@ module _ {T : Type 0} (held : KeysHeld) (c : Channel T Waiter) (s : State T) (h 
 
   module _ (new : HandleId) (side : Side) (renamed : (o : Outcome T Waiter) → names_after s call o ≡ made_names new (Some (kind_of_side side)) o.reply s.names) where
     counted : Answers s call (replying (with_channel (model.with_strong_handles (kind_of_side side) (model.strong_handles (kind_of_side side) s.channel + 1) s.channel) (made s new (kind_of_side side))) reply.Made)
-        → (d : Channel T Waiter) → d ≡ record c { roster = with_count side (count side c.roster + 1) c.roster } → Matches held s call (answers reply.Made nothing_kept d)
+        → (d : Channel T Waiter) → d ≡ record c { wait_lists = with_count side (count side c.wait_lists + 1) c.wait_lists } → Matches held s call (answers reply.Made nothing_kept d)
     counted allowed d e =
         let n : ℕ = model.strong_handles (kind_of_side side) s.channel + 1 in
         let t : State T = with_channel (model.with_strong_handles (kind_of_side side) n s.channel) (made s new (kind_of_side side)) in
-        let one_more_each : count side c.roster + 1 ≡ n = ap (λ (m : ℕ). m + 1) (same_count held c s side h) in
+        let one_more_each : count side c.wait_lists + 1 ≡ n = ap (λ (m : ℕ). m + 1) (same_count held c s side h) in
         let shows : Refines held d t =
-        subst (λ (x : Channel T Waiter). Refines held x t) (sym e) (shows_count held c (made s new (kind_of_side side)) side (count side c.roster + 1) n one_more_each (shows_handles held c s _ h)) in
+        subst (λ (x : Channel T Waiter). Refines held x t) (sym e) (shows_count held c (made s new (kind_of_side side)) side (count side c.wait_lists + 1) n one_more_each (shows_handles held c s _ h)) in
         matching held s call None nobody (answers reply.Made nothing_kept d) (replying t reply.Made) allowed refl refl shows (sym (renamed (answers reply.Made nothing_kept d)))
         (sym (append-nil s.waiting.woken))
 
-    raises_are : nat_lt most (count side c.roster) ≡ false → (raises side (count side c.roster) c).channel ≡ record c { roster = with_count side (count side c.roster + 1) c.roster }
-    raises_are e = by_test (is_raised side (count side c.roster) c.roster) (raised_now (count side c.roster) e) where
-      by_test : (b : Bool) → b ≡ true → (if b then on_count side (count side c.roster + 1) (up side) c else untouched c).channel ≡ record c { roster = with_count side (count side c.roster + 1) c.roster }
+    raises_are : nat_lt most (count side c.wait_lists) ≡ false → (raises side (count side c.wait_lists) c).channel ≡ record c { wait_lists = with_count side (count side c.wait_lists + 1) c.wait_lists }
+    raises_are e = by_test (is_raised side (count side c.wait_lists) c.wait_lists) (raised_now (count side c.wait_lists) e) where
+      by_test : (b : Bool) → b ≡ true → (if b then on_count side (count side c.wait_lists + 1) (up side) c else untouched c).channel ≡ record c { wait_lists = with_count side (count side c.wait_lists + 1) c.wait_lists }
       by_test true t = refl
       by_test false t = cc t
 
     -- the model's count is as great as the channel's
-    as_great : (b : Bool) → nat_lt most (count side c.roster) ≡ b → nat_lt (2 ^ 63 - 1) (model.strong_handles (kind_of_side side) s.channel) ≡ b
+    as_great : (b : Bool) → nat_lt most (count side c.wait_lists) ≡ b → nat_lt (2 ^ 63 - 1) (model.strong_handles (kind_of_side side) s.channel) ≡ b
     as_great b e = ap (λ (n : ℕ). nat_lt most n) (sym (same_count held c s side h)) ∙ e
 
-    cloned : (b : Bool) → nat_lt most (count side c.roster) ≡ b → Answers s call (one_more s new (kind_of_side side))
-        → Matches held s call (if b then answers reply.TooMany nothing_kept c else answers reply.Made nothing_kept (raises side (count side c.roster) c).channel)
+    cloned : (b : Bool) → nat_lt most (count side c.wait_lists) ≡ b → Answers s call (one_more s new (kind_of_side side))
+        → Matches held s call (if b then answers reply.TooMany nothing_kept c else answers reply.Made nothing_kept (raises side (count side c.wait_lists) c).channel)
     cloned true e allowed =
         let too_many : one_more s new (kind_of_side side) ≡ replying (spent s new) reply.TooMany = rw (as_great true e) refl in
         renames (spent s new).names.handles reply.TooMany _ (subst (λ (a : Answer T). Answers s call a) too_many allowed) (sym (renamed (says_only reply.TooMany c))) refl
@@ -103,14 +103,14 @@ module _ {T : Type 0} (held : KeysHeld) (c : Channel T Waiter) (s : State T) (h 
         counted (subst (λ (a : Answer T). Answers s call a) more allowed) _ (raises_are e)
 
     pub clones_so : (o : Outcome T Waiter) → o ≡ clones side c → Answers s call (one_more s new (kind_of_side side)) → Matches held s call o
-    clones_so o e allowed = subst (λ (x : Outcome T Waiter). Matches held s call x) (sym e) (cloned (nat_lt most (count side c.roster)) refl allowed)
+    clones_so o e allowed = subst (λ (x : Outcome T Waiter). Matches held s call x) (sym e) (cloned (nat_lt most (count side c.wait_lists)) refl allowed)
 
     not_made : (s.channel.closed || (model.strong_handles (kind_of_side side) s.channel == 0)) ≡ true → Answers s call (upgrade_to s new (kind_of_side side)) → Matches held s call (answers reply.NotMade nothing_kept c)
     not_made e allowed =
         let none : upgrade_to s new (kind_of_side side) ≡ replying (spent s new) reply.NotMade = rw e refl in
         renames (spent s new).names.handles reply.NotMade _ (subst (λ (a : Answer T). Answers s call a) none allowed) (sym (renamed (says_only reply.NotMade c))) refl
 
-    upgraded : (closed none : Bool) → c.queue.closed ≡ closed → (count side c.roster == 0) ≡ none → Answers s call (upgrade_to s new (kind_of_side side))
+    upgraded : (closed none : Bool) → c.queue.closed ≡ closed → (count side c.wait_lists == 0) ≡ none → Answers s call (upgrade_to s new (kind_of_side side))
         → Matches held s call (if closed then answers reply.NotMade nothing_kept c else (if none then answers reply.NotMade nothing_kept c else clones side c))
     upgraded true none e f allowed = not_made (ap (λ (b : Bool). b || (model.strong_handles (kind_of_side side) s.channel == 0)) (sym h.closed ∙ e)) allowed
     upgraded false true e f allowed =
@@ -123,4 +123,4 @@ module _ {T : Type 0} (held : KeysHeld) (c : Channel T Waiter) (s : State T) (h 
         clones_so _ refl (subst (λ (a : Answer T). Answers s call a) made_so allowed)
 
     pub upgrades_so : (o : Outcome T Waiter) → o ≡ upgrades side c → Answers s call (upgrade_to s new (kind_of_side side)) → Matches held s call o
-    upgrades_so o e allowed = subst (λ (x : Outcome T Waiter). Matches held s call x) (sym e) (upgraded c.queue.closed (count side c.roster == 0) refl refl allowed)
+    upgrades_so o e allowed = subst (λ (x : Outcome T Waiter). Matches held s call x) (sym e) (upgraded c.queue.closed (count side c.wait_lists == 0) refl refl allowed)

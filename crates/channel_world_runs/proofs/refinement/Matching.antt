@@ -24,8 +24,8 @@ module _ {T : Type 0} (held : KeysHeld) (s : State T) (call : Call T) (own : Opt
 module _ {T : Type 0} {held : KeysHeld} {c : Channel T Waiter} {s : State T} (h : Refines held c s) where
   -- a channel with other messages, perhaps, and other listeners shows a state with these
   pub shows_moved : (d : Channel T Waiter) (other : KeysHeld) (t : State T) → t.channel ≡ with_messages s.channel t.channel.messages → d.queue.items ≡ t.channel.messages
-      → d.queue.closed ≡ c.queue.closed → d.queue.capacity ≡ c.queue.capacity → d.roster.senders ≡ c.roster.senders → d.roster.receivers ≡ c.roster.receivers
-      → ShowsLines (line_at t.names) other t.channel.closed d.roster t.waiting → KeysFit (line_at t.names) other t.waiting → Refines other d t
+      → d.queue.closed ≡ c.queue.closed → d.queue.capacity ≡ c.queue.capacity → d.wait_lists.senders ≡ c.wait_lists.senders → d.wait_lists.receivers ≡ c.wait_lists.receivers
+      → ShowsLines (line_at t.names) other t.channel.closed d.wait_lists t.waiting → KeysFit (line_at t.names) other t.waiting → Refines other d t
   shows_moved d other t e items closed capacity senders receivers lines keys = record {
     messages = items;
     closed = closed ∙ h.closed ∙ ap (λ (p : ModelChannel T). p.closed) (sym e);
@@ -37,8 +37,8 @@ module _ {T : Type 0} {held : KeysHeld} {c : Channel T Waiter} {s : State T} (h 
   }
 
   -- with the same messages
-  pub shows_again : (d : Channel T Waiter) (other : KeysHeld) (t : State T) → t.channel ≡ s.channel → d.queue ≡ c.queue → d.roster.senders ≡ c.roster.senders → d.roster.receivers ≡ c.roster.receivers
-      → ShowsLines (line_at t.names) other t.channel.closed d.roster t.waiting → KeysFit (line_at t.names) other t.waiting → Refines other d t
+  pub shows_again : (d : Channel T Waiter) (other : KeysHeld) (t : State T) → t.channel ≡ s.channel → d.queue ≡ c.queue → d.wait_lists.senders ≡ c.wait_lists.senders → d.wait_lists.receivers ≡ c.wait_lists.receivers
+      → ShowsLines (line_at t.names) other t.channel.closed d.wait_lists t.waiting → KeysFit (line_at t.names) other t.waiting → Refines other d t
   shows_again d other t e same senders receivers lines keys =
       shows_moved d other t (e ∙ ap (λ (p : ModelChannel T). with_messages s.channel p.messages) (sym e)) (ap (λ (q : Queue T). q.items) same ∙ h.messages ∙ ap (λ (p : ModelChannel T). p.messages) (sym e))
       (ap (λ (q : Queue T). q.closed) same) (ap (λ (q : Queue T). q.capacity) same) senders receivers lines keys

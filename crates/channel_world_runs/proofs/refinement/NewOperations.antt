@@ -29,7 +29,7 @@ module _ {T : Type 0} (held : KeysHeld) (c : Channel T Waiter) (s : State T) (h 
       subst (λ (y : Outcome T Waiter). Matches held s call y) (sym e)
       (matching held s call None nobody (says_only reply.Made c) (new_answer s op x) allowed refl refl
       (shows_again h c held (new_answer s op x).after refl refl refl refl
-      (rekinded_lines (line_at s.names) (line_at (with_new_operation op x s.names)) held s.channel.closed c.roster s.waiting (Op op) (kindless none) (new_kind op x s.names) h.lines)
+      (rekinded_lines (line_at s.names) (line_at (with_new_operation op x s.names)) held s.channel.closed c.wait_lists s.waiting (Op op) (kindless none) (new_kind op x s.names) h.lines)
       (rekinded_keys (line_at s.names) (line_at (with_new_operation op x s.names)) held s.waiting (Op op) (unheld none) (new_kind op x s.names) h.keys))
       names (sym (append-nil s.waiting.woken)))
 

@@ -9,7 +9,7 @@ module _ (T : Type 0) (capacity : Option ℕ) where
   abbrev s : State T
   s = start capacity
 
-  lines : ShowsLines (line_at s.names) nothing_held s.channel.closed channel.roster s.waiting
+  lines : ShowsLines (line_at s.names) nothing_held s.channel.closed channel.wait_lists s.waiting
   lines Sends = record { untold = tt; told = tt }
   lines x = record { untold = tt; told = tt }
 

@@ -59,12 +59,12 @@ module _ {T : Type 0} (held : KeysHeld) (c : Channel T Waiter) (s : State T) (h 
 
   pub changed_lines : (line : WaitList) (l : Waiting) (v : Option (Operation T)) (names' : Names T) (b d : Channel T Waiter) (names : List Waiter) (closed : Bool)
       → at op.0 s.names.operations ≡ Some x → names'.operations ≡ set_value (nat_eq op.0) s.names.operations v → Departed (line_at s.names) held closed line (Op op) l b d names
-      → ShowsLines (line_at names') (with_held (Op op) None held) closed d.roster (after_news (passed_on line (Op op) l) (gone (Op op) l))
+      → ShowsLines (line_at names') (with_held (Op op) None held) closed d.wait_lists (after_news (passed_on line (Op op) l) (gone (Op op) l))
       × KeysFit (line_at names') (with_held (Op op) None held) (after_news (passed_on line (Op op) l) (gone (Op op) l))
   changed_lines line l v names' b d names closed there set g =
       let m : Waiting = after_news (passed_on line (Op op) l) (gone (Op op) l) in
       let kinds = other_kind op v x s.names names' there set in (
-        rekinded_lines (line_at s.names) (line_at names') (with_held (Op op) None held) closed d.roster m (Op op) (nowhere_after (passed_on line (Op op) l) (Op op) l) kinds g.lines,
+        rekinded_lines (line_at s.names) (line_at names') (with_held (Op op) None held) closed d.wait_lists m (Op op) (nowhere_after (passed_on line (Op op) l) (Op op) l) kinds g.lines,
         rekinded_keys (line_at s.names) (line_at names') (with_held (Op op) None held) m (Op op) (with_own (Op op) (Op op) None held (same_refl (Op op))) kinds g.keys,
       )
 

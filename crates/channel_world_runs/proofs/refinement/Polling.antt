@@ -19,14 +19,14 @@ where_false false A B e x = x
 module _ {T : Type 0} (line : WaitList) (pends : Reply T) (refuses : ListenError → Reply T) (message : Option T) (w : Waiter) where
   abbrev pub ListensAs : Channel T Waiter → Outcome T Waiter → Type 0
   ListensAs c o =
-      ((key : Key) × (kind_of (listeners (list_of line) c.roster) key ≡ None)
+      ((key : Key) × (kind_of (listeners (list_of line) c.wait_lists) key ≡ None)
       × (o ≡ answers pends (keeping (Some key) message) (registers (list_of line) key w (listens (list_of line) key c).channel).channel))
       ⊎ ((error : ListenError) × (o ≡ answers (refuses error) (keeping None message) c))
 
   abbrev pub WaitsAs : Option Key → Channel T Waiter → Outcome T Waiter → Type 0
   WaitsAs None c o = ListensAs c o
   WaitsAs (Some key) c o =
-      Where (waits key (listeners (list_of line) c.roster)) (o ≡ answers pends (keeping (Some key) message) (registers (list_of line) key w c).channel)
+      Where (waits key (listeners (list_of line) c.wait_lists)) (o ≡ answers pends (keeping (Some key) message) (registers (list_of line) key w c).channel)
       (ListensAs (registers (list_of line) key w c).channel o)
 
   -- how a wait ends: it stands in its line, or it was not let listen and is gone from it
@@ -37,18 +37,18 @@ module _ {T : Type 0} (line : WaitList) (pends : Reply T) (refuses : ListenError
       × Refines (with_held w None held) d (with_waiting (gone w s.waiting) s))
 
   module _ (held : KeysHeld) (c : Channel T Waiter) (s : State T) (h : Refines held c s) (awake : AwakeIn s) (k : line_at s.names w ≡ Some line) where
-    pub shown : (key : Option Key) (m : Waiting) (d : Channel T Waiter) → d.queue ≡ c.queue → Waited (line_at s.names) held s.channel.closed w c.roster d.roster key m → Refines (with_held w key held) d (with_waiting m s)
+    pub shown : (key : Option Key) (m : Waiting) (d : Channel T Waiter) → d.queue ≡ c.queue → Waited (line_at s.names) held s.channel.closed w c.wait_lists d.wait_lists key m → Refines (with_held w key held) d (with_waiting m s)
     shown key m d e g = shows_again h d (with_held w key held) (with_waiting m s) refl e g.senders g.receivers g.lines g.keys
 
     listened_ends : (b : Channel T Waiter) (o : Outcome T Waiter) → b.queue ≡ c.queue → is_among w (untold line s.waiting) ≡ false
-        → Waited (line_at s.names) held s.channel.closed w c.roster b.roster None (gone w s.waiting) → ListensAs b o → WaitEnds held s o
+        → Waited (line_at s.names) held s.channel.closed w c.wait_lists b.wait_lists None (gone w s.waiting) → ListensAs b o → WaitEnds held s o
     listened_ends b o e u g (inl (key, none, f)) =
         inl (
           key,
           (registers (list_of line) key w (listens (list_of line) key b).channel).channel,
           f,
           shown (Some key) (standing line w s.waiting) (registers (list_of line) key w (listens (list_of line) key b).channel).channel e
-              (listens_so (line_at s.names) held s.channel.closed (streams_are s.names) line w k s.waiting awake.placed h.keys awake.opened c.roster h.lines b.roster key u none g),
+              (listens_so (line_at s.names) held s.channel.closed (streams_are s.names) line w k s.waiting awake.placed h.keys awake.opened c.wait_lists h.lines b.wait_lists key u none g),
         )
     listened_ends b o e u g (inr (error, f)) = inr (error, b, f, u, shown None (gone w s.waiting) b e g)
 
@@ -58,19 +58,19 @@ module _ {T : Type 0} (line : WaitList) (pends : Reply T) (refuses : ListenError
 
     pub wait_ends : (key : Option Key) (o : Outcome T Waiter) → held w ≡ key → WaitsAs key c o → WaitEnds held s o
     wait_ends None o e x =
-        let away : Nowhere w s.waiting = keyless_nowhere (line_at s.names) held s.channel.closed c.roster s.waiting line w k e awake.placed h.lines in
-        listened_ends c o refl (away.lines line) (away_unheld (line_at s.names) held s.channel.closed (streams_are s.names) line w k s.waiting awake.placed h.keys awake.opened c.roster h.lines e) x
+        let away : Nowhere w s.waiting = keyless_nowhere (line_at s.names) held s.channel.closed c.wait_lists s.waiting line w k e awake.placed h.lines in
+        listened_ends c o refl (away.lines line) (away_unheld (line_at s.names) held s.channel.closed (streams_are s.names) line w k s.waiting awake.placed h.keys awake.opened c.wait_lists h.lines e) x
     wait_ends (Some key) o e x = elim (decided (is_among w s.waiting.woken)) [
       | inl t ↦
-          let used = away_told (line_at s.names) held s.channel.closed (streams_are s.names) line w k s.waiting awake.placed h.keys awake.opened c.roster h.lines key e t in
-          listened_ends (registers (list_of line) key w c).channel o refl (told_not_untold t) used.1 (where_false (waits key (listeners (list_of line) c.roster)) _ _ used.0 x)
+          let used = away_told (line_at s.names) held s.channel.closed (streams_are s.names) line w k s.waiting awake.placed h.keys awake.opened c.wait_lists h.lines key e t in
+          listened_ends (registers (list_of line) key w c).channel o refl (told_not_untold t) used.1 (where_false (waits key (listeners (list_of line) c.wait_lists)) _ _ used.0 x)
       | inr t ↦ elim (decided (is_among w (untold line s.waiting))) [
         | inl u ↦
-            let stayed = stays (line_at s.names) held s.channel.closed (streams_are s.names) line w k s.waiting awake.placed h.keys awake.opened c.roster h.lines key e t u in
+            let stayed = stays (line_at s.names) held s.channel.closed (streams_are s.names) line w k s.waiting awake.placed h.keys awake.opened c.wait_lists h.lines key e t u in
             inl (
               key,
               (registers (list_of line) key w c).channel,
-              where_true (waits key (listeners (list_of line) c.roster)) _ _ stayed.0 x,
+              where_true (waits key (listeners (list_of line) c.wait_lists)) _ _ stayed.0 x,
               shown (Some key) (standing line w s.waiting) (registers (list_of line) key w c).channel refl stayed.1,
             )
         | inr u ↦ absurd (away_holds_none (line_at s.names) held line w s.waiting key k awake.placed h.keys e u t)

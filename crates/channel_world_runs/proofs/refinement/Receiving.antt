@@ -36,10 +36,10 @@ module _ {T : Type 0} (held : KeysHeld) (c : Channel T Waiter) (s : State T) (h 
       let g =
       departed (line_at s.names) held s.channel.closed (streams_are s.names) Receives (Op op) (inl recv_kind) (after_news Room s.waiting)
       (placed_news (line_at s.names) Room s.waiting awake.placed) (keys_news (line_at s.names) held Room s.waiting h.keys)
-      (λ f own. empty_news Room own s.waiting (awake.opened f own)) d (room_lines (line_at s.names) held s.channel.closed c.roster s.waiting awake.placed.lines h.lines) (held (Op op)) refl in
+      (λ f own. empty_news Room own s.waiting (awake.opened f own)) d (room_lines (line_at s.names) held s.channel.closed c.wait_lists s.waiting awake.placed.lines h.lines) (held (Op op)) refl in
       let found_first : found s.channel ≡ first m ms = rw (sym h.messages ∙ some) refl in
       let woken =
-      room_wakes (line_at s.names) held s.channel.closed c.roster s.waiting ((leaves (held_on list.Receives (held (Op op))) d).woken ++ []) h.lines
+      room_wakes (line_at s.names) held s.channel.closed c.wait_lists s.waiting ((leaves (held_on list.Receives (held (Op op))) d).woken ++ []) h.lines
       ∙ ap (λ (ws : List Waiter). told_by Room s.waiting ++ ws) (append-nil _ ∙ g.wakes) in
       subst (λ (x : Outcome T Waiter). Matches held s (call.Poll op) x) (sym e)
       (record {

@@ -82,10 +82,10 @@ module _ {T : Type 0} (held : KeysHeld) (c : Channel T Waiter) (s : State T) (h 
       let g =
       departed (line_at s.names) held s.channel.closed (streams_are s.names) Sends (Op op) (inl send_is) (after_news Message s.waiting)
       (placed_news (line_at s.names) Message s.waiting awake.placed) (keys_news (line_at s.names) held Message s.waiting h.keys)
-      (λ f own. empty_news Message own s.waiting (awake.opened f own)) d (message_lines (line_at s.names) held s.channel.closed c.roster s.waiting awake.placed.lines h.lines) (held (Op op)) refl in
+      (λ f own. empty_news Message own s.waiting (awake.opened f own)) d (message_lines (line_at s.names) held s.channel.closed c.wait_lists s.waiting awake.placed.lines h.lines) (held (Op op)) refl in
       let changed = changed_lines held c s h awake op (live.Send handle (Some msg)) Sends (after_news Message s.waiting) (Some (live.Send handle None)) (finished s op handle).names d _ _ s.channel.closed there refl g in
       let woken =
-      message_wakes (line_at s.names) held s.channel.closed c.roster s.waiting ((leaves (held_on list.Sends (held (Op op))) d).woken ++ []) h.lines
+      message_wakes (line_at s.names) held s.channel.closed c.wait_lists s.waiting ((leaves (held_on list.Sends (held (Op op))) d).woken ++ []) h.lines
       ∙ ap (λ (ws : List Waiter). told_by Message s.waiting ++ ws) (append-nil _ ∙ g.wakes) in
       subst (λ (x : Outcome T Waiter). Matches held s (call.Poll op) x) (sym e)
       (record {

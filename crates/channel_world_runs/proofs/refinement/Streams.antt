@@ -47,7 +47,7 @@ module _ {T : Type 0} (held : KeysHeld) (s : State T) (receiver : HandleId) (awa
     got m ms e =
         let found_first : found s.channel ≡ first m ms = rw (sym h.messages ∙ e) refl in
         let l : Waiting = gone (Stream receiver) s.waiting in
-        let woken = room_wakes (line_at s.names) unheld s.channel.closed c.roster l [] h.lines ∙ append-nil _ in
+        let woken = room_wakes (line_at s.names) unheld s.channel.closed c.wait_lists l [] h.lines ∙ append-nil _ in
         record {
           answer = next_answer used_up receiver (first m ms);
           allowed = inl (answer_then (first m ms) u found_first);
@@ -55,7 +55,7 @@ module _ {T : Type 0} (held : KeysHeld) (s : State T) (receiver : HandleId) (awa
           woken = woken;
           shows =
               shows_moved h _ unheld (next_answer used_up receiver (first m ms)).after refl (rw e refl) refl refl refl refl
-              (room_lines (line_at s.names) unheld s.channel.closed c.roster l still_awake.placed.lines h.lines) (keys_news (line_at s.names) unheld Room l h.keys);
+              (room_lines (line_at s.names) unheld s.channel.closed c.wait_lists l still_awake.placed.lines h.lines) (keys_news (line_at s.names) unheld Room l h.keys);
           names = refl;
           told =
               without_others (Stream receiver) s.waiting.woken (told_by Room l) (nowhere_after Room (Stream receiver) s.waiting).woken
@@ -123,7 +123,7 @@ module _ {T : Type 0} (held : KeysHeld) (s : State T) (receiver : HandleId) (awa
 -- ---- from what the stream holds
 
 module _ {T : Type 0} (held : KeysHeld) (c : Channel T Waiter) (s : State T) (h : Refines held c s) (awake : AwakeIn s) (receiver : HandleId) where
-  shown_so : (key : Option Key) (m : Waiting) (d : Channel T Waiter) → d.queue ≡ c.queue → Waited (line_at s.names) held s.channel.closed (Stream receiver) c.roster d.roster key m
+  shown_so : (key : Option Key) (m : Waiting) (d : Channel T Waiter) → d.queue ≡ c.queue → Waited (line_at s.names) held s.channel.closed (Stream receiver) c.wait_lists d.wait_lists key m
       → Refines (with_held (Stream receiver) key held) d (with_waiting m s)
   shown_so key m d e g = shown Streams (reply.Next poll.Pending) (λ e. refused_reply list.Streams e) None (Stream receiver) held c s h awake refl key m d e g
 
@@ -135,22 +135,22 @@ module _ {T : Type 0} (held : KeysHeld) (c : Channel T Waiter) (s : State T) (h 
 
   polls_by : (key : Option Key) (o : Outcome T Waiter) → held (Stream receiver) ≡ key → Alone (ask.PollNext key (Stream receiver)) c o → Matches held s (call.PollNext receiver) o
   polls_by None o e x =
-      let away : Nowhere (Stream receiver) s.waiting = keyless_nowhere (line_at s.names) held s.channel.closed c.roster s.waiting Streams (Stream receiver) refl e awake.placed h.lines in
+      let away : Nowhere (Stream receiver) s.waiting = keyless_nowhere (line_at s.names) held s.channel.closed c.wait_lists s.waiting Streams (Stream receiver) refl e awake.placed h.lines in
       polls_used held s receiver awake (away.lines Streams) c
       (shown_so None (gone (Stream receiver) s.waiting) c refl
-      (away_unheld (line_at s.names) held s.channel.closed (streams_are s.names) Streams (Stream receiver) refl s.waiting awake.placed h.keys awake.opened c.roster h.lines e)) o x
+      (away_unheld (line_at s.names) held s.channel.closed (streams_are s.names) Streams (Stream receiver) refl s.waiting awake.placed h.keys awake.opened c.wait_lists h.lines e)) o x
   polls_by (Some key) o e x = elim (decided (is_among (Stream receiver) s.waiting.woken)) [
     | inl t ↦
-        let used = away_told (line_at s.names) held s.channel.closed (streams_are s.names) Streams (Stream receiver) refl s.waiting awake.placed h.keys awake.opened c.roster h.lines key e t in
+        let used = away_told (line_at s.names) held s.channel.closed (streams_are s.names) Streams (Stream receiver) refl s.waiting awake.placed h.keys awake.opened c.wait_lists h.lines key e t in
         let d : Channel T Waiter = (registers list.Streams key (Stream receiver) c).channel in
         polls_used held s receiver awake (told_not_untold t) d (shown_so None (gone (Stream receiver) s.waiting) d refl used.1) o
-        (where_false (waits key (listeners list.Streams c.roster)) _ _ used.0 x)
+        (where_false (waits key (listeners list.Streams c.wait_lists)) _ _ used.0 x)
     | inr t ↦ elim (decided (is_among (Stream receiver) s.waiting.streams)) [
       | inr u ↦ absurd (away_holds_none (line_at s.names) held Streams (Stream receiver) s.waiting key refl awake.placed h.keys e u t)
       | inl u ↦
-          let stayed = stays (line_at s.names) held s.channel.closed (streams_are s.names) Streams (Stream receiver) refl s.waiting awake.placed h.keys awake.opened c.roster h.lines key e t u in
+          let stayed = stays (line_at s.names) held s.channel.closed (streams_are s.names) Streams (Stream receiver) refl s.waiting awake.placed h.keys awake.opened c.wait_lists h.lines key e t u in
           let d : Channel T Waiter = (registers list.Streams key (Stream receiver) c).channel in
-          subst (λ (y : Outcome T Waiter). Matches held s (call.PollNext receiver) y) (sym (where_true (waits key (listeners list.Streams c.roster)) _ _ stayed.0 x))
+          subst (λ (y : Outcome T Waiter). Matches held s (call.PollNext receiver) y) (sym (where_true (waits key (listeners list.Streams c.wait_lists)) _ _ stayed.0 x))
           (record {
             answer = replying (with_waiting (standing Streams (Stream receiver) s.waiting) s) (reply.Next poll.Pending);
             allowed = inl (still_untold u);

@@ -71,7 +71,7 @@ module _ {T : Type 0} (held : KeysHeld) (c : Channel T Waiter) (s : State T) (h 
         only_answers (call.TryRecv receiver) (reply.TryRecv (Err unreceived.Empty)) _ refl (inl (ap (λ (x : Found T). try_recv_answer s x) (sym none))) refl (rw f refl)
     receiving receiver (m ∷ ms) closed e f =
         let some : found s.channel ≡ first m ms = rw (sym h.messages ∙ e) refl in
-        let woken = room_wakes (line_at s.names) held s.channel.closed c.roster s.waiting [] h.lines ∙ append-nil _ in
+        let woken = room_wakes (line_at s.names) held s.channel.closed c.wait_lists s.waiting [] h.lines ∙ append-nil _ in
         record {
           answer = try_recv_answer s (first m ms);
           allowed = inl (ap (λ (x : Found T). try_recv_answer s x) (sym some));
@@ -79,7 +79,7 @@ module _ {T : Type 0} (held : KeysHeld) (c : Channel T Waiter) (s : State T) (h 
           woken = woken;
           shows =
               shows_moved h _ held (try_recv_answer s (first m ms)).after refl (rw e refl) refl refl refl refl
-              (room_lines (line_at s.names) held s.channel.closed c.roster s.waiting lined h.lines) (keys_news (line_at s.names) held Room s.waiting h.keys);
+              (room_lines (line_at s.names) held s.channel.closed c.wait_lists s.waiting lined h.lines) (keys_news (line_at s.names) held Room s.waiting h.keys);
           names = refl;
           told = ap (λ (ws : List Waiter). s.waiting.woken ++ ws) (sym woken);
         }
@@ -99,7 +99,7 @@ module _ {T : Type 0} (held : KeysHeld) (c : Channel T Waiter) (s : State T) (h 
     several_taken receiver n (m ∷ ms) e =
         let some : take (suc n) s.channel.messages ≡ m ∷ ms = ap (λ (xs : List T). take (suc n) xs) (sym h.messages) ∙ e in
         let k = length (m ∷ ms) in
-        let woken = append-nil _ ∙ rooms_wakes (line_at s.names) held k s.channel.closed c.roster s.waiting lined h.lines in
+        let woken = append-nil _ ∙ rooms_wakes (line_at s.names) held k s.channel.closed c.wait_lists s.waiting lined h.lines in
         record {
           answer = recv_many_answer s (suc n) (m ∷ ms) (drop (suc n) s.channel.messages);
           allowed = inl (sym (ap (λ (xs : List T). recv_many_answer s (suc n) xs (drop (suc n) s.channel.messages)) some));
@@ -107,7 +107,7 @@ module _ {T : Type 0} (held : KeysHeld) (c : Channel T Waiter) (s : State T) (h 
           woken = woken;
           shows =
               shows_moved h _ held (recv_many_answer s (suc n) (m ∷ ms) (drop (suc n) s.channel.messages)).after refl (ap (λ (xs : List T). drop (suc n) xs) h.messages) refl refl refl refl
-              (rooms_lines (line_at s.names) held k s.channel.closed c.roster s.waiting lined h.lines) (keys_rooms (line_at s.names) held k s.waiting h.keys);
+              (rooms_lines (line_at s.names) held k s.channel.closed c.wait_lists s.waiting lined h.lines) (keys_rooms (line_at s.names) held k s.waiting h.keys);
           names = refl;
           told = rooms_woken k s.waiting ∙ ap (λ (ws : List Waiter). s.waiting.woken ++ ws) (sym woken);
         }
@@ -133,10 +133,10 @@ module _ {T : Type 0} (held : KeysHeld) (c : Channel T Waiter) (s : State T) (h 
         → s.names ≡ names_after s call (ends of_message (says r) (over_queue f c))
         → (f c.queue).items ≡ ms → (f c.queue).closed ≡ c.queue.closed → (f c.queue).capacity ≡ c.queue.capacity → Matches held s call (ends of_message (says r) (over_queue f c))
     came_in call r f ms nobody allowed names items closed capacity =
-        let woken = message_wakes (line_at s.names) held s.channel.closed c.roster s.waiting [] h.lines ∙ append-nil _ in
+        let woken = message_wakes (line_at s.names) held s.channel.closed c.wait_lists s.waiting [] h.lines ∙ append-nil _ in
         let shows : Refines held (ends of_message (says r) (over_queue f c)).channel (after_telling Message (with_channel (with_messages s.channel ms) s) r).after =
         shows_moved h _ held _ refl items closed capacity refl refl
-        (message_lines (line_at s.names) held s.channel.closed c.roster s.waiting lined h.lines) (keys_news (line_at s.names) held Message s.waiting h.keys) in
+        (message_lines (line_at s.names) held s.channel.closed c.wait_lists s.waiting lined h.lines) (keys_news (line_at s.names) held Message s.waiting h.keys) in
         matching held s call None nobody (ends of_message (says r) (over_queue f c)) (after_telling Message (with_channel (with_messages s.channel ms) s) r) allowed refl woken shows names
         (ap (λ (ws : List Waiter). s.waiting.woken ++ ws) (sym woken))
 
@@ -201,7 +201,7 @@ module _ {T : Type 0} (held : KeysHeld) (c : Channel T Waiter) (s : State T) (h 
         → Matches held s (call.Close handle) (if closed then ends [] (closer_ending closer.Call false) c else ends of_closing (closer_ending closer.Call true) (over_queue alone.with_closed c))
     closing handle true e = only_answers (call.Close handle) (reply.Closed false) _ refl (inl (rw (sym h.closed ∙ e) refl)) refl refl
     closing handle false e =
-        let woken = closing_wakes (line_at s.names) held s.channel.closed c.roster s.waiting [] h.lines ∙ append-nil _ in
+        let woken = closing_wakes (line_at s.names) held s.channel.closed c.wait_lists s.waiting [] h.lines ∙ append-nil _ in
         record {
           answer = after_telling Closing (with_channel (shut s.channel) s) (reply.Closed true);
           allowed = inl (rw (sym h.closed ∙ e) refl);
@@ -213,7 +213,7 @@ module _ {T : Type 0} (held : KeysHeld) (c : Channel T Waiter) (s : State T) (h 
             capacity = h.capacity;
             senders = h.senders;
             receivers = h.receivers;
-            lines = closing_lines (line_at s.names) held c.roster s.waiting lined (shut_lines (line_at s.names) held s.channel.closed c.roster s.waiting h.lines);
+            lines = closing_lines (line_at s.names) held c.wait_lists s.waiting lined (shut_lines (line_at s.names) held s.channel.closed c.wait_lists s.waiting h.lines);
             keys = keys_news (line_at s.names) held Closing s.waiting h.keys;
           };
           names = refl;

@@ -48,7 +48,7 @@ module _ {T : Type 0} (b : NameState T) (s : Configuration T Waiter) (kept : Wor
   told line = told_of line s.now
 
   abbrev waiting : WaitList → List (Key × Option Waiter)
-  waiting line = (listeners line s.now.roster).waiting
+  waiting line = (listeners line s.now.wait_lists).waiting
 
   -- ---- who holds what
 
@@ -90,7 +90,7 @@ module _ {T : Type 0} (b : NameState T) (s : Configuration T Waiter) (kept : Wor
   abbrev U : WaitList → List Waiter
   U line = (waiting_names line).0
 
-  all_names : (line : WaitList) → Stand (Has line) (keys (listeners line s.now.roster)) (D line ++ U line)
+  all_names : (line : WaitList) → Stand (Has line) (keys (listeners line s.now.wait_lists)) (D line ++ U line)
   all_names line = stand_join (Has line) (keys_of (told line)) (keys_of (waiting line)) (D line) (U line) (told_names line).1
       (waiting_names line).1
 
@@ -143,7 +143,7 @@ module _ {T : Type 0} (b : NameState T) (s : Configuration T Waiter) (kept : Wor
 
   -- ---- the lines
 
-  shows_line : (line : WaitList) → ShowsLine kind (held_of b.name_table) s.now.queue.closed line (listeners line s.now.roster) who
+  shows_line : (line : WaitList) → ShowsLine kind (held_of b.name_table) s.now.queue.closed line (listeners line s.now.wait_lists) who
   shows_line line =
       record {
         untold = subst (λ (ws : List Waiter). AreUntold (held_of b.name_table) (waiting line) ws) (sym (untold_are line))
@@ -154,7 +154,7 @@ module _ {T : Type 0} (b : NameState T) (s : Configuration T Waiter) (kept : Wor
             (sound.tellings.while_open line) (told_names line).1);
       }
 
-  shows_lines : ShowsLines kind (held_of b.name_table) s.now.queue.closed s.now.roster who
+  shows_lines : ShowsLines kind (held_of b.name_table) s.now.queue.closed s.now.wait_lists who
   shows_lines Sends = shows_line Sends
   shows_lines line = shows_line line
 
@@ -168,7 +168,7 @@ module _ {T : Type 0} (b : NameState T) (s : Configuration T Waiter) (kept : Wor
 
   once : (w : Waiter) (line : WaitList) → often w line ≤ 1
   once w line =
-      let one : times w (D line ++ U line) ≤ 1 = stand_once (Has line) (keys (listeners line s.now.roster)) (D line ++ U line)
+      let one : times w (D line ++ U line) ≤ 1 = stand_once (Has line) (keys (listeners line s.now.wait_lists)) (D line ++ U line)
       w (owned.once line) (one_key line w) (all_names line) in
       let split = both_lists w line in
       omega (arith, one, split)
@@ -183,7 +183,7 @@ module _ {T : Type 0} (b : NameState T) (s : Configuration T Waiter) (kept : Wor
 
   there : (w : Waiter) (line : WaitList) (key : Key) → Has line key w → 1 ≤ often w line
   there w line key h =
-      let one : 1 ≤ times w (D line ++ U line) = stand_there (Has line) (keys (listeners line s.now.roster))
+      let one : 1 ≤ times w (D line ++ U line) = stand_there (Has line) (keys (listeners line s.now.wait_lists))
       (D line ++ U line) w key (λ v g. one_name line key v w g h) (all_names line)
       (owned.listed (named w) (on line key) h) in
       let split = both_lists w line in

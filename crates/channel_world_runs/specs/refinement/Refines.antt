@@ -75,7 +75,7 @@ pub record Refines {T : Type 0} (held : KeysHeld) (c : Channel T Waiter) (s : St
   pub messages : c.queue.items ≡ s.channel.messages
   pub closed : c.queue.closed ≡ s.channel.closed
   pub capacity : c.queue.capacity ≡ s.channel.capacity
-  pub senders : c.roster.senders ≡ s.channel.senders
-  pub receivers : c.roster.receivers ≡ s.channel.receivers
-  pub lines : ShowsLines (line_at s.names) held s.channel.closed c.roster s.waiting
+  pub senders : c.wait_lists.senders ≡ s.channel.senders
+  pub receivers : c.wait_lists.receivers ≡ s.channel.receivers
+  pub lines : ShowsLines (line_at s.names) held s.channel.closed c.wait_lists s.waiting
   pub keys : KeysFit (line_at s.names) held s.waiting

@@ -25,15 +25,15 @@ module _ {T : Type 0} where
       messages = s.now.queue.items;
       capacity = s.now.queue.capacity;
       closed = s.now.queue.closed;
-      senders = s.now.roster.senders;
-      receivers = s.now.roster.receivers;
+      senders = s.now.wait_lists.senders;
+      receivers = s.now.wait_lists.receivers;
     };
     names = names_of b.name_table;
     waiting = record {
-      sends = tasks_of s.now.roster.sends.waiting;
-      receives = tasks_of s.now.roster.receives.waiting;
-      streams = tasks_of s.now.roster.streams.waiting;
-      closings = tasks_of s.now.roster.closings.waiting;
+      sends = tasks_of s.now.wait_lists.sends.waiting;
+      receives = tasks_of s.now.wait_lists.receives.waiting;
+      streams = tasks_of s.now.wait_lists.streams.waiting;
+      closings = tasks_of s.now.wait_lists.closings.waiting;
       woken = woken_in b.name_table b.order;
     };
   }

@@ -10,7 +10,7 @@ use Rattle.channel_calls.specs.Turns.{says, nothing_kept}
 use Rattle.channel_calls.specs.declared.ask.ChannelAsk.TheVariants as ask
 use Rattle.channel_calls.specs.declared.mark.Mark.TheVariants as mark
 use Rattle.channel_calls.specs.declared.reply.Reply.TheVariants as reply
-use Rattle.channel_calls.specs.declared.stage.Purpose.TheVariants as aim
+use Rattle.channel_calls.specs.declared.stage.Purpose.TheVariants as purpose
 use Rattle.channel_calls.specs.declared.stage.Stage.TheVariants.{Trying, Working, Finished}
 use Rattle.channel_calls.specs.declared.stage.ListStep.TheVariants.{TellReceive, TellStreams}
 use Rattle.channel_calls.proofs.Replying as replying
@@ -22,22 +22,22 @@ returns-in-None-clause-answers g c f has r m may =
     let one = c.force_push-call.result in
     let two = c.step_queue-answer.new.call in
     fast.displaces g.row.W.Denot f one c.args.message c.force_push-call.ensures.asked r m
-    (replying.goes_on {W = g.row.W.Denot} f one two aim.ForceSend _ c.in-None.is (c.step_queue-answer.ensures.answers f has) r m may)
+    (replying.goes_on {W = g.row.W.Denot} f one two purpose.ForceSend _ c.in-None.is (c.step_queue-answer.ensures.answers f has) r m may)
 
 pub returns-in-Err-clause-answers : goal.returns-in-Err-clause-answers
 returns-in-Err-clause-answers g c f has =
     let is = c.in-Some.is ∙ ap (λ (z : QueueReply g.row.T.Denot). Some z) c.in-Err.ensures in
     let one = c.force_push-call.result in
     let two = c.step_queue-answer.new.call in
-    fast.gives_by f one aim.ForceSend (ask.ForceSend c.args.message) (fast.displaces g.row.W.Denot f one c.args.message c.force_push-call.ensures.asked) _ _ c.turned.ensures.goes
+    fast.gives_by f one purpose.ForceSend (ask.ForceSend c.args.message) (fast.displaces g.row.W.Denot f one c.args.message c.force_push-call.ensures.asked) _ _ c.turned.ensures.goes
     (fast.keeps_by _ _ c.forced_next.ensures (fast.forced_keeps c.in-Err.answer))
-    (replying.answers f one two aim.ForceSend _ c.in-Err.answer is (c.step_queue-answer.ensures.answers f has) _ c.forced_next.ensures)
+    (replying.answers f one two purpose.ForceSend _ c.in-Err.answer is (c.step_queue-answer.ensures.answers f has) _ c.forced_next.ensures)
 
 pub returns-in-None-clause-deeds : goal.returns-in-None-clause-deeds
 returns-in-None-clause-deeds g c =
     let did = Done g.C.ChannelCells.did g.S.Wakes.wakes in
     let k = c.args.sink.now in
-    walking.goes_on did (c.args.cells.now, k) (c.step_queue-answer.new.self, k) (queue_ask.ForcePush c.args.message) aim.ForceSend c.force_push-call.result c.step_queue-answer.new.call
+    walking.goes_on did (c.args.cells.now, k) (c.step_queue-answer.new.self, k) (queue_ask.ForcePush c.args.message) purpose.ForceSend c.force_push-call.result c.step_queue-answer.new.call
     c.force_push-call.ensures.starts c.force_push-call.ensures.asked _ (c.step_queue-answer.ensures.deed, refl) c.in-None.is c.of_queue-mark.result
 
 pub returns-in-Ok-clause-deeds : goal.returns-in-Ok-clause-deeds
@@ -55,7 +55,7 @@ returns-in-Ok-clause-deeds g c =
     in
     let first = c.tell_one.ensures.deed in
     let second = c.tell_all.ensures.deed in (
-      Trying one aim.ForceSend,
+      Trying one purpose.ForceSend,
       (one, c.force_push-call.ensures.starts, c.force_push-call.ensures.asked, refl, refl),
       (
         2,
@@ -80,6 +80,6 @@ returns-in-Err-clause-deeds g c =
     let did = Done g.C.ChannelCells.did g.S.Wakes.wakes in
     let k = c.args.sink.now in
     let is = c.in-Some.is ∙ ap (λ (z : QueueReply g.row.T.Denot). Some z) c.in-Err.ensures in
-    walking.answers did (c.args.cells.now, k) (c.step_queue-answer.new.self, k) (queue_ask.ForcePush c.args.message) aim.ForceSend c.force_push-call.result c.step_queue-answer.new.call
+    walking.answers did (c.args.cells.now, k) (c.step_queue-answer.new.self, k) (queue_ask.ForcePush c.args.message) purpose.ForceSend c.force_push-call.result c.step_queue-answer.new.call
     c.force_push-call.ensures.starts c.force_push-call.ensures.asked _ (c.step_queue-answer.ensures.deed, refl) c.in-Err.answer is _ c.forced_next.ensures
     (fast.keeps_by _ _ c.forced_next.ensures (fast.forced_keeps c.in-Err.answer)) _ c.turned.ensures.goes

@@ -10,7 +10,7 @@ use Rattle.channel_calls.specs.Turns.{says, nothing_kept}
 use Rattle.channel_calls.specs.declared.ask.ChannelAsk.TheVariants as ask
 use Rattle.channel_calls.specs.declared.mark.Mark.TheVariants as mark
 use Rattle.channel_calls.specs.declared.reply.Reply.TheVariants as reply
-use Rattle.channel_calls.specs.declared.stage.Purpose.TheVariants as aim
+use Rattle.channel_calls.specs.declared.stage.Purpose.TheVariants as purpose
 use Rattle.channel_calls.specs.declared.stage.Stage.TheVariants.{Trying, Working, Finished}
 use Rattle.channel_calls.specs.declared.stage.ListStep.TheVariants.{TellSend}
 use Rattle.channel_calls.proofs.Replying as replying
@@ -22,22 +22,22 @@ returns-in-None-clause-answers g c f has r m may =
     let one = c.pop-call.result in
     let two = c.step_queue-answer.new.call in
     fast.receives g.row.W.Denot f one c.pop-call.ensures.asked r m
-    (replying.goes_on {W = g.row.W.Denot} f one two aim.TryRecv _ c.in-None.is (c.step_queue-answer.ensures.answers f has) r m may)
+    (replying.goes_on {W = g.row.W.Denot} f one two purpose.TryRecv _ c.in-None.is (c.step_queue-answer.ensures.answers f has) r m may)
 
 pub returns-in-Err-clause-answers : goal.returns-in-Err-clause-answers
 returns-in-Err-clause-answers g c f has =
     let is = c.in-Some.is ∙ ap (λ (z : QueueReply g.row.T.Denot). Some z) c.in-Err.ensures in
     let one = c.pop-call.result in
     let two = c.step_queue-answer.new.call in
-    fast.gives_by f one aim.TryRecv ask.TryRecv (fast.receives g.row.W.Denot f one c.pop-call.ensures.asked) _ _ c.turned.ensures.goes
+    fast.gives_by f one purpose.TryRecv ask.TryRecv (fast.receives g.row.W.Denot f one c.pop-call.ensures.asked) _ _ c.turned.ensures.goes
     (fast.keeps_by _ _ c.received_next.ensures (fast.received_keeps c.in-Err.answer))
-    (replying.answers f one two aim.TryRecv _ c.in-Err.answer is (c.step_queue-answer.ensures.answers f has) _ c.received_next.ensures)
+    (replying.answers f one two purpose.TryRecv _ c.in-Err.answer is (c.step_queue-answer.ensures.answers f has) _ c.received_next.ensures)
 
 pub returns-in-None-clause-deeds : goal.returns-in-None-clause-deeds
 returns-in-None-clause-deeds g c =
     let did = Done g.C.ChannelCells.did g.S.Wakes.wakes in
     let k = c.args.sink.now in
-    walking.goes_on did (c.args.cells.now, k) (c.step_queue-answer.new.self, k) queue_ask.Pop aim.TryRecv c.pop-call.result c.step_queue-answer.new.call
+    walking.goes_on did (c.args.cells.now, k) (c.step_queue-answer.new.self, k) queue_ask.Pop purpose.TryRecv c.pop-call.result c.step_queue-answer.new.call
     c.pop-call.ensures.starts c.pop-call.ensures.asked _ (c.step_queue-answer.ensures.deed, refl) c.in-None.is c.of_queue-mark.result
 
 pub returns-in-Ok-clause-deeds : goal.returns-in-Ok-clause-deeds
@@ -53,7 +53,7 @@ returns-in-Ok-clause-deeds g c =
     subst (λ (o : Option (QueueReply g.row.T.Denot)). g.C.ChannelCells.did (stepped one two o) c.args.cells.now s1) is c.step_queue-answer.ensures.deed
     in
     let tells = c.tell_one.ensures.deed in (
-      Trying one aim.TryRecv,
+      Trying one purpose.TryRecv,
       (one, c.pop-call.ensures.starts, c.pop-call.ensures.asked, refl, refl),
       (
         1,
@@ -72,6 +72,6 @@ returns-in-Err-clause-deeds g c =
     let did = Done g.C.ChannelCells.did g.S.Wakes.wakes in
     let k = c.args.sink.now in
     let is = c.in-Some.is ∙ ap (λ (z : QueueReply g.row.T.Denot). Some z) c.in-Err.ensures in
-    walking.answers did (c.args.cells.now, k) (c.step_queue-answer.new.self, k) queue_ask.Pop aim.TryRecv c.pop-call.result c.step_queue-answer.new.call
+    walking.answers did (c.args.cells.now, k) (c.step_queue-answer.new.self, k) queue_ask.Pop purpose.TryRecv c.pop-call.result c.step_queue-answer.new.call
     c.pop-call.ensures.starts c.pop-call.ensures.asked _ (c.step_queue-answer.ensures.deed, refl) c.in-Err.answer is _ c.received_next.ensures
     (fast.keeps_by _ _ c.received_next.ensures (fast.received_keeps c.in-Err.answer)) _ c.turned.ensures.goes

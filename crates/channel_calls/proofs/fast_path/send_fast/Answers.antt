@@ -10,7 +10,7 @@ use Rattle.channel_calls.specs.Turns.{says, nothing_kept}
 use Rattle.channel_calls.specs.declared.ask.ChannelAsk.TheVariants as ask
 use Rattle.channel_calls.specs.declared.mark.Mark.TheVariants as mark
 use Rattle.channel_calls.specs.declared.reply.Reply.TheVariants as reply
-use Rattle.channel_calls.specs.declared.stage.Purpose.TheVariants as aim
+use Rattle.channel_calls.specs.declared.stage.Purpose.TheVariants as purpose
 use Rattle.channel_calls.specs.declared.stage.Stage.TheVariants.{Trying, Working, Finished}
 use Rattle.channel_calls.specs.declared.stage.ListStep.TheVariants.{TellReceive, TellStreams}
 use Rattle.channel_calls.proofs.Replying as replying
@@ -22,22 +22,22 @@ returns-in-None-clause-answers g c f has r m may =
     let one = c.push-call.result in
     let two = c.step_queue-answer.new.call in
     fast.sends g.row.W.Denot f one c.args.message c.push-call.ensures.asked r m
-    (replying.goes_on {W = g.row.W.Denot} f one two aim.TrySend _ c.in-None.is (c.step_queue-answer.ensures.answers f has) r m may)
+    (replying.goes_on {W = g.row.W.Denot} f one two purpose.TrySend _ c.in-None.is (c.step_queue-answer.ensures.answers f has) r m may)
 
 pub returns-in-Err-clause-answers : goal.returns-in-Err-clause-answers
 returns-in-Err-clause-answers g c f has =
     let is = c.in-Some.is ∙ ap (λ (z : QueueReply g.row.T.Denot). Some z) c.in-Err.ensures in
     let one = c.push-call.result in
     let two = c.step_queue-answer.new.call in
-    fast.gives_by f one aim.TrySend (ask.TrySend c.args.message) (fast.sends g.row.W.Denot f one c.args.message c.push-call.ensures.asked) _ _ c.turned.ensures.goes
+    fast.gives_by f one purpose.TrySend (ask.TrySend c.args.message) (fast.sends g.row.W.Denot f one c.args.message c.push-call.ensures.asked) _ _ c.turned.ensures.goes
     (fast.keeps_by _ _ c.sent_next.ensures (fast.sent_keeps c.in-Err.answer))
-    (replying.answers f one two aim.TrySend _ c.in-Err.answer is (c.step_queue-answer.ensures.answers f has) _ c.sent_next.ensures)
+    (replying.answers f one two purpose.TrySend _ c.in-Err.answer is (c.step_queue-answer.ensures.answers f has) _ c.sent_next.ensures)
 
 pub returns-in-None-clause-deeds : goal.returns-in-None-clause-deeds
 returns-in-None-clause-deeds g c =
     let did = Done g.C.ChannelCells.did g.S.Wakes.wakes in
     let k = c.args.sink.now in
-    walking.goes_on did (c.args.cells.now, k) (c.step_queue-answer.new.self, k) (queue_ask.Push c.args.message) aim.TrySend c.push-call.result c.step_queue-answer.new.call
+    walking.goes_on did (c.args.cells.now, k) (c.step_queue-answer.new.self, k) (queue_ask.Push c.args.message) purpose.TrySend c.push-call.result c.step_queue-answer.new.call
     c.push-call.ensures.starts c.push-call.ensures.asked _ (c.step_queue-answer.ensures.deed, refl) c.in-None.is c.of_queue-mark.result
 
 pub returns-in-Ok-clause-deeds : goal.returns-in-Ok-clause-deeds
@@ -54,7 +54,7 @@ returns-in-Ok-clause-deeds g c =
     in
     let first = c.tell_one.ensures.deed in
     let second = c.tell_all.ensures.deed in (
-      Trying one aim.TrySend,
+      Trying one purpose.TrySend,
       (one, c.push-call.ensures.starts, c.push-call.ensures.asked, refl, refl),
       (
         2,
@@ -79,6 +79,6 @@ returns-in-Err-clause-deeds g c =
     let did = Done g.C.ChannelCells.did g.S.Wakes.wakes in
     let k = c.args.sink.now in
     let is = c.in-Some.is ∙ ap (λ (z : QueueReply g.row.T.Denot). Some z) c.in-Err.ensures in
-    walking.answers did (c.args.cells.now, k) (c.step_queue-answer.new.self, k) (queue_ask.Push c.args.message) aim.TrySend c.push-call.result c.step_queue-answer.new.call
+    walking.answers did (c.args.cells.now, k) (c.step_queue-answer.new.self, k) (queue_ask.Push c.args.message) purpose.TrySend c.push-call.result c.step_queue-answer.new.call
     c.push-call.ensures.starts c.push-call.ensures.asked _ (c.step_queue-answer.ensures.deed, refl) c.in-Err.answer is _ c.sent_next.ensures
     (fast.keeps_by _ _ c.sent_next.ensures (fast.sent_keeps c.in-Err.answer)) _ c.turned.ensures.goes

@@ -5,7 +5,7 @@ use Rattle.channel_calls.proofs.Replying as replying
 use Rattle.channel_calls.proofs.step.stage_step.Goals as goal
 
 pub returns-in-Trying-clause-answers : goal.returns-in-Trying-clause-answers
-returns-in-Trying-clause-answers g c f has = replying.at_stage _ f _ (Trying c.in-Trying.call c.in-Trying.aim) c.in-Trying.is _ _ (c.try_step.ensures.answers f has)
+returns-in-Trying-clause-answers g c f has = replying.at_stage _ f _ (Trying c.in-Trying.call c.in-Trying.purpose) c.in-Trying.is _ _ (c.try_step.ensures.answers f has)
 
 pub returns-in-Working-clause-answers : goal.returns-in-Working-clause-answers
 returns-in-Working-clause-answers g c f has = replying.at_stage _ f _ (Working c.in-Working.work) c.in-Working.is _ _ (c.work_step.ensures.answers f)

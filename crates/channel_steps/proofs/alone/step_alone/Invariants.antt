@@ -13,4 +13,4 @@ invariant-loop-reply g l =
     × StaysAmple a l.initial.channel l.channel l.call.stage
 
 abbrev pub decreases-loop-reply : goal.decreases-loop-reply
-decreases-loop-reply g l = let p = parts_of l.channel in steps_left p.cells p.roster l.call.stage
+decreases-loop-reply g l = let p = parts_of l.channel in steps_left p.cells p.wait_lists l.call.stage

@@ -4,7 +4,7 @@ use Rattle.concurrent_queue.specs.declared.call.QueueAsk.TheVariants as queue_as
 use Rattle.channel_calls.specs.Turns.{says}
 use Rattle.channel_calls.specs.declared.ask.ChannelAsk.TheVariants as ask
 use Rattle.channel_calls.specs.declared.reply.Reply.TheVariants as reply
-use Rattle.channel_calls.specs.declared.stage.Purpose.TheVariants as aim
+use Rattle.channel_calls.specs.declared.stage.Purpose.TheVariants as purpose
 use Rattle.channel_calls.specs.declared.stage.ListStep.TheVariants as work
 use Rattle.channel_calls.specs.Plain.{parts_of}
 use Rattle.channel_steps.proofs.solo.ConfigurationLoop.{answers_alone}
@@ -13,13 +13,13 @@ use Rattle.channel_steps.proofs.fast_path.receive_alone.Goals as goal
 
 pub loop-answer-init : goal.loop-answer-init
 loop-answer-init g c =
-    comes_in g.S.Wakes.wakes ask.TryRecv c.args.channel.now c.args.sink.now c.args.messages.now queue_ask.Pop aim.TryRecv
+    comes_in g.S.Wakes.wakes ask.TryRecv c.args.channel.now c.args.sink.now c.args.messages.now queue_ask.Pop purpose.TryRecv
     c.pop-call.result refl c.pop-call.ensures.starts
 
 pub loop-answer-smaller : goal.loop-answer-smaller
 loop-answer-smaller g c =
     let l = c.loop-answer in
-    tries_nearer g.S.Wakes.wakes ask.TryRecv c.args.channel.now c.args.sink.now c.args.messages.now aim.TryRecv l.channel
+    tries_nearer g.S.Wakes.wakes ask.TryRecv c.args.channel.now c.args.sink.now c.args.messages.now purpose.TryRecv l.channel
     c.step_queue-answer.new.self l.call c.step_queue-answer.new.call l.sink l.messages c.counted.result l.invariant c.last_mark.result
     c.last_mark.ensures c.counted.ensures c.step_queue-answer.result c.step_queue-answer.ensures.deed c.in_default.is
     c.requires.at_rest
@@ -27,14 +27,14 @@ loop-answer-smaller g c =
 pub loop-answer-preserved : goal.loop-answer-preserved
 loop-answer-preserved g c =
     let l = c.loop-answer in
-    tries_on g.S.Wakes.wakes ask.TryRecv c.args.channel.now c.args.sink.now c.args.messages.now aim.TryRecv l.channel
+    tries_on g.S.Wakes.wakes ask.TryRecv c.args.channel.now c.args.sink.now c.args.messages.now purpose.TryRecv l.channel
     c.step_queue-answer.new.self l.call c.step_queue-answer.new.call l.sink l.messages c.counted.result l.invariant c.last_mark.result
     c.last_mark.ensures c.counted.ensures c.step_queue-answer.result c.step_queue-answer.ensures.deed c.in_default.is
 
 pub returns-in-Err : goal.returns-in-Err
 returns-in-Err g c =
     let l = c.loop-answer in
-    let over = tries_over g.S.Wakes.wakes ask.TryRecv c.args.channel.now c.args.sink.now c.args.messages.now aim.TryRecv l.channel
+    let over = tries_over g.S.Wakes.wakes ask.TryRecv c.args.channel.now c.args.sink.now c.args.messages.now purpose.TryRecv l.channel
     c.step_queue-answer.new.self l.call c.step_queue-answer.new.call l.sink l.messages c.counted.result l.invariant c.last_mark.result
     c.last_mark.ensures c.counted.ensures c.step_queue-answer.result c.step_queue-answer.ensures.deed
     c.in-Some.answer c.in-Err.reply c.answers.result c.in-Some.is c.in-Err.ensures c.answers.ensures in
@@ -51,7 +51,7 @@ returns-in-Some g c =
     let over = tells_one_over g.S.Wakes.wakes ask.TryRecv c.args.channel.now c.args.sink.now c.args.messages.now
     (reply.TryRecv (Ok c.in-Ok.message)) c.answers-in-Some.result c.step_queue-answer.new.self c.tell_one.new.self l.sink
     c.tell_one.new.sink c.counted.result
-    (tries_well g.S.Wakes.wakes ask.TryRecv c.args.channel.now c.args.sink.now c.args.messages.now aim.TryRecv l.channel
+    (tries_well g.S.Wakes.wakes ask.TryRecv c.args.channel.now c.args.sink.now c.args.messages.now purpose.TryRecv l.channel
     c.step_queue-answer.new.self l.call c.step_queue-answer.new.call l.sink l.messages c.counted.result l.invariant c.last_mark.result
     c.last_mark.ensures c.counted.ensures c.step_queue-answer.result c.step_queue-answer.ensures.deed
     c.in-Some.answer (work.TellSend (says (reply.TryRecv (Ok c.in-Ok.message)))) c.in-Some.is (rw c.in-Ok.ensures refl))

@@ -16,8 +16,8 @@ returns g c =
     let f = world_state_of c.args.self.now in
     let line = c.args.line in
     let s = at_rest f in
-    let wait : c.waiting.result ≡ length (listeners line (parts_in f).roster).waiting =
-    subst (λ (x : WorldState g.row.T.Denot). c.waiting.result ≡ length (listeners line (parts_in x).roster).waiting) (inside_is c.self.inside.world_state c.args.self.now c.self.view_is)
+    let wait : c.waiting.result ≡ length (listeners line (parts_in f).wait_lists).waiting =
+    subst (λ (x : WorldState g.row.T.Denot). c.waiting.result ≡ length (listeners line (parts_in x).wait_lists).waiting) (inside_is c.self.inside.world_state c.args.self.now c.self.view_is)
     c.waiting.ensures in
     let stand = as_many_wait f c.keeps_names.ensures.stands c.requires.quiet c.a_channel_at_rest_is_a_world.ensures.as_in_the_world line in
     let told : c.in_ok-told.told ≡ woken_of_line line s =

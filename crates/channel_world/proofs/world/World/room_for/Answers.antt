@@ -11,7 +11,7 @@ use Rattle.channel_world.proofs.world.World.room_for.Goals as goal
 pub returns-in_default : goal.returns-in_default
 returns-in_default g c =
     let f = c.self.inside.world_state in
-    let few = few_tasks (parts_in f).roster.streams.waiting in
+    let few = few_tasks (parts_in f).wait_lists.streams.waiting in
     let most = closes_nothing c.args.call.now (at_rest f).waiting c.in_default.not-Close c.in_default.not-Drop c.in_default.not-RecvMany in
     let count = c.waiting-in_default.ensures in
     subst (λ (x : WorldState g.row.T.Denot). IfSome c.checked_add.result (λ n. most_woken c.args.call.now (at_rest x).waiting ≤ n)) (inside_is c.self.inside.world_state c.args.self.now c.self.view_is)
@@ -20,7 +20,7 @@ returns-in_default g c =
 pub returns-in-RecvMany : goal.returns-in-RecvMany
 returns-in-RecvMany g c =
     let f = c.self.inside.world_state in
-    let few = few_tasks (parts_in f).roster.sends.waiting in
+    let few = few_tasks (parts_in f).wait_lists.sends.waiting in
     let count = c.waiting.ensures in
     let enough : length (at_rest f).waiting.sends ≤ c.waiting.result = omega (arith, few, count) in
     subst (λ (x : Call g.row.T.Denot). most_woken x (at_rest (world_state_of c.args.self.now)).waiting ≤ c.waiting.result) (sym c.in-RecvMany.is)

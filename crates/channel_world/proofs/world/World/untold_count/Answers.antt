@@ -9,7 +9,7 @@ use Rattle.channel_world.proofs.world.World.untold_count.Goals as goal
 
 pub returns : goal.returns
 returns g c =
-    let r = (parts_in c.self.inside.world_state).roster in
+    let r = (parts_in c.self.inside.world_state).wait_lists in
     let a = few_tasks r.sends.waiting in
     let b = few_tasks r.receives.waiting in
     let d = few_tasks r.streams.waiting in
