@@ -30,7 +30,7 @@ pub enum TryRecvError {
 }
 
 /// A refusal: by the channel, or for want of memory or of serials, with what is handed back. Own to this project.
-#[derive(Clone, Debug, Drop, PartialEq, Eq)]
+#[derive(Clone, Copy, Debug, Drop, PartialEq, Eq)]
 pub enum Refused<E, K = ()> {
     /// The channel's own refusal.
     Plain(E),

@@ -3,7 +3,7 @@ use super::name::{HandleId, OpId};
 
 /// A call, made on handles and operations by their names. Own to this project; each does what the method of this name does in
 /// `async-channel` 2.5.0, if there is one.
-#[derive(Drop, PartialEq, Eq)]
+#[derive(Clone, Copy, Drop, PartialEq, Eq)]
 pub enum Call<T> {
     /// A new operation `op` that sends `msg` through the sender.
     NewSend { op: OpId, sender: HandleId, msg: T },

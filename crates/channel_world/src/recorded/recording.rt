@@ -6,7 +6,7 @@ ghost use Rattle.channel_world.specs.Listed.{listed, most_listed};
 ghost use Rattle.channel_world.specs.World.{most_woken};
 ghost use Rattle.channel_world.specs.View.{at_rest};
 
-use super::copies::{copied_call, copied_reply, filled, most_listed};
+use super::copies::{copied_reply, filled, most_listed};
 use super::error::{RecordError, SeatsUsedUp};
 use super::names::Names;
 use super::receipt::Receipt;
@@ -220,7 +220,7 @@ fn ask<T: Copy>(
     let messages = Vec::with_capacity(world.alloc(), most_listed(call)).ok()?;
     entries.reserve(1).ok()?;
     asked.reserve(1).ok()?;
-    asked.push_back_reserved(copied_call(call));
+    asked.push_back_reserved(*call);
     Some(Lists { names, messages })
 }
 
@@ -247,7 +247,7 @@ fn copied_receipt<T: Copy>(entry: &Receipt<T>, lists: Lists<T>) -> Receipt<T>
     Receipt {
         place: entry.place,
         seat: entry.seat,
-        call: copied_call(&entry.call),
+        call: entry.call,
         reply: copied_reply(&entry.reply, lists.messages),
         woken: Names::new(filled(lists.names, entry.woken.as_slice())),
     }
