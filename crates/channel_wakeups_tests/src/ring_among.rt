@@ -2,8 +2,8 @@
 
 ghost use Rattle.std.specs.Prelude.{◌≡◌, ◌<◌};
 
+use crate::crowd::{end_all, offer_all, receive_next, receive_until_closed};
 use crate::ring::received;
-use crate::{end_all, offer_all, receive_next, receive_until_closed};
 use channel_wakeups::{Channel, Form, OpenedRing, Pass, RingChannel, Room};
 use std::alloc::Global;
 use std::marker::Brand;

@@ -1,5 +1,18 @@
-use super::*;
-use channel_wakeups::{Blocked, Unopened, Untaken};
+use crate::beside::{
+    Woken, close_beside_a_receive, close_beside_a_send, close_beside_a_stream, displace,
+    message_beside_a_stream,
+};
+use crate::blocked::{
+    block_among, block_in_ring, close_a_blocked_ring, close_beside_a_blocked_send,
+};
+use crate::counted::{let_all_go, let_two_go};
+use crate::crowd::{Closed, Outcome, close_among, rush};
+use crate::rest::{Found, look_at_rings, three_are_held};
+use crate::ring::{Turned, turn};
+use crate::ring_among::{Ended, close_ring_among, pass_on};
+use crate::rung::{Rung, Tolled, Tolls, toll};
+use crate::several::{Taken, take_several};
+use channel_wakeups::{Blocked, Rest, Unopened, Untaken};
 use std::test::*;
 
 // Four threads: all that was sent came. Beside a message the last receive was told, and beside a free place the last send.

@@ -1,5 +1,5 @@
 use Rattle.std.proofs.Common.{◌≡◌}
-use Rattle.channel_wakeups_tests.proofs.send_all.Given as goal
+use Rattle.channel_wakeups_tests.proofs.crowd.send_all.Given as goal
 
 abbrev pub invariant-loop-number : goal.invariant-loop-number
 invariant-loop-number g l = l.pass.parts ≡ l.fn.pass.parts
