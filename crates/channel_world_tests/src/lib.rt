@@ -9,7 +9,8 @@ mod call_rows;
 mod calls;
 #[cfg(test)]
 mod checks;
-pub mod clients;
+#[cfg(test)]
+mod clients;
 #[cfg(test)]
 mod crowds;
 #[cfg(test)]
@@ -40,6 +41,7 @@ mod step_counts;
 mod step_rows;
 #[cfg(test)]
 mod steps;
-pub mod unaided;
+#[cfg(test)]
+mod unaided;
 #[cfg(test)]
 mod worlds;

@@ -4,7 +4,8 @@
 
 #[cfg(test)]
 mod beside;
-pub mod by_steps;
+#[cfg(test)]
+mod by_steps;
 #[cfg(test)]
 mod checks;
 #[cfg(test)]
@@ -31,4 +32,5 @@ mod shared;
 mod turn_rows;
 #[cfg(test)]
 mod turns;
-pub mod walks;
+#[cfg(test)]
+mod walks;
