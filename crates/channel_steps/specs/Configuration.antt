@@ -227,10 +227,6 @@ module _ {T W : Type 0} where
   abbrev pub HasParty : ℕ → List (Party T W) → ℕ → Type 0
   HasParty p parties k = (call : ChannelCall T W) × (slice_get parties k ≡ Some (record { id = p; call = call }))
 
-  -- what the call of the k-th party leaves to its operation
-  abbrev pub IsLeftBy : List (Party T W) → ℕ → Returned T → Type 0
-  IsLeftBy parties k kept = (p : Party T W) → slice_get parties k ≡ Some p → kept ≡ kept_by p.call.stage
-
   abbrev pub left_by : Party T W → Option (Reply T) → Option (Returned T)
   left_by p None = None
   left_by p (Some r) = Some (kept_by p.call.stage)

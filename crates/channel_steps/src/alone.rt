@@ -14,33 +14,6 @@ use channel_calls::plain::PlainChannel;
 use channel_calls::whole::Completed;
 use event_listener::wakes::Wakes;
 
-/// Makes a call from its beginning to its end, and chooses each of its steps.
-fn step_alone<T: Drop, W: Drop, S: Wakes<W>>(
-    ask: ChannelAsk<T, W>,
-    channel: &mut PlainChannel<T, W>,
-    messages: &mut u64,
-    sink: &mut S,
-) -> Completed<T>
-    requires at_rest { IsAtRest (parts_of channel.old) }
-    ensures alone { AnswersAlone S.wakes ask (parts_of channel.old) sink.old result (parts_of channel.new) sink.new }
-    ensures configurations { RunsInConfigurations S.wakes ask (parts_of channel.old) sink.old messages.old
-        result (parts_of channel.new) sink.new messages.new }
-    ensures ample { HasNode ask (parts_of channel.old) → lacks_memory result.reply ≡ false }
-{
-    let mut call = ChannelCall::new(ask);
-    loop {
-        let reply = call.step(channel, sink);
-        *messages = counted(*messages, call.last_mark());
-        match reply {
-            Some(reply) => {
-                let kept = call.into_kept();
-                return Completed { reply, kept };
-            }
-            None => {}
-        }
-    }
-}
-
 /// Makes a call of a channel of one owner from its beginning to its end, with no other call under way, and never waits.
 /// Tasks that it wakes go to the sink in order. Want of memory is answered as the call's own refusal, with the message kept
 /// or handed back. Where it is told how many messages the channel holds, it says so of the channel after it.
@@ -61,9 +34,18 @@ pub fn run_alone<T: Drop, W: Drop, S: Wakes<W>>(
         result (parts_of channel.new) sink.new messages.new }
     ensures ample { HasNode ask (parts_of channel.old) → lacks_memory result.reply ≡ false }
 {
-    match ask {
-        ChannelAsk::TrySend(message) => send_alone(message, channel, messages, sink),
-        ChannelAsk::TryRecv => receive_alone(channel, messages, sink),
-        ask => step_alone(ask, channel, messages, sink),
+    let ask = match ask {
+        ChannelAsk::TrySend(message) => return send_alone(message, channel, messages, sink),
+        ChannelAsk::TryRecv => return receive_alone(channel, messages, sink),
+        ask => ask,
+    };
+    let mut call = ChannelCall::new(ask);
+    loop {
+        let reply = call.step(channel, sink);
+        *messages = counted(*messages, call.last_mark());
+        if let Some(reply) = reply {
+            let kept = call.into_kept();
+            return Completed { reply, kept };
+        }
     }
 }

@@ -1,9 +1,8 @@
 //! The parties of a channel: the beginning of a call, and one step of a call under way. [`Step`](crate::run::Step) names the two.
 
 ghost use Rattle.std.specs.Prelude.{◌≡◌, ◌<◌, ◌++◌, ◌∷◌, [], vec_len, vec_capacity};
-ghost use Rattle.std.specs.List.{remove};
 ghost use Rattle.channel_steps.specs.Run.{HasBegun};
-ghost use Rattle.channel_steps.specs.Configuration.{parties_in, unless_answered, StepsAt, IsLeftBy};
+ghost use Rattle.channel_steps.specs.Configuration.{parties_in, unless_answered, StepsAt};
 
 use channel_calls::ask::ChannelAsk;
 use channel_calls::call::ChannelCall;
@@ -98,15 +97,6 @@ pub fn begin<T: Drop, W: Drop>(
     }
 }
 
-/// Takes the k-th party out, whose call has answered, with what it leaves to its operation.
-fn leave<T: Drop, W: Drop>(parties: &mut Vec<Party<T, W>>, k: usize) -> Returned<T>
-    requires { k < vec_len parties.old }
-    ensures parties { parties.new.items ≡ remove parties.old.items k }
-    ensures kept { IsLeftBy parties.old.items k result }
-{
-    parties.remove(k).into_kept()
-}
-
 /// One step of the k-th call under way. A call that answers is under way no more. Nothing waits. Own to this project.
 pub fn step_at<T: Drop, W: Drop, C: ChannelCells<T, W>, S: Wakes<W>>(
     parties: &mut Vec<Party<T, W>>,
@@ -122,7 +112,7 @@ pub fn step_at<T: Drop, W: Drop, C: ChannelCells<T, W>, S: Wakes<W>>(
     let reply = party.step(cells, sink);
     let mark = party.last_mark();
     let kept = match &reply {
-        Some(_) => Some(leave(parties, k)),
+        Some(_) => Some(parties.remove(k).into_kept()),
         None => None,
     };
     Entry { mark, reply, kept }

@@ -26,7 +26,7 @@ impl<X> Directory<X> {
     ghost use Rattle.std.specs.Prelude.{◌≡◌, ◌<◌, ◌^◌, ◌∷◌, [], length, nat_eq, false, option_copied, IfNone, IfOk, IfErr, OnOk, OnErr};
     ghost use Rattle.std.specs.List.{IsDistinct};
     ghost use Rattle.std.specs.Map.{keys_of};
-    ghost use Rattle.channel_world_model.specs.Names.{at, is_taken, with_new, with_changed, without_name};
+    ghost use Rattle.channel_world_model.specs.Names.{at, is_taken, with_new, without_name};
 
     /// No name was taken.
     pub fn new(alloc: Global) -> Result<Directory<X>, AllocError>
@@ -40,10 +40,7 @@ impl<X> Directory<X> {
     pub fn get(&self, name: u32) -> Option<&X>
         ensures { option_copied result ≡ at name self.now }
     {
-        match self.entries.peek(&name) {
-            Some(Some(x)) => Some(x),
-            _ => None,
-        }
+        self.entries.peek(&name)?.as_ref()
     }
 
     /// Whether the name was ever taken.
@@ -75,10 +72,7 @@ impl<X> Directory<X> {
         match self.entries.push(name, x) {
             Ok(None) => Ok(()),
             Ok(Some((_, x))) => Err(x),
-            Err(failed) => {
-                let (_, x) = failed.value;
-                Err(x)
-            }
+            Err(failed) => Err(failed.value.1),
         }
     }
 
@@ -96,34 +90,13 @@ impl<X> Directory<X> {
         }
     }
 
-    /// What lives under the name, or lived there, is this from now on; gives what lived there. A name that was never taken
-    /// stays so, and this comes back.
-    fn swap(&mut self, name: u32, x: X) -> Option<X>
-        ensures { self.new ≡ with_changed name x self.old }
-    {
-        match self.entries.peek_mut(&name) {
-            Some(place) => place.replace(x),
-            None => Some(x),
-        }
-    }
-
-    fn take_out(&mut self, name: u32) -> Option<X>
-        ensures found { result ≡ at name self.old }
-        ensures rest { self.new ≡ without_name name self.old }
-    {
-        match self.entries.peek_mut(&name) {
-            Some(x) => x.take(),
-            None => None,
-        }
-    }
-
     /// Takes what lives under the name; the name stays taken.
     pub fn take(&mut self, name: u32) -> Option<X>
         ensures found { result ≡ at name self.old }
         ensures rest { self.new ≡ without_name name self.old }
         ensures none { IfNone result (self.new ≡ self.old) }
     {
-        self.take_out(name)
+        self.entries.peek_mut(&name)?.take()
     }
 }
 
@@ -138,10 +111,7 @@ impl<X: Drop> Directory<X> {
         ensures ok { OnTrue result (self.new ≡ with_spent name self.old) }
         ensures err { OnFalse result (self.new ≡ self.old) }
     {
-        match self.put(name, None) {
-            Ok(()) => true,
-            Err(_) => false,
-        }
+        self.put(name, None).is_ok()
     }
 
     /// What lives under the name, or lived there, is this from now on. A name that was never taken stays so.
@@ -149,6 +119,8 @@ impl<X: Drop> Directory<X> {
         ensures set { self.new ≡ with_changed name x self.old }
         ensures taken { (before : List (ℕ × Option X)) → self.old ≡ without_name name before → self.new ≡ with_changed name x before }
     {
-        let _before = self.swap(name, x);
+        if let Some(place) = self.entries.peek_mut(&name) {
+            *place = Some(x);
+        }
     }
 }

@@ -74,22 +74,6 @@ pub enum Operation<T> {
     },
 }
 
-ghost use Rattle.std.specs.Prelude.{◌≡◌};
-ghost use Rattle.channel_world_model.specs.Laws.{same_line};
-
-/// Whether these are one line.
-fn is_same(a: WaitList, b: WaitList) -> bool
-    ensures { result ≡ same_line a b }
-{
-    match (a, b) {
-        (WaitList::Sends, WaitList::Sends)
-        | (WaitList::Receives, WaitList::Receives)
-        | (WaitList::Streams, WaitList::Streams)
-        | (WaitList::Closings, WaitList::Closings) => true,
-        _ => false,
-    }
-}
-
 impl<T> Operation<T> {
     ghost use Rattle.std.specs.Prelude.{◌≡◌, Some, None, is_some};
     ghost use Rattle.channel_world_model.specs.Laws.{is_line, line_of_operation};
@@ -122,11 +106,8 @@ impl<T> Operation<T> {
         ensures { result ≡ is_line line (line_of_operation (Some self.now)) }
     {
         match self {
-            Operation::Send { handle: _, message } => {
-                message.is_some() && is_same(line, WaitList::Sends)
-            }
-            Operation::Receive { .. } => is_same(line, WaitList::Receives),
-            Operation::Closing { .. } => is_same(line, WaitList::Closings),
+            Operation::Send { message: None, .. } => false,
+            _ => line == self.waits_in(),
         }
     }
 
@@ -185,9 +166,8 @@ impl<T: Drop> Operation<T> {
         ensures { result ≡ with_message message self }
     {
         match self {
-            Operation::Send { handle, message: _ } => Operation::Send { handle, message },
-            Operation::Receive { handle } => Operation::Receive { handle },
-            Operation::Closing { handle } => Operation::Closing { handle },
+            Operation::Send { handle, .. } => Operation::Send { handle, message },
+            other => other,
         }
     }
 }

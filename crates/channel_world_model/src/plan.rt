@@ -49,15 +49,11 @@ impl Kinship {
         ensures { result ≡ kin self kind }
     {
         match (self, kind) {
-            (Kinship::Own, kind) => kind,
-            (Kinship::Weak, HandleKind::Sender | HandleKind::WeakSender) => HandleKind::WeakSender,
-            (Kinship::Weak, HandleKind::Receiver | HandleKind::WeakReceiver) => {
-                HandleKind::WeakReceiver
-            }
-            (Kinship::Strong, HandleKind::Sender | HandleKind::WeakSender) => HandleKind::Sender,
-            (Kinship::Strong, HandleKind::Receiver | HandleKind::WeakReceiver) => {
-                HandleKind::Receiver
-            }
+            (Kinship::Weak, HandleKind::Sender) => HandleKind::WeakSender,
+            (Kinship::Weak, HandleKind::Receiver) => HandleKind::WeakReceiver,
+            (Kinship::Strong, HandleKind::WeakSender) => HandleKind::Sender,
+            (Kinship::Strong, HandleKind::WeakReceiver) => HandleKind::Receiver,
+            (_, kind) => kind,
         }
     }
 }

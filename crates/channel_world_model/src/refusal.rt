@@ -9,7 +9,7 @@ use std::fmt;
 #[derive(Clone, Copy, Debug, PartialEq, Eq)]
 pub enum WorldRefusal {
     /// 1: the party has a call under way.
-    Busy,
+    Busy = 1,
     /// 2: the party has no call under way.
     Idle,
     /// 3: a used name is not live.
@@ -34,16 +34,7 @@ impl WorldRefusal {
     pub fn number(self) -> u8
         ensures { result ≡ refusal_number self }
     {
-        match self {
-            WorldRefusal::Busy => 1,
-            WorldRefusal::Idle => 2,
-            WorldRefusal::UnknownName => 3,
-            WorldRefusal::NameTaken => 4,
-            WorldRefusal::OpUnderWay => 5,
-            WorldRefusal::Borrowed => 6,
-            WorldRefusal::WrongKind => 7,
-            WorldRefusal::NoMemory => 8,
-        }
+        self as u8
     }
 }
 

@@ -2,7 +2,7 @@ use Rattle.std.proofs.Common.{None, Some}
 use Rattle.channel_calls.specs.Plain.{parts_of}
 use Rattle.channel_steps.proofs.solo.AmpleFacts.{ample_first, ample_next}
 use Rattle.channel_steps.proofs.solo.ConfigurationLoop.{plain_step, configurations_start, configurations_more, configurations_nearer, configurations_end, answers_alone}
-use Rattle.channel_steps.proofs.alone.step_alone.Goals as goal
+use Rattle.channel_steps.proofs.alone.run_alone.Goals as goal
 
 pub loop-reply-init : goal.loop-reply-init
 loop-reply-init g c = (
@@ -38,7 +38,7 @@ loop-reply-smaller g c =
     configurations_nearer g.S.Wakes.wakes c.args.ask (parts_of c.args.channel.now) c.args.sink.now c.args.messages.now (parts_of l.channel)
     l.call.stage l.sink l.messages l.invariant.0 (parts_of c.step-reply.new.cells) call.stage call.mark c.step-reply.new.sink
     c.counted.result c.last_mark.result c.last_mark.ensures c.counted.ensures
-    (plain_step g.S.Wakes.wakes l.channel c.step-reply.new.cells l.sink c.step-reply.new.sink call.mark call.stage _ l.call.stage c.in-None.ensures.deed)
+    (plain_step g.S.Wakes.wakes l.channel c.step-reply.new.cells l.sink c.step-reply.new.sink call.mark call.stage _ l.call.stage c.in_default-reply.ensures.deed)
     c.requires.at_rest
 
 pub loop-reply-preserved : goal.loop-reply-preserved
@@ -48,8 +48,8 @@ loop-reply-preserved g c =
       configurations_more g.S.Wakes.wakes c.args.ask (parts_of c.args.channel.now) c.args.sink.now c.args.messages.now (parts_of l.channel)
           l.call.stage l.sink l.messages l.invariant.0 (parts_of c.step-reply.new.cells) call.stage call.mark c.step-reply.new.sink
           c.counted.result c.last_mark.result c.last_mark.ensures c.counted.ensures
-          (plain_step g.S.Wakes.wakes l.channel c.step-reply.new.cells l.sink c.step-reply.new.sink call.mark call.stage _ l.call.stage c.in-None.ensures.deed),
+          (plain_step g.S.Wakes.wakes l.channel c.step-reply.new.cells l.sink c.step-reply.new.sink call.mark call.stage _ l.call.stage c.in_default-reply.ensures.deed),
       λ h. (ample_next g.S.Wakes.wakes c.args.ask c.args.channel.now c.args.sink.now c.args.messages.now l.messages c.requires.at_rest
           (l.channel, l.sink) (c.step-reply.new.cells, c.step-reply.new.sink) call.mark l.call.stage call.stage None l.invariant.0
-          c.in-None.ensures.deed l.invariant.1 h).0,
+          c.in_default-reply.ensures.deed l.invariant.1 h).0,
     )

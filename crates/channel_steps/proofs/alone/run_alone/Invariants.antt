@@ -2,7 +2,7 @@ use Rattle.channel_calls.specs.Plain.{parts_of}
 use Rattle.channel_steps.proofs.solo.AmpleFacts.{StaysAmple}
 use Rattle.channel_steps.specs.Left.{steps_left}
 use Rattle.channel_steps.proofs.solo.ConfigurationLoop.{IsBetween}
-use Rattle.channel_steps.proofs.alone.step_alone.Given as goal
+use Rattle.channel_steps.proofs.alone.run_alone.Given as goal
 
 abbrev pub invariant-loop-reply : goal.invariant-loop-reply
 invariant-loop-reply g l =
