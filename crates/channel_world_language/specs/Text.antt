@@ -62,21 +62,6 @@ reply_text (reply.Next (Ready None)) = codes "none"
 reply_text (reply.Next (Ready (Some (Ok m)))) = codes "some " ++ decimal m
 reply_text r = short_text r
 
--- a reply of a try, or of a poll
-abbrev pub IsTry : Reply ℕ → Type 0
-IsTry (reply.TrySend r) = Unit {0}
-IsTry (reply.ForceSend r) = Unit {0}
-IsTry (reply.TryRecv r) = Unit {0}
-IsTry (reply.RecvMany r) = Unit {0}
-IsTry r = ⊥
-
-abbrev pub IsPoll : Reply ℕ → Type 0
-IsPoll (reply.SendPoll r) = Unit {0}
-IsPoll (reply.RecvPoll r) = Unit {0}
-IsPoll (reply.ClosedPoll r) = Unit {0}
-IsPoll (reply.Next r) = Unit {0}
-IsPoll r = ⊥
-
 -- the names that a call woke, after its reply
 abbrev pub wakes_text : Table → List Waiter → List ℕ
 wakes_text table [] = []

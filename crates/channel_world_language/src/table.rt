@@ -1,6 +1,4 @@
 //! The names of a script.
-ghost use Rattle.std.specs.Prelude.{◌≡◌};
-ghost use Rattle.channel_world_language.specs.Table.{numbered};
 
 use channel_world_model::name::{HandleId, OpId, Waiter};
 use std::alloc::{AllocError, Global};
@@ -23,16 +21,6 @@ pub enum Named {
     Handle(HandleId),
     /// An operation, by its number.
     Op(OpId),
-}
-
-/// The handle or operation of a number.
-fn numbered(sort: Sort, number: u32) -> Named
-    ensures { result ≡ numbered sort number }
-{
-    match sort {
-        Sort::Handle => Named::Handle(HandleId(number)),
-        Sort::Op => Named::Op(OpId(number)),
-    }
 }
 
 /// A name that was given.
@@ -83,7 +71,10 @@ impl<'a> Table<'a> {
     {
         let number = self.numbers.get(name).copied()?;
         let entry = self.entries.get(number as usize)?;
-        Some(numbered(entry.sort, number))
+        Some(match entry.sort {
+            Sort::Handle => Named::Handle(HandleId(number)),
+            Sort::Op => Named::Op(OpId(number)),
+        })
     }
 
     /// Whether a name was given.

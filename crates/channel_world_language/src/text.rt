@@ -1,7 +1,7 @@
 //! Reply lines.
-ghost use Rattle.std.specs.Prelude.{◌≡◌, ◌++◌, false, OnOk};
+ghost use Rattle.std.specs.Prelude.{◌≡◌, ◌++◌, false, IfSome, OnOk};
 ghost use Rattle.std.specs.Fmt.{decimal};
-ghost use Rattle.channel_world_language.specs.Text.{reply_text, several_text, wakes_text, refused_text, wants_growth, IsTry, IsPoll, poll_text, part_before};
+ghost use Rattle.channel_world_language.specs.Text.{reply_text, several_text, wakes_text, refused_text, wants_growth, poll_text, part_before};
 
 use crate::table::Table;
 use channel_calls::error::{Refused, SendError, TryRecvError, TrySendError};
@@ -33,57 +33,33 @@ fn add_several(messages: &[u64], line: &mut Vec<u8>) -> Result<(), AllocError>
     Ok(())
 }
 
-/// Adds the text of a try to send, or to receive.
-fn add_try(reply: &Reply<u64>, line: &mut Vec<u8>) -> Result<(), AllocError>
-    requires { IsTry reply.now }
-    ensures text { OnOk result (line.new.items ≡ line.old.items ++ reply_text reply.now) }
-    ensures whole { OnOk result (wants_growth reply.now ≡ false) }
+/// The text of a reply that has no message and no number in it, if it has one.
+fn fixed_text(reply: &Reply<u64>) -> Option<&'static [u8]>
+    ensures text { IfSome result (λ text. text.now ≡ reply_text reply.now) }
+    ensures whole { IfSome result (λ _. wants_growth reply.now ≡ false) }
 {
     match reply {
-        Reply::TrySend(Ok(_)) | Reply::ForceSend(Ok(None)) => line.extend_from_slice(b"ok"),
-        Reply::TrySend(Err(Refused::Plain(TrySendError::Full(msg)))) => {
-            add_number(b"full ", *msg, line)
-        }
-        Reply::TrySend(Err(Refused::Plain(TrySendError::Closed(msg)))) => {
-            add_number(b"closed ", *msg, line)
-        }
-        Reply::ForceSend(Ok(Some(msg))) => add_number(b"ok displaced ", *msg, line),
-        Reply::ForceSend(Err(Refused::Plain(SendError(msg)))) => add_number(b"closed ", *msg, line),
-        Reply::TryRecv(Ok(msg)) => add_number(b"ok ", *msg, line),
-        Reply::TryRecv(Err(TryRecvError::Empty)) => line.extend_from_slice(b"empty"),
-        Reply::TryRecv(Err(TryRecvError::Closed)) => line.extend_from_slice(b"closed"),
-        Reply::RecvMany(Ok(messages)) => add_several(messages.as_slice(), line),
-        Reply::RecvMany(Err(Refused::Plain(TryRecvError::Empty))) => {
-            line.extend_from_slice(b"empty")
-        }
-        Reply::RecvMany(Err(Refused::Plain(TryRecvError::Closed))) => {
-            line.extend_from_slice(b"closed")
-        }
-        _ => Err(AllocError),
-    }
-}
-
-/// Adds the text of a poll.
-fn add_polled(reply: &Reply<u64>, line: &mut Vec<u8>) -> Result<(), AllocError>
-    requires { IsPoll reply.now }
-    ensures text { OnOk result (line.new.items ≡ line.old.items ++ reply_text reply.now) }
-    ensures whole { OnOk result (wants_growth reply.now ≡ false) }
-{
-    match reply {
+        Reply::TrySend(Ok(_))
+        | Reply::ForceSend(Ok(None))
+        | Reply::SendPoll(Poll::Ready(Ok(_)))
+        | Reply::Made
+        | Reply::GivenUp(_)
+        | Reply::Unit => Some(b"ok"),
+        Reply::TryRecv(Err(TryRecvError::Empty))
+        | Reply::RecvMany(Err(Refused::Plain(TryRecvError::Empty))) => Some(b"empty"),
+        Reply::TryRecv(Err(TryRecvError::Closed))
+        | Reply::RecvMany(Err(Refused::Plain(TryRecvError::Closed)))
+        | Reply::RecvPoll(Poll::Ready(Err(Refused::Plain(_)))) => Some(b"closed"),
         Reply::SendPoll(Poll::Pending)
         | Reply::RecvPoll(Poll::Pending)
         | Reply::ClosedPoll(Poll::Pending)
-        | Reply::Next(Poll::Pending) => line.extend_from_slice(b"pending"),
-        Reply::SendPoll(Poll::Ready(Ok(_))) => line.extend_from_slice(b"ok"),
-        Reply::SendPoll(Poll::Ready(Err(Refused::Plain(SendError(msg))))) => {
-            add_number(b"closed ", *msg, line)
-        }
-        Reply::RecvPoll(Poll::Ready(Ok(msg))) => add_number(b"ok ", *msg, line),
-        Reply::RecvPoll(Poll::Ready(Err(Refused::Plain(_)))) => line.extend_from_slice(b"closed"),
-        Reply::ClosedPoll(Poll::Ready(Ok(_))) => line.extend_from_slice(b"ready"),
-        Reply::Next(Poll::Ready(None)) => line.extend_from_slice(b"none"),
-        Reply::Next(Poll::Ready(Some(Ok(msg)))) => add_number(b"some ", *msg, line),
-        _ => Err(AllocError),
+        | Reply::Next(Poll::Pending) => Some(b"pending"),
+        Reply::ClosedPoll(Poll::Ready(Ok(_))) => Some(b"ready"),
+        Reply::Next(Poll::Ready(None)) | Reply::Cap(None) | Reply::NotMade => Some(b"none"),
+        Reply::Closed(true) | Reply::Flag(true) => Some(b"true"),
+        Reply::Closed(false) | Reply::Flag(false) => Some(b"false"),
+        Reply::TooMany => Some(b"too many"),
+        _ => None,
     }
 }
 
@@ -93,16 +69,22 @@ fn add_reply(reply: &Reply<u64>, line: &mut Vec<u8>) -> Result<(), AllocError>
     ensures whole { OnOk result (wants_growth reply.now ≡ false) }
 {
     match reply {
-        Reply::TrySend(_) | Reply::ForceSend(_) => add_try(reply, line),
-        Reply::TryRecv(_) | Reply::RecvMany(_) => add_try(reply, line),
-        Reply::SendPoll(_) | Reply::RecvPoll(_) => add_polled(reply, line),
-        Reply::ClosedPoll(_) | Reply::Next(_) => add_polled(reply, line),
-        Reply::Closed(true) | Reply::Flag(true) => line.extend_from_slice(b"true"),
-        Reply::Closed(false) | Reply::Flag(false) => line.extend_from_slice(b"false"),
+        Reply::TrySend(Err(Refused::Plain(TrySendError::Full(msg)))) => {
+            add_number(b"full ", *msg, line)
+        }
+        Reply::TrySend(Err(Refused::Plain(TrySendError::Closed(msg))))
+        | Reply::ForceSend(Err(Refused::Plain(SendError(msg))))
+        | Reply::SendPoll(Poll::Ready(Err(Refused::Plain(SendError(msg))))) => {
+            add_number(b"closed ", *msg, line)
+        }
+        Reply::ForceSend(Ok(Some(msg))) => add_number(b"ok displaced ", *msg, line),
+        Reply::TryRecv(Ok(msg)) | Reply::RecvPoll(Poll::Ready(Ok(msg))) => {
+            add_number(b"ok ", *msg, line)
+        }
+        Reply::RecvMany(Ok(messages)) => add_several(messages.as_slice(), line),
+        Reply::Next(Poll::Ready(Some(Ok(msg)))) => add_number(b"some ", *msg, line),
         Reply::Count(number) | Reply::Cap(Some(number)) => add_number(b"", *number as u64, line),
-        Reply::Cap(None) | Reply::NotMade => line.extend_from_slice(b"none"),
-        Reply::Made | Reply::GivenUp(_) | Reply::Unit => line.extend_from_slice(b"ok"),
-        Reply::TooMany => line.extend_from_slice(b"too many"),
+        _ => line.extend_from_slice(fixed_text(reply).ok_or(AllocError)?),
     }
 }
 
