@@ -95,14 +95,13 @@ pub(crate) fn send_alone<T: Drop, W: Drop, S: Wakes<W>>(
     loop {
         let answer = channel.step_queue(&mut call);
         *messages = counted(*messages, call.last_mark());
-        if let Some(answer) = answer {
-            if let Some(reply) = unsent::<T, W>(answer) {
-                return answers(reply);
-            }
-            channel.tell_one(WaitList::Receives, sink);
-            channel.tell_all(WaitList::Streams, sink);
-            return answers(Reply::TrySend(Ok(())));
+        let Some(answer) = answer else { continue };
+        if let Some(reply) = unsent::<T, W>(answer) {
+            return answers(reply);
         }
+        channel.tell_one(WaitList::Receives, sink);
+        channel.tell_all(WaitList::Streams, sink);
+        return answers(Reply::TrySend(Ok(())));
     }
 }
 
@@ -121,13 +120,12 @@ pub(crate) fn receive_alone<T: Drop, W: Drop, S: Wakes<W>>(
     loop {
         let answer = channel.step_queue(&mut call);
         *messages = counted(*messages, call.last_mark());
-        if let Some(answer) = answer {
-            let message = match received::<T, W>(answer) {
-                Ok(message) => message,
-                Err(reply) => return answers(reply),
-            };
-            channel.tell_one(WaitList::Sends, sink);
-            return answers(Reply::TryRecv(Ok(message)));
-        }
+        let Some(answer) = answer else { continue };
+        let message = match received::<T, W>(answer) {
+            Ok(message) => message,
+            Err(reply) => return answers(reply),
+        };
+        channel.tell_one(WaitList::Sends, sink);
+        return answers(Reply::TryRecv(Ok(message)));
     }
 }
