@@ -50,21 +50,18 @@ fn answers<T>(reply: Reply<T>) -> Completed<T>
 fn unsent<T: Drop, W>(answer: QueueReply<T>) -> Option<Reply<T>>
     ensures { MatchOption result (answer ≡ queue.Push (Ok tt)) (λ r. sent_next {W = W} answer ≡ Ends r nothing_kept) }
 {
-    match answer {
-        QueueReply::Push(Ok(())) => None,
+    let error = match answer {
+        QueueReply::Push(Ok(())) => return None,
         QueueReply::Push(Err(PushError::Full(message))) => {
-            let error = Refused::Plain(TrySendError::Full(message));
-            Some(Reply::TrySend(Err(error)))
+            Refused::Plain(TrySendError::Full(message))
         }
         QueueReply::Push(Err(PushError::Closed(message))) => {
-            let error = Refused::Plain(TrySendError::Closed(message));
-            Some(Reply::TrySend(Err(error)))
+            Refused::Plain(TrySendError::Closed(message))
         }
-        QueueReply::Push(Err(PushError::NoMemory(message))) => {
-            Some(Reply::TrySend(Err(Refused::NoMemory(message))))
-        }
-        _ => Some(Reply::Unit),
-    }
+        QueueReply::Push(Err(PushError::NoMemory(message))) => Refused::NoMemory(message),
+        _ => return Some(Reply::Unit),
+    };
+    Some(Reply::TrySend(Err(error)))
 }
 
 /// The message that a pop took, or what a receive that doesn't wait answers whose pop took none.
