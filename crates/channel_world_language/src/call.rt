@@ -101,20 +101,18 @@ fn question_call(question: Question, handle: HandleId) -> Call<u64>
 fn doing_call(doing: Doing, named: Named) -> Option<Call<u64>>
     ensures { result ≡ doing_call doing named }
 {
-    match (doing, named) {
-        (Doing::TryRecv, Named::Handle(receiver)) => Some(Call::TryRecv { receiver }),
-        (Doing::Next, Named::Handle(receiver)) => Some(Call::PollNext { receiver }),
-        (Doing::Poll, Named::Op(op)) => Some(Call::Poll { op }),
-        (Doing::Drop, Named::Handle(handle)) => Some(Call::Drop { handle }),
-        (Doing::Drop, Named::Op(op)) => Some(Call::GiveUp { op }),
-        (Doing::Close, Named::Handle(handle)) => Some(Call::Close { handle }),
-        (Doing::IsTerminated, Named::Handle(handle)) => {
-            Some(Call::StreamIsTerminated { receiver: handle })
-        }
-        (Doing::IsTerminated, Named::Op(op)) => Some(Call::SendIsTerminated { op }),
-        (Doing::Ask(question), Named::Handle(handle)) => Some(question_call(question, handle)),
-        _ => None,
-    }
+    Some(match (doing, named) {
+        (Doing::TryRecv, Named::Handle(receiver)) => Call::TryRecv { receiver },
+        (Doing::Next, Named::Handle(receiver)) => Call::PollNext { receiver },
+        (Doing::Poll, Named::Op(op)) => Call::Poll { op },
+        (Doing::Drop, Named::Handle(handle)) => Call::Drop { handle },
+        (Doing::Drop, Named::Op(op)) => Call::GiveUp { op },
+        (Doing::Close, Named::Handle(handle)) => Call::Close { handle },
+        (Doing::IsTerminated, Named::Handle(receiver)) => Call::StreamIsTerminated { receiver },
+        (Doing::IsTerminated, Named::Op(op)) => Call::SendIsTerminated { op },
+        (Doing::Ask(question), Named::Handle(handle)) => question_call(question, handle),
+        _ => return None,
+    })
 }
 
 /// The call of a command; None where a name is of the wrong sort.
