@@ -50,21 +50,18 @@ fn answers<T>(reply: Reply<T>) -> Completed<T>
 fn unsent<T: Drop, W>(answer: QueueReply<T>) -> Option<Reply<T>>
     ensures { MatchOption result (answer ≡ queue.Push (Ok tt)) (λ r. sent_next {W = W} answer ≡ Ends r nothing_kept) }
 {
-    match answer {
-        QueueReply::Push(Ok(())) => None,
+    let error = match answer {
+        QueueReply::Push(Ok(())) => return None,
         QueueReply::Push(Err(PushError::Full(message))) => {
-            let error = Refused::Plain(TrySendError::Full(message));
-            Some(Reply::TrySend(Err(error)))
+            Refused::Plain(TrySendError::Full(message))
         }
         QueueReply::Push(Err(PushError::Closed(message))) => {
-            let error = Refused::Plain(TrySendError::Closed(message));
-            Some(Reply::TrySend(Err(error)))
+            Refused::Plain(TrySendError::Closed(message))
         }
-        QueueReply::Push(Err(PushError::NoMemory(message))) => {
-            Some(Reply::TrySend(Err(Refused::NoMemory(message))))
-        }
-        _ => Some(Reply::Unit),
-    }
+        QueueReply::Push(Err(PushError::NoMemory(message))) => Refused::NoMemory(message),
+        _ => return Some(Reply::Unit),
+    };
+    Some(Reply::TrySend(Err(error)))
 }
 
 /// The message that a pop took, or what a receive that doesn't wait answers whose pop took none.
@@ -95,14 +92,13 @@ pub(crate) fn send_alone<T: Drop, W: Drop, S: Wakes<W>>(
     loop {
         let answer = channel.step_queue(&mut call);
         *messages = counted(*messages, call.last_mark());
-        if let Some(answer) = answer {
-            if let Some(reply) = unsent::<T, W>(answer) {
-                return answers(reply);
-            }
-            channel.tell_one(WaitList::Receives, sink);
-            channel.tell_all(WaitList::Streams, sink);
-            return answers(Reply::TrySend(Ok(())));
+        let Some(answer) = answer else { continue };
+        if let Some(reply) = unsent::<T, W>(answer) {
+            return answers(reply);
         }
+        channel.tell_one(WaitList::Receives, sink);
+        channel.tell_all(WaitList::Streams, sink);
+        return answers(Reply::TrySend(Ok(())));
     }
 }
 
@@ -121,13 +117,12 @@ pub(crate) fn receive_alone<T: Drop, W: Drop, S: Wakes<W>>(
     loop {
         let answer = channel.step_queue(&mut call);
         *messages = counted(*messages, call.last_mark());
-        if let Some(answer) = answer {
-            let message = match received::<T, W>(answer) {
-                Ok(message) => message,
-                Err(reply) => return answers(reply),
-            };
-            channel.tell_one(WaitList::Sends, sink);
-            return answers(Reply::TryRecv(Ok(message)));
-        }
+        let Some(answer) = answer else { continue };
+        let message = match received::<T, W>(answer) {
+            Ok(message) => message,
+            Err(reply) => return answers(reply),
+        };
+        channel.tell_one(WaitList::Sends, sink);
+        return answers(Reply::TryRecv(Ok(message)));
     }
 }

@@ -20,6 +20,8 @@ use Rattle.channel_world_language.specs.declared.command.Sending.{Sending}
 use Rattle.channel_world_language.specs.declared.command.Sending.TheVariants as sending
 use Rattle.channel_world_language.specs.declared.command.Verb.{Verb}
 use Rattle.channel_world_language.specs.declared.command.Verb.TheVariants as verb
+use Rattle.channel_world_language.specs.declared.table.Named.{Named}
+use Rattle.channel_world_language.specs.declared.table.Named.TheVariants as named
 use Rattle.channel_world_language.specs.declared.table.Sort.{Sort}
 use Rattle.channel_world_language.specs.declared.table.Sort.TheVariants as sort
 use Rattle.channel_world_model.specs.declared.call.Call.{Call}
@@ -114,3 +116,7 @@ op_call doing.Poll op = Some (call.Poll op)
 op_call doing.Drop op = Some (call.GiveUp op)
 op_call doing.IsTerminated op = Some (call.SendIsTerminated op)
 op_call what op = None
+
+abbrev pub doing_call : Doing → Named → Option (Call ℕ)
+doing_call what (named.Handle handle) = handle_call what handle
+doing_call what (named.Op op) = op_call what op

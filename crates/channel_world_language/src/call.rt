@@ -3,7 +3,7 @@ ghost use Rattle.std.specs.Prelude.{◌≡◌, ◌<◌, ◌^◌, ◌∷◌, leng
 ghost use Rattle.std.specs.Option.{option_map, option_to_list};
 ghost use Rattle.channel_world_language.specs.Table.{named_in};
 ghost use Rattle.channel_world_language.specs.Asked.{used, given, handle_of, question_call, call_of};
-ghost use Rattle.channel_world_language.specs.Said.{said, asked_as, sort_of, sending_call, making_call, handle_call, op_call};
+ghost use Rattle.channel_world_language.specs.Said.{said, asked_as, sort_of, sending_call, making_call, doing_call};
 
 use crate::command::{Command, Doing, Making, Question, Sending};
 use crate::table::{Named, Sort, Table};
@@ -97,31 +97,22 @@ fn question_call(question: Question, handle: HandleId) -> Call<u64>
     }
 }
 
-/// What is done to a handle; None where it is done to operations alone.
-fn handle_call(doing: Doing, handle: HandleId) -> Option<Call<u64>>
-    ensures { result ≡ handle_call doing handle }
+/// What is done to a handle or an operation; None where it is done to the others alone.
+fn doing_call(doing: Doing, named: Named) -> Option<Call<u64>>
+    ensures { result ≡ doing_call doing named }
 {
-    match doing {
-        Doing::TryRecv => Some(Call::TryRecv { receiver: handle }),
-        Doing::Next => Some(Call::PollNext { receiver: handle }),
-        Doing::Poll => None,
-        Doing::Drop => Some(Call::Drop { handle }),
-        Doing::Close => Some(Call::Close { handle }),
-        Doing::IsTerminated => Some(Call::StreamIsTerminated { receiver: handle }),
-        Doing::Ask(question) => Some(question_call(question, handle)),
-    }
-}
-
-/// What is done to an operation; None where it is done to handles alone.
-fn op_call(doing: Doing, op: OpId) -> Option<Call<u64>>
-    ensures { result ≡ op_call doing op }
-{
-    match doing {
-        Doing::Poll => Some(Call::Poll { op }),
-        Doing::Drop => Some(Call::GiveUp { op }),
-        Doing::IsTerminated => Some(Call::SendIsTerminated { op }),
-        Doing::TryRecv | Doing::Next | Doing::Close | Doing::Ask(_) => None,
-    }
+    Some(match (doing, named) {
+        (Doing::TryRecv, Named::Handle(receiver)) => Call::TryRecv { receiver },
+        (Doing::Next, Named::Handle(receiver)) => Call::PollNext { receiver },
+        (Doing::Poll, Named::Op(op)) => Call::Poll { op },
+        (Doing::Drop, Named::Handle(handle)) => Call::Drop { handle },
+        (Doing::Drop, Named::Op(op)) => Call::GiveUp { op },
+        (Doing::Close, Named::Handle(handle)) => Call::Close { handle },
+        (Doing::IsTerminated, Named::Handle(receiver)) => Call::StreamIsTerminated { receiver },
+        (Doing::IsTerminated, Named::Op(op)) => Call::SendIsTerminated { op },
+        (Doing::Ask(question), Named::Handle(handle)) => question_call(question, handle),
+        _ => return None,
+    })
 }
 
 /// The call of a command; None where a name is of the wrong sort.
@@ -149,10 +140,7 @@ pub fn call_of(table: &Table<'_>, command: &Command<'_>) -> Option<Call<u64>>
             let handle = handle_named(table, handle)?;
             Some(making_call(*making, table.next(), handle))
         }
-        Command::One { doing, name } => match table.get(name)? {
-            Named::Handle(handle) => handle_call(*doing, handle),
-            Named::Op(op) => op_call(*doing, op),
-        },
+        Command::One { doing, name } => doing_call(*doing, table.get(name)?),
         Command::SameChannel { a, b } => {
             let a = handle_named(table, a)?;
             let b = handle_named(table, b)?;

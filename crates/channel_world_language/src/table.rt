@@ -109,10 +109,7 @@ impl<'a> Table<'a> {
     pub fn waiter_name(&self, waiter: Waiter) -> &[u8]
         ensures { result.now ≡ waiter_name self.now waiter }
     {
-        let number = match waiter {
-            Waiter::Op(op) => op.0,
-            Waiter::Stream(receiver) => receiver.0,
-        };
+        let (Waiter::Op(OpId(number)) | Waiter::Stream(HandleId(number))) = waiter;
         match self.entries.get(number as usize) {
             Some(entry) => entry.name,
             None => b"",

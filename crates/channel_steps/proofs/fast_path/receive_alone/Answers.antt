@@ -44,20 +44,20 @@ returns-in-Err g c =
       configurations = over;
     }
 
-pub returns-in-Some : goal.returns-in-Some
-returns-in-Some g c =
+pub returns-in-loop-answer : goal.returns-in-loop-answer
+returns-in-loop-answer g c =
     let l = c.loop-answer in
     let one = c.tell_one.ensures.deed in
     let over = tells_one_over g.S.Wakes.wakes ask.TryRecv c.args.channel.now c.args.sink.now c.args.messages.now
-    (reply.TryRecv (Ok c.in-Ok.message)) c.answers-in-Some.result c.step_queue-answer.new.self c.tell_one.new.self l.sink
+    (reply.TryRecv (Ok c.in-Ok.message)) c.answers-in-loop-answer.result c.step_queue-answer.new.self c.tell_one.new.self l.sink
     c.tell_one.new.sink c.counted.result
     (tries_well g.S.Wakes.wakes ask.TryRecv c.args.channel.now c.args.sink.now c.args.messages.now purpose.TryRecv l.channel
     c.step_queue-answer.new.self l.call c.step_queue-answer.new.call l.sink l.messages c.counted.result l.invariant c.last_mark.result
     c.last_mark.ensures c.counted.ensures c.step_queue-answer.result c.step_queue-answer.ensures.deed
     c.in-Some.answer (work.TellSend (says (reply.TryRecv (Ok c.in-Ok.message)))) c.in-Some.is (rw c.in-Ok.ensures refl))
-    one.0 one.1 one.2 c.answers-in-Some.ensures in
+    one.0 one.1 one.2 c.answers-in-loop-answer.ensures in
     record {
-      alone = answers_alone g.S.Wakes.wakes ask.TryRecv (parts_of c.args.channel.now) c.args.sink.now c.args.messages.now c.answers-in-Some.result
+      alone = answers_alone g.S.Wakes.wakes ask.TryRecv (parts_of c.args.channel.now) c.args.sink.now c.args.messages.now c.answers-in-loop-answer.result
           (parts_of c.tell_one.new.self) c.tell_one.new.sink c.counted.result over;
       configurations = over;
     }

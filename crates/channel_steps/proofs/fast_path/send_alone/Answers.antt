@@ -44,21 +44,21 @@ returns-in-Some-unsent g c =
       configurations = over;
     }
 
-pub returns-in-Some : goal.returns-in-Some
-returns-in-Some g c =
+pub returns-in-loop-answer : goal.returns-in-loop-answer
+returns-in-loop-answer g c =
     let l = c.loop-answer in
     let one = c.tell_one.ensures.deed in
     let all = c.tell_all.ensures.deed in
     let over = tells_all_over g.S.Wakes.wakes (ask.TrySend c.args.message) c.args.channel.now c.args.sink.now c.args.messages.now
-    (reply.TrySend (Ok tt)) c.answers-in-Some.result c.step_queue-answer.new.self c.tell_one.new.self c.tell_all.new.self l.sink
+    (reply.TrySend (Ok tt)) c.answers-in-loop-answer.result c.step_queue-answer.new.self c.tell_one.new.self c.tell_all.new.self l.sink
     c.tell_one.new.sink c.tell_all.new.sink c.counted.result
     (tries_well g.S.Wakes.wakes (ask.TrySend c.args.message) c.args.channel.now c.args.sink.now c.args.messages.now purpose.TrySend l.channel
     c.step_queue-answer.new.self l.call c.step_queue-answer.new.call l.sink l.messages c.counted.result l.invariant c.last_mark.result
     c.last_mark.ensures c.counted.ensures c.step_queue-answer.result c.step_queue-answer.ensures.deed
     c.in-Some.answer (work.TellReceive (says (reply.TrySend (Ok tt)))) c.in-Some.is (rw c.in_default-unsent.ensures refl))
-    one.0 one.1 one.2 all.0 all.1 all.2 c.answers-in-Some.ensures in
+    one.0 one.1 one.2 all.0 all.1 all.2 c.answers-in-loop-answer.ensures in
     record {
-      alone = answers_alone g.S.Wakes.wakes (ask.TrySend c.args.message) (parts_of c.args.channel.now) c.args.sink.now c.args.messages.now c.answers-in-Some.result
+      alone = answers_alone g.S.Wakes.wakes (ask.TrySend c.args.message) (parts_of c.args.channel.now) c.args.sink.now c.args.messages.now c.answers-in-loop-answer.result
           (parts_of c.tell_all.new.self) c.tell_all.new.sink c.counted.result over;
       configurations = over;
     }
