@@ -22,6 +22,17 @@ pub(crate) struct Begun<T> {
     pub(crate) on_return: OnReturn<T>,
 }
 
+impl<T> Begun<T> {
+    ghost use Rattle.std.specs.Prelude.{◌≡◌};
+
+    /// It asks this, and has this to write back.
+    fn new(ask: ChannelAsk<T, Waiter>, on_return: OnReturn<T>) -> Begun<T>
+        ensures { result ≡ record { ask = ask; on_return = on_return } }
+    {
+        Begun { ask, on_return }
+    }
+}
+
 /// What the making of a handle from another asks: a weak one is not counted.
 fn mint_ask<T>(kinship: Kinship, handle: Handle) -> ChannelAsk<T, Waiter>
     ensures { result ≡ mint_asked kinship (Some handle) }
@@ -55,10 +66,13 @@ fn poll_ask<T>(operation: Option<Operation<T>>, key: Option<Key>, op: OpId) -> C
     ensures { result ≡ poll_asked key op operation }
 {
     match operation {
-        Some(Operation::Send { handle: _, message }) => match message {
-            Some(message) => ChannelAsk::PollSend(message, lent(key), Waiter::Op(op)),
-            None => ChannelAsk::PollFinishedSend,
-        },
+        Some(
+            Operation::Send {
+                handle: _,
+                message: Some(message),
+            },
+        ) => ChannelAsk::PollSend(message, lent(key), Waiter::Op(op)),
+        Some(Operation::Send { message: None, .. }) => ChannelAsk::PollFinishedSend,
         Some(Operation::Receive { .. }) => ChannelAsk::PollRecv(lent(key), Waiter::Op(op)),
         Some(Operation::Closing { .. }) => ChannelAsk::PollClosed(key, Waiter::Op(op)),
         None => ChannelAsk::Make,
@@ -109,21 +123,6 @@ fn new_message<T: Drop>(call: Call<T>) -> Option<T>
     }
 }
 
-/// An operation whose name was taken is being made.
-fn making<T>(op: OpId, operation: Operation<T>) -> Begun<T>
-    ensures ask { result.ask ≡ ChannelAsk.Make }
-    ensures on_return { result.on_return ≡ OnReturn.Make op (unpolled operation) }
-{
-    let operation = OperationEntry {
-        operation,
-        poll_state: PollState::Rests,
-    };
-    Begun {
-        ask: ChannelAsk::Make,
-        on_return: OnReturn::Make { op, operation },
-    }
-}
-
 impl<T: Drop> NameTable<T> {
     ghost use Rattle.std.specs.Prelude.{◌≡◌, None, Some, List, true, false, IfOk, OnErr, IfErr, IfSome, IfNone};
     ghost use Rattle.std.specs.Bool.{OnTrue, OnFalse};
@@ -141,10 +140,7 @@ impl<T: Drop> NameTable<T> {
         ensures { Starts ask (OnReturn.Leave handle) (with_lent handle self.old) result self.new }
     {
         self.lend(handle);
-        Begun {
-            ask,
-            on_return: OnReturn::Leave { handle },
-        }
+        Begun::new(ask, OnReturn::Leave(handle))
     }
 
     /// A new name is taken for an operation, which borrows the handle. False where there was no room.
@@ -184,43 +180,32 @@ impl<T: Drop> NameTable<T> {
         (Some(entry.operation), entry.poll_state.key())
     }
 
-    pub(crate) fn poll(&mut self, op: OpId) -> Begun<T>
+    fn poll(&mut self, op: OpId) -> Begun<T>
         ensures { BeginsByName self.old (Call.Poll op) result self.new }
     {
         let (operation, key) = self.lend_operation(op);
-        Begun {
-            ask: poll_ask(operation, key, op),
-            on_return: OnReturn::Poll { op },
-        }
+        Begun::new(poll_ask(operation, key, op), OnReturn::Poll(op))
     }
 
     fn poll_refused(&mut self, op: OpId) -> Begun<T>
         ensures { BeginsByName self.old (Call.PollRefused op) result self.new }
     {
         let (operation, key) = self.lend_operation(op);
-        Begun {
-            ask: refusal_ask(operation, key),
-            on_return: OnReturn::Poll { op },
-        }
+        Begun::new(refusal_ask(operation, key), OnReturn::Poll(op))
     }
 
     fn give_up(&mut self, op: OpId) -> Begun<T>
         ensures { BeginsByName self.old (Call.GiveUp op) result self.new }
     {
         let Some(entry) = self.operations.take(op.0) else {
-            return Begun {
-                ask: ChannelAsk::Make,
-                on_return: OnReturn::Nothing,
-            };
+            return Begun::new(ChannelAsk::Make, OnReturn::Nothing);
         };
         let handle = entry.operation.handle();
         self.hand_over(handle);
         let waits_in = entry.operation.waits_in();
         let message = entry.operation.into_message();
-        Begun {
-            ask: ChannelAsk::GiveUp(waits_in, message, entry.poll_state.key()),
-            on_return: OnReturn::Leave { handle },
-        }
+        let ask = ChannelAsk::GiveUp(waits_in, message, entry.poll_state.key());
+        Begun::new(ask, OnReturn::Leave(handle))
     }
 
     /// Whether a poll has finished the send, and the handle that it borrows.
@@ -228,25 +213,20 @@ impl<T: Drop> NameTable<T> {
         ensures { BeginsByName self.old (Call.SendIsTerminated op) result self.new }
     {
         let Some(entry) = self.operations.get(op.0) else {
-            return Begun {
-                ask: ChannelAsk::SendIsTerminated(false),
-                on_return: OnReturn::Nothing,
-            };
+            return Begun::new(ChannelAsk::SendIsTerminated(false), OnReturn::Nothing);
         };
         let handle = entry.operation.handle();
         let is_finished = entry.is_finished();
         self.through(handle, ChannelAsk::SendIsTerminated(is_finished))
     }
 
-    pub(crate) fn poll_next(&mut self, receiver: HandleId) -> Begun<T>
+    fn poll_next(&mut self, receiver: HandleId) -> Begun<T>
         ensures { BeginsByName self.old (Call.PollNext receiver) result self.new }
     {
         let key = self.lend_stream(receiver);
         self.lend(receiver);
-        Begun {
-            ask: ChannelAsk::PollNext(key, Waiter::Stream(receiver)),
-            on_return: OnReturn::PollNext { receiver },
-        }
+        let ask = ChannelAsk::PollNext(key, Waiter::Stream(receiver));
+        Begun::new(ask, OnReturn::PollNext(receiver))
     }
 
     fn drop_handle(&mut self, handle: HandleId) -> Begun<T>
@@ -256,10 +236,7 @@ impl<T: Drop> NameTable<T> {
             Some(handle_entry) => drop_ask(handle_entry.handle, handle_entry.poll_state.key()),
             None => ChannelAsk::Make,
         };
-        Begun {
-            ask,
-            on_return: OnReturn::Nothing,
-        }
+        Begun::new(ask, OnReturn::Nothing)
     }
 
     /// A handle is being made from another. None where its name found no room, or that lives no more.
@@ -270,19 +247,13 @@ impl<T: Drop> NameTable<T> {
             Starts (mint_asked kinship seen) (new_from from new (kin kinship) seen) (with_lent from (handle_named new self.old)) b self.new) }
         ensures none { IfNone result (self.new ≡ self.old) }
     {
-        let seen = self.seen(from)?;
+        let seen = self.handles.get(from.0)?.handle;
         if !self.handles.spend(new.0) {
             return None;
         }
         self.lend(from);
-        Some(Begun {
-            ask: mint_ask(kinship, seen),
-            on_return: OnReturn::New {
-                from,
-                new,
-                kind: kinship.of(seen.kind),
-            },
-        })
+        let on_return = OnReturn::New(from, new, kinship.of(seen.kind));
+        Some(Begun::new(mint_ask(kinship, seen), on_return))
     }
 
     fn same_channel(&mut self, a: HandleId, b: HandleId) -> Begun<T>
@@ -290,14 +261,11 @@ impl<T: Drop> NameTable<T> {
     {
         self.lend(a);
         self.lend(b);
-        Begun {
-            ask: ChannelAsk::SameChannel(true),
-            on_return: OnReturn::LeaveBoth { a, b },
-        }
+        Begun::new(ChannelAsk::SameChannel(true), OnReturn::LeaveBoth(a, b))
     }
 
     /// A call begins that brings nothing but names of what lives, each in its own way.
-    fn begin_named(&mut self, call: Call<T>) -> Begun<T>
+    pub(crate) fn begin_named(&mut self, call: Call<T>) -> Begun<T>
         requires { is_named (plan_of call) ≡ true }
         ensures { BeginsByName self.old call result self.new }
     {
@@ -328,7 +296,11 @@ impl<T: Drop> NameTable<T> {
                 if !self.name_operation(op, handle) {
                     return Err(call);
                 }
-                Ok(making(op, Operation::new(kind, handle, new_message(call))))
+                let operation = OperationEntry {
+                    operation: Operation::new(kind, handle, new_message(call)),
+                    poll_state: PollState::Rests,
+                };
+                Ok(Begun::new(ChannelAsk::Make, OnReturn::Make(op, operation)))
             }
             Plan::Mints(_, from, new, kinship) => self.mint(from, new, kinship).ok_or(call),
             _ => Ok(self.begin_named(call)),

@@ -3,7 +3,7 @@
 use crate::names::{HandleEntry, OperationEntry, PollState};
 use channel_calls::stage::WaitList;
 use channel_world_model::directory::Directory;
-use channel_world_model::name::{Handle, HandleId, HandleKind, Waiter};
+use channel_world_model::name::{HandleId, HandleKind, Waiter};
 use event_listener::key::Key;
 use std::alloc::{AllocError, Global};
 
@@ -23,13 +23,11 @@ ghost use Rattle.channel_world_runs.specs.NameTable.{first_handles};
 fn first_handles(alloc: Global) -> Result<Directory<HandleEntry>, AllocError>
     ensures { IfOk result (λ handles. handles ≡ first_handles) }
 {
+    let sender = HandleEntry::unused(HandleKind::Sender);
+    let receiver = HandleEntry::unused(HandleKind::Receiver);
     let mut handles = Directory::new(alloc)?;
-    let Ok(()) = handles.add(0, HandleEntry::unused(HandleKind::Sender)) else {
-        return Err(AllocError);
-    };
-    let Ok(()) = handles.add(1, HandleEntry::unused(HandleKind::Receiver)) else {
-        return Err(AllocError);
-    };
+    handles.add(0, sender).map_err(|_| AllocError)?;
+    handles.add(1, receiver).map_err(|_| AllocError)?;
     Ok(handles)
 }
 
@@ -41,11 +39,9 @@ impl<T> NameTable<T> {
     pub(crate) fn new(alloc: Global) -> Result<NameTable<T>, AllocError>
         ensures { IfOk result (λ name_table. name_table ≡ first_name_table) }
     {
-        let handles = first_handles(alloc)?;
-        let operations = Directory::new(alloc)?;
         Ok(NameTable {
-            handles,
-            operations,
+            handles: first_handles(alloc)?,
+            operations: Directory::new(alloc)?,
         })
     }
 
@@ -53,9 +49,9 @@ impl<T> NameTable<T> {
     pub(crate) fn lend(&mut self, handle: HandleId)
         ensures { self.new ≡ with_lent handle self.old }
     {
-        if let Some(handle_entry) = self.handles.get(handle.0) {
-            let lent = (*handle_entry).used_more();
-            self.handles.set(handle.0, lent);
+        if let Some(mut handle_entry) = self.handles.take(handle.0) {
+            handle_entry.users = handle_entry.users.saturating_add(1);
+            self.handles.set(handle.0, handle_entry);
         }
     }
 
@@ -63,9 +59,9 @@ impl<T> NameTable<T> {
     pub(crate) fn give_back(&mut self, handle: HandleId)
         ensures { self.new ≡ with_given_back handle self.old }
     {
-        if let Some(handle_entry) = self.handles.get(handle.0) {
-            let left = (*handle_entry).used_less();
-            self.handles.set(handle.0, left);
+        if let Some(mut handle_entry) = self.handles.take(handle.0) {
+            handle_entry.users = handle_entry.users.saturating_sub(1);
+            self.handles.set(handle.0, handle_entry);
         }
     }
 
@@ -73,42 +69,28 @@ impl<T> NameTable<T> {
     pub(crate) fn hand_over(&mut self, handle: HandleId)
         ensures { self.new ≡ with_handed_over handle self.old }
     {
-        if let Some(handle_entry) = self.handles.get(handle.0) {
-            let left = (*handle_entry).handed_over();
-            self.handles.set(handle.0, left);
+        if let Some(mut handle_entry) = self.handles.take(handle.0) {
+            handle_entry.handle.borrowers = handle_entry.handle.borrowers.saturating_sub(1);
+            handle_entry.users = handle_entry.users.saturating_add(1);
+            self.handles.set(handle.0, handle_entry);
         }
     }
 }
 
 impl<T> NameTable<T> {
     ghost use Rattle.std.specs.Prelude.{◌≡◌, None, false};
-    ghost use Rattle.std.specs.Option.{option_map, option_map_or};
+    ghost use Rattle.std.specs.Option.{option_map_or};
     ghost use Rattle.channel_world_model.specs.Names.{at};
-    ghost use Rattle.channel_world_runs.specs.NameTable.{key_of, names_of, with_poll_state};
+    ghost use Rattle.channel_world_runs.specs.NameTable.{key_of, with_poll_state};
     ghost use Rattle.channel_world_runs.specs.declared.names.HandleEntry.{HandleEntry};
-
-    /// What a handle is, and how many operations borrow it.
-    pub(crate) fn seen(&self, handle: HandleId) -> Option<Handle>
-        ensures { result ≡ at handle.0 (names_of self.now).handles }
-    {
-        Some(self.handles.get(handle.0)?.handle)
-    }
-
-    /// How a handle stands as a stream.
-    pub(crate) fn poll_state(&self, handle: HandleId) -> Option<PollState>
-        ensures { result ≡ option_map (λ (h : HandleEntry). h.poll_state) (at handle.0 self.now.handles) }
-    {
-        Some(self.handles.get(handle.0)?.poll_state)
-    }
 
     /// A handle stands so from now on.
     pub(crate) fn restand(&mut self, handle: HandleId, poll_state: PollState)
         ensures { self.new ≡ with_poll_state poll_state handle self.old }
     {
-        if let Some(handle_entry) = self.handles.get(handle.0) {
-            let mut stands = *handle_entry;
-            stands.poll_state = poll_state;
-            self.handles.set(handle.0, stands);
+        if let Some(mut handle_entry) = self.handles.take(handle.0) {
+            handle_entry.poll_state = poll_state;
+            self.handles.set(handle.0, handle_entry);
         }
     }
 
@@ -117,9 +99,9 @@ impl<T> NameTable<T> {
         ensures key { result ≡ option_map_or (λ (h : HandleEntry). key_of h.poll_state) (at receiver.0 self.old.handles) None }
         ensures poll_state { self.new ≡ with_poll_state (PollState.IsPolled false) receiver self.old }
     {
-        let poll_state = self.poll_state(receiver)?;
+        let key = self.handles.get(receiver.0)?.poll_state.key();
         self.restand(receiver, PollState::IsPolled { brings: false });
-        poll_state.key()
+        key
     }
 }
 

@@ -112,18 +112,16 @@ impl<T> NameTable<T> {
             Plan::Through(wanted, handle) => self.through_refusal(wanted, handle),
             Plan::ThroughBoth(a, b) => self.unlike_handles(a, b),
             Plan::Makes(wanted, handle, op, _) => {
-                let is_taken = self.operations.is_taken(op.0);
-                let unfit = self.through_refusal(wanted, handle);
-                unfit.or(is_taken.then_some(WorldRefusal::NameTaken))
+                let taken = (self.operations.is_taken(op.0)).then_some(WorldRefusal::NameTaken);
+                self.through_refusal(wanted, handle).or(taken)
             }
             Plan::Polls(op) | Plan::GivesUp(op) => self.unfit_operation(op),
             Plan::Asks(op) => self.unfit_send(op),
             Plan::Streams(receiver) => self.taking_refusal(Wanted::Receiver, receiver),
             Plan::Drops(handle) => self.taking_refusal(Wanted::Any, handle),
             Plan::Mints(wanted, from, new, _) => {
-                let is_taken = self.handles.is_taken(new.0);
-                let unfit = self.through_refusal(wanted, from);
-                unfit.or(is_taken.then_some(WorldRefusal::NameTaken))
+                let taken = (self.handles.is_taken(new.0)).then_some(WorldRefusal::NameTaken);
+                self.through_refusal(wanted, from).or(taken)
             }
         }
     }
