@@ -12,8 +12,9 @@ use channel_world_model::run::Done;
 
 impl<T: Drop> WorldState<T> {
     ghost use Rattle.std.specs.Prelude.{◌≡◌, None, IfOk, IfErr, OnErr};
+    ghost use Rattle.channel_steps.specs.solo.Run.{IsAtRest};
     ghost use Rattle.channel_world_runs.specs.Refusal.{begin_refusal};
-    ghost use Rattle.channel_world_runs.specs.WorldState.{Stands, IsQuiet, IsSame};
+    ghost use Rattle.channel_world_runs.specs.WorldState.{parts_in, Stands, IsQuiet, IsSame};
     ghost use Rattle.channel_world_runs.specs.Lone.{CallsAlone, FinishesAlone, WakesAtMost};
 
     /// Makes a call that has begun to its end, where no other call is under way. Those whom it wakes go after the given names,
@@ -24,7 +25,7 @@ impl<T: Drop> WorldState<T> {
         brings: bool,
         names: Vec<Waiter>,
     ) -> Done<T>
-        requires { IsAtRest (parts_in self.old) }
+        requires at_rest { IsAtRest (parts_in self.old) }
         ensures { FinishesAlone begun brings names self.old result self.new }
     {
         let from = names.len();

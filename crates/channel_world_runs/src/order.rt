@@ -51,9 +51,12 @@ impl Order {
         ensures err { OnErr result (self.new ≡ self.old) }
     {
         let _length = self.places.len();
-        if !self.places.contains(&w) {
-            self.places.put(w, ()).map_err(|_| AllocError)?;
+        if self.places.contains(&w) {
+            return Ok(());
         }
+        let Ok(_) = self.places.put(w, ()) else {
+            return Err(AllocError);
+        };
         Ok(())
     }
 
