@@ -68,10 +68,10 @@ fn poll_ask<T>(operation: Option<Operation<T>>, key: Option<Key>, op: OpId) -> C
     match operation {
         Some(
             Operation::Send {
-                handle: _,
                 message: Some(message),
+                ..
             },
-        ) => ChannelAsk::PollSend(message, lent(key), Waiter::Op(op)),
+        ) => { ChannelAsk::PollSend(message, lent(key), Waiter::Op(op)) }
         Some(Operation::Send { message: None, .. }) => ChannelAsk::PollFinishedSend,
         Some(Operation::Receive { .. }) => ChannelAsk::PollRecv(lent(key), Waiter::Op(op)),
         Some(Operation::Closing { .. }) => ChannelAsk::PollClosed(key, Waiter::Op(op)),
@@ -223,7 +223,9 @@ impl<T: Drop> NameTable<T> {
     fn poll_next(&mut self, receiver: HandleId) -> Begun<T>
         ensures { BeginsByName self.old (Call.PollNext receiver) result self.new }
     {
-        let key = self.lend_stream(receiver);
+        let handle_entry = self.handles.get(receiver.0);
+        let key = handle_entry.and_then(|entry| entry.poll_state.key());
+        self.restand(receiver, PollState::IsPolled { brings: false });
         self.lend(receiver);
         let ask = ChannelAsk::PollNext(key, Waiter::Stream(receiver));
         Begun::new(ask, OnReturn::PollNext(receiver))

@@ -19,23 +19,14 @@ impl<T: Drop> WorldState<T> {
 
     /// Makes a call that has begun to its end, where no other call is under way. Those whom it wakes go after the given names,
     /// where there is room for them; `brings` says whether it may bring a message.
-    pub(crate) fn finish_alone(
-        &mut self,
-        begun: Begun<T>,
-        brings: bool,
-        names: Vec<Waiter>,
-    ) -> Done<T>
+    pub(crate) fn finish(&mut self, begun: Begun<T>, brings: bool, names: Vec<Waiter>) -> Done<T>
         requires at_rest { IsAtRest (parts_in self.old) }
         ensures { FinishesAlone begun brings names self.old result self.new }
     {
         let from = names.len();
         let mut sink = Woken { names };
-        let Completed { reply, kept } = run_alone(
-            begun.ask,
-            &mut self.channel,
-            &mut self.messages,
-            &mut sink,
-        );
+        let (channel, messages) = (&mut self.channel, &mut self.messages);
+        let Completed { reply, kept } = run_alone(begun.ask, channel, messages, &mut sink);
         self.accepted = self.accepted.saturating_add(accepted_by(brings, &reply));
         let Woken { names: woken } = sink;
         self.wake_from(&woken, from);
@@ -68,6 +59,6 @@ impl<T: Drop> WorldState<T> {
             return Err(call);
         }
         let begun = self.name_table.begin(call, self.alloc)?;
-        Ok(self.finish_alone(begun, brings, names))
+        Ok(self.finish(begun, brings, names))
     }
 }

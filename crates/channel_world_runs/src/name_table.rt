@@ -4,7 +4,6 @@ use crate::names::{HandleEntry, OperationEntry, PollState};
 use channel_calls::stage::WaitList;
 use channel_world_model::directory::Directory;
 use channel_world_model::name::{HandleId, HandleKind, Waiter};
-use event_listener::key::Key;
 use std::alloc::{AllocError, Global};
 
 /// All names that were ever taken, with what lives under them.
@@ -33,7 +32,7 @@ fn first_handles(alloc: Global) -> Result<Directory<HandleEntry>, AllocError>
 
 impl<T> NameTable<T> {
     ghost use Rattle.std.specs.Prelude.{◌≡◌, [], IfOk};
-    ghost use Rattle.channel_world_runs.specs.NameTable.{first_name_table, with_lent, with_given_back, with_handed_over};
+    ghost use Rattle.channel_world_runs.specs.NameTable.{first_name_table, with_lent, with_given_back, with_handed_over, with_poll_state};
 
     /// The first sender and the first receiver, and no operations.
     pub(crate) fn new(alloc: Global) -> Result<NameTable<T>, AllocError>
@@ -75,14 +74,6 @@ impl<T> NameTable<T> {
             self.handles.set(handle.0, handle_entry);
         }
     }
-}
-
-impl<T> NameTable<T> {
-    ghost use Rattle.std.specs.Prelude.{◌≡◌, None, false};
-    ghost use Rattle.std.specs.Option.{option_map_or};
-    ghost use Rattle.channel_world_model.specs.Names.{at};
-    ghost use Rattle.channel_world_runs.specs.NameTable.{key_of, with_poll_state};
-    ghost use Rattle.channel_world_runs.specs.declared.names.HandleEntry.{HandleEntry};
 
     /// A handle stands so from now on.
     pub(crate) fn restand(&mut self, handle: HandleId, poll_state: PollState)
@@ -93,82 +84,59 @@ impl<T> NameTable<T> {
             self.handles.set(handle.0, handle_entry);
         }
     }
-
-    /// A poll takes the listener of a receiver's stream.
-    pub(crate) fn lend_stream(&mut self, receiver: HandleId) -> Option<Key>
-        ensures key { result ≡ option_map_or (λ (h : HandleEntry). key_of h.poll_state) (at receiver.0 self.old.handles) None }
-        ensures poll_state { self.new ≡ with_poll_state (PollState.IsPolled false) receiver self.old }
-    {
-        let key = self.handles.get(receiver.0)?.poll_state.key();
-        self.restand(receiver, PollState::IsPolled { brings: false });
-        key
-    }
 }
 
-ghost use Rattle.channel_world_runs.specs.NameTable.{is_woken};
-ghost use Rattle.channel_world_runs.specs.Pending.{stands_pending, operation_stands, stream_stands};
+ghost use Rattle.channel_world_runs.specs.Pending.{stands_counted, operation_stands, stream_stands};
 
-/// Whether an operation is pending.
-fn is_pending<T>(operation: &Option<OperationEntry<T>>) -> bool
-    ensures { result ≡ operation_stands stands_pending operation.now }
+/// Whether an operation is pending; and was woken, where only the woken are asked for.
+fn is_counted<T>(only_woken: bool, operation: &Option<OperationEntry<T>>) -> bool
+    ensures { result ≡ operation_stands (stands_counted only_woken) operation.now }
 {
-    matches!(operation, Some(entry) if entry.poll_state.key().is_some())
+    matches!(operation, Some(entry) if entry.poll_state.is_counted(only_woken))
 }
 
-/// Whether a stream is pending.
-fn is_stream_pending(handle_entry: &Option<HandleEntry>) -> bool
-    ensures { result ≡ stream_stands stands_pending handle_entry.now }
+/// Whether a stream is pending; and was woken, where only the woken are asked for.
+fn is_stream_counted(only_woken: bool, handle_entry: &Option<HandleEntry>) -> bool
+    ensures { result ≡ stream_stands (stands_counted only_woken) handle_entry.now }
 {
-    matches!(handle_entry, Some(entry) if entry.poll_state.key().is_some())
-}
-
-/// Whether an operation is pending and was woken.
-fn is_woken<T>(operation: &Option<OperationEntry<T>>) -> bool
-    ensures { result ≡ operation_stands is_woken operation.now }
-{
-    matches!(operation, Some(entry) if entry.poll_state.is_woken())
-}
-
-/// Whether a stream is pending and was woken.
-fn is_stream_woken(handle_entry: &Option<HandleEntry>) -> bool
-    ensures { result ≡ stream_stands is_woken handle_entry.now }
-{
-    matches!(handle_entry, Some(entry) if entry.poll_state.is_woken())
+    matches!(handle_entry, Some(entry) if entry.poll_state.is_counted(only_woken))
 }
 
 impl<T> NameTable<T> {
     ghost use Rattle.std.specs.Prelude.{◌≡◌};
-    ghost use Rattle.channel_world_runs.specs.NameTable.{is_woken};
-    ghost use Rattle.channel_world_runs.specs.Pending.{stands_pending, how_many};
+    ghost use Rattle.channel_world_model.specs.Laws.{is_line, line_at};
+    ghost use Rattle.channel_world_runs.specs.NameTable.{is_woken, names_of};
+    ghost use Rattle.channel_world_runs.specs.Pending.{stands_counted, stands_pending, how_many};
+
+    /// How many operations and streams are pending; of them those who were woken, where only these are asked for.
+    fn count(&self, only_woken: bool) -> usize
+        ensures { result ≡ how_many (stands_counted only_woken) self.now }
+    {
+        let operations = self.operations.iter();
+        let operations = operations
+            .filter(|(_, x)| is_counted(only_woken, *x))
+            .count();
+        let streams = self.handles.iter();
+        let streams = streams
+            .filter(|(_, x)| is_stream_counted(only_woken, *x))
+            .count();
+        operations + streams
+    }
 
     /// How many operations and streams are pending: they live, their last poll ended so, and no poll of them is under way. Own to
     /// this project.
     pub fn count_pending(&self) -> usize
         ensures { result ≡ how_many stands_pending self.now }
     {
-        let operations = self.operations.iter();
-        let operations = operations.filter(|(_, x)| is_pending(*x)).count();
-        let streams = self.handles.iter();
-        let streams = streams.filter(|(_, x)| is_stream_pending(*x)).count();
-        operations + streams
+        self.count(false)
     }
 
     /// How many of those that are pending were woken since their last poll. Own to this project.
     pub fn count_woken(&self) -> usize
         ensures { result ≡ how_many is_woken self.now }
     {
-        let operations = self.operations.iter();
-        let operations = operations.filter(|(_, x)| is_woken(*x)).count();
-        let streams = self.handles.iter();
-        let streams = streams.filter(|(_, x)| is_stream_woken(*x)).count();
-        operations + streams
+        self.count(true)
     }
-}
-
-impl<T> NameTable<T> {
-    ghost use Rattle.std.specs.Prelude.{◌≡◌};
-    ghost use Rattle.channel_world_model.specs.Laws.{is_line, line_at};
-    ghost use Rattle.channel_world_runs.specs.NameTable.{names_of};
 
     /// Whether what has this name belongs to this line: a pending send, receive or wait for the closing to its own, and a stream to
     /// that of the streams. A finished send belongs to none, nor does a name under which nothing lives. Own to this project.

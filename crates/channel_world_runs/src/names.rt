@@ -25,6 +25,7 @@ pub enum PollState {
 impl PollState {
     ghost use Rattle.std.specs.Prelude.{◌≡◌};
     ghost use Rattle.channel_world_runs.specs.NameTable.{key_of, poll_state_with, is_polled, is_woken, told};
+    ghost use Rattle.channel_world_runs.specs.Pending.{stands_counted};
 
     /// The listener of one that is pending.
     pub(crate) fn key(self) -> Option<Key>
@@ -59,6 +60,13 @@ impl PollState {
         ensures { result ≡ is_woken self }
     {
         matches!(self, PollState::Waits { is_woken: true, .. })
+    }
+
+    /// Whether it is pending; and was woken, where only the woken are asked for.
+    pub(crate) fn is_counted(self, only_woken: bool) -> bool
+        ensures { result ≡ stands_counted only_woken self }
+    {
+        matches!(self, PollState::Waits { key: _, is_woken } if is_woken || !only_woken)
     }
 
     /// The same, woken where it is pending.

@@ -34,7 +34,7 @@ impl Model for Order {
 impl Order {
     ghost use Rattle.std.specs.Prelude.{◌≡◌, [], IfOk, OnOk, OnErr};
     ghost use Rattle.channel_world_model.specs.Lines.{without_waiter};
-    ghost use Rattle.channel_world_runs.specs.Order.{placed, moved_last};
+    ghost use Rattle.channel_world_runs.specs.Order.{placed, moved_last, order_begun, order_settled};
     ghost use Rattle.channel_world_runs.specs.OwnerOrder.{woken_in};
 
     /// Nobody has a place.
@@ -94,11 +94,6 @@ impl Order {
         }
         Ok(names)
     }
-}
-
-impl Order {
-    ghost use Rattle.std.specs.Prelude.{◌≡◌, OnOk, OnErr};
-    ghost use Rattle.channel_world_runs.specs.Order.{order_begun, order_settled};
 
     /// A call begins: who is polled gets a place, who is given up or dropped loses it. Where memory was refused, nothing is
     /// changed.

@@ -19,9 +19,8 @@ impl HandleEntry {
         if !wanted.fits(self.handle.kind) {
             return Some(WorldRefusal::WrongKind);
         }
-        self.poll_state
-            .is_polled()
-            .then_some(WorldRefusal::OpUnderWay)
+        let is_polled = self.poll_state.is_polled();
+        is_polled.then_some(WorldRefusal::OpUnderWay)
     }
 
     /// Why a call doesn't take it whole: an operation borrows it, or a call under way uses it.
@@ -85,10 +84,8 @@ impl<T> NameTable<T> {
         ensures { let u = under_way_in self.now in result ≡ unfit_operation (u.polled (Op op)) (operation_at op self.now) }
     {
         match self.operations.get(op.0) {
-            Some(operation) => {
-                let is_polled = operation.poll_state.is_polled();
-                is_polled.then_some(WorldRefusal::OpUnderWay)
-            }
+            Some(entry) if entry.poll_state.is_polled() => Some(WorldRefusal::OpUnderWay),
+            Some(_) => None,
             None => Some(WorldRefusal::UnknownName),
         }
     }

@@ -88,7 +88,7 @@ impl<T: Drop> WorldState<T> {
         let Done {
             reply,
             woken: names,
-        } = self.finish_alone(begun, brings, names);
+        } = self.finish(begun, brings, names);
         Polled { reply, names }
     }
 }

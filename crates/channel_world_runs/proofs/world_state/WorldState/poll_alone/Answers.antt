@@ -10,21 +10,21 @@ use Rattle.channel_world_runs.proofs.WokenPolls.{poll_keeps_order}
 use Rattle.channel_world_runs.proofs.world_state.WorldState.poll_alone.Given.{Over}
 use Rattle.channel_world_runs.proofs.world_state.WorldState.poll_alone.Goals as goal
 
-pub finish_alone-reply-requires : goal.finish_alone-reply-requires
-finish_alone-reply-requires g c =
+pub finish-reply-requires : goal.finish-reply-requires
+finish-reply-requires g c =
     let o = c.requires.stands in
     record { at_rest = is_at_rest c.args.self.now o.configuration o.stands.shown c.requires.quiet }
 
-begins : (g : Over) (c : goal.After-finish_alone-reply g)
+begins : (g : Over) (c : goal.After-finish-reply g)
     → BeginsByName c.args.self.now.name_table (poll_of c.args.name) c.begin_named-begun.result c.begin_named-begun.new.self
 begins g c = rw c.poll_of-poll.ensures at c.begin_named-begun.ensures
 
-heard : (g : Over) (c : goal.After-finish_alone-reply g) → Heard c.args.names c.finish_alone-reply.result.woken
+heard : (g : Over) (c : goal.After-finish-reply g) → Heard c.args.names c.finish-reply.result.woken
 heard g c =
     let by_name = begins g c in
     let start : vec_len c.args.names ≡ length c.args.names.items = c.args.names.ok.0 in
-    names_heard (poll_of c.args.name) c.args.self.now c.finish_alone-reply.new.self _ _ _ _ _ c.finish_alone-reply.result
-    (vec_capacity c.args.names - vec_len c.args.names) c.finish_alone-reply.ensures by_name.ask c.requires.stands c.requires.quiet
+    names_heard (poll_of c.args.name) c.args.self.now c.finish-reply.new.self _ _ _ _ _ c.finish-reply.result
+    (vec_capacity c.args.names - vec_len c.args.names) c.finish-reply.ensures by_name.ask c.requires.stands c.requires.quiet
     (omega (arith, start)) c.requires.room
 
 pub returns-clause-polled : goal.returns-clause-polled
@@ -33,10 +33,10 @@ returns-clause-polled g c =
     let h = heard g c in
     let start : vec_len c.args.names ≡ length c.args.names.items = c.args.names.ok.0 in
     record {
-      woken = drop (length c.args.names.items) c.finish_alone-reply.result.woken.items;
+      woken = drop (length c.args.names.items) c.finish-reply.result.woken.items;
       names = h.names;
-      called = is_called (poll_of c.args.name) old c.finish_alone-reply.new.self _ _ _ _ _ c.finish_alone-reply.result
-          (vec_capacity c.args.names - vec_len c.args.names) c.finish_alone-reply.ensures (begins g c)
+      called = is_called (poll_of c.args.name) old c.finish-reply.new.self _ _ _ _ _ c.finish-reply.result
+          (vec_capacity c.args.names - vec_len c.args.names) c.finish-reply.ensures (begins g c)
           (sym (poll_keeps_order old.name_table old.order c.args.name c.requires.woken))
           (c.brings-brings.ensures ∙ ap (λ (x : Call g.row.T.Denot). brings old.name_table x) c.poll_of-poll.ensures)
           c.requires.quiet c.requires.limit (omega (arith, start)) c.requires.room;
@@ -48,5 +48,5 @@ returns-clause-capacity g c = let h = heard g c in h.capacity
 pub returns-clause-ample : goal.returns-clause-ample
 returns-clause-ample g c =
     let by_name = begins g c in
-    is_ample c.args.self.now c.args.name c.begin_named-begun.result.ask c.finish_alone-reply.result.reply c.requires.stands c.requires.woken
-    by_name.ask c.finish_alone-reply.ensures.ample
+    is_ample c.args.self.now c.args.name c.begin_named-begun.result.ask c.finish-reply.result.reply c.requires.stands c.requires.woken
+    by_name.ask c.finish-reply.ensures.ample

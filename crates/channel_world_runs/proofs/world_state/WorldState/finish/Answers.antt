@@ -1,5 +1,5 @@
 use Rattle.std.proofs.Common.{◌≡◌, length, refl, ◌∙◌}
-use Rattle.channel_world_runs.proofs.world_state.WorldState.finish_alone.Goals as goal
+use Rattle.channel_world_runs.proofs.world_state.WorldState.finish.Goals as goal
 
 pub returns : goal.returns
 returns g c =
