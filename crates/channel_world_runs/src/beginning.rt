@@ -37,15 +37,11 @@ impl<T> Begun<T> {
 fn mint_ask<T>(kinship: Kinship, handle: Handle) -> ChannelAsk<T, Waiter>
     ensures { result ≡ mint_asked kinship (Some handle) }
 {
-    match (kinship, handle.kind) {
+    match (kinship, kinship.of(handle.kind)) {
         (Kinship::Own, HandleKind::Sender) => ChannelAsk::CloneHandle(Side::Senders),
         (Kinship::Own, HandleKind::Receiver) => ChannelAsk::CloneHandle(Side::Receivers),
-        (Kinship::Strong, HandleKind::Sender | HandleKind::WeakSender) => {
-            ChannelAsk::Upgrade(Side::Senders)
-        }
-        (Kinship::Strong, HandleKind::Receiver | HandleKind::WeakReceiver) => {
-            ChannelAsk::Upgrade(Side::Receivers)
-        }
+        (Kinship::Strong, HandleKind::Sender) => ChannelAsk::Upgrade(Side::Senders),
+        (Kinship::Strong, HandleKind::Receiver) => ChannelAsk::Upgrade(Side::Receivers),
         _ => ChannelAsk::Make,
     }
 }
@@ -66,13 +62,10 @@ fn poll_ask<T>(operation: Option<Operation<T>>, key: Option<Key>, op: OpId) -> C
     ensures { result ≡ poll_asked key op operation }
 {
     match operation {
-        Some(
-            Operation::Send {
-                message: Some(message),
-                ..
-            },
-        ) => { ChannelAsk::PollSend(message, lent(key), Waiter::Op(op)) }
-        Some(Operation::Send { message: None, .. }) => ChannelAsk::PollFinishedSend,
+        Some(Operation::Send { handle: _, message }) => match message {
+            Some(message) => ChannelAsk::PollSend(message, lent(key), Waiter::Op(op)),
+            None => ChannelAsk::PollFinishedSend,
+        },
         Some(Operation::Receive { .. }) => ChannelAsk::PollRecv(lent(key), Waiter::Op(op)),
         Some(Operation::Closing { .. }) => ChannelAsk::PollClosed(key, Waiter::Op(op)),
         None => ChannelAsk::Make,
@@ -180,20 +173,6 @@ impl<T: Drop> NameTable<T> {
         (Some(entry.operation), entry.poll_state.key())
     }
 
-    fn poll(&mut self, op: OpId) -> Begun<T>
-        ensures { BeginsByName self.old (Call.Poll op) result self.new }
-    {
-        let (operation, key) = self.lend_operation(op);
-        Begun::new(poll_ask(operation, key, op), OnReturn::Poll(op))
-    }
-
-    fn poll_refused(&mut self, op: OpId) -> Begun<T>
-        ensures { BeginsByName self.old (Call.PollRefused op) result self.new }
-    {
-        let (operation, key) = self.lend_operation(op);
-        Begun::new(refusal_ask(operation, key), OnReturn::Poll(op))
-    }
-
     fn give_up(&mut self, op: OpId) -> Begun<T>
         ensures { BeginsByName self.old (Call.GiveUp op) result self.new }
     {
@@ -258,27 +237,29 @@ impl<T: Drop> NameTable<T> {
         Some(Begun::new(mint_ask(kinship, seen), on_return))
     }
 
-    fn same_channel(&mut self, a: HandleId, b: HandleId) -> Begun<T>
-        ensures { BeginsByName self.old (Call.SameChannel a b) result self.new }
-    {
-        self.lend(a);
-        self.lend(b);
-        Begun::new(ChannelAsk::SameChannel(true), OnReturn::LeaveBoth(a, b))
-    }
-
     /// A call begins that brings nothing but names of what lives, each in its own way.
     pub(crate) fn begin_named(&mut self, call: Call<T>) -> Begun<T>
         requires { is_named (plan_of call) ≡ true }
         ensures { BeginsByName self.old call result self.new }
     {
         match call {
-            Call::Poll { op } => self.poll(op),
-            Call::PollRefused { op } => self.poll_refused(op),
+            Call::Poll { op } => {
+                let (operation, key) = self.lend_operation(op);
+                Begun::new(poll_ask(operation, key, op), OnReturn::Poll(op))
+            }
+            Call::PollRefused { op } => {
+                let (operation, key) = self.lend_operation(op);
+                Begun::new(refusal_ask(operation, key), OnReturn::Poll(op))
+            }
             Call::GiveUp { op } => self.give_up(op),
             Call::SendIsTerminated { op } => self.send_is_terminated(op),
             Call::PollNext { receiver } => self.poll_next(receiver),
             Call::Drop { handle } => self.drop_handle(handle),
-            Call::SameChannel { a, b } => self.same_channel(a, b),
+            Call::SameChannel { a, b } => {
+                self.lend(a);
+                self.lend(b);
+                Begun::new(ChannelAsk::SameChannel(true), OnReturn::LeaveBoth(a, b))
+            }
             _ => unreachable!(),
         }
     }

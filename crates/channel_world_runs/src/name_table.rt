@@ -15,21 +15,6 @@ pub struct NameTable<T> {
     pub operations: Directory<OperationEntry<T>>,
 }
 
-ghost use Rattle.std.specs.Prelude.{◌≡◌, IfOk};
-ghost use Rattle.channel_world_runs.specs.NameTable.{first_handles};
-
-/// The first sender and the first receiver.
-fn first_handles(alloc: Global) -> Result<Directory<HandleEntry>, AllocError>
-    ensures { IfOk result (λ handles. handles ≡ first_handles) }
-{
-    let sender = HandleEntry::unused(HandleKind::Sender);
-    let receiver = HandleEntry::unused(HandleKind::Receiver);
-    let mut handles = Directory::new(alloc)?;
-    handles.add(0, sender).map_err(|_| AllocError)?;
-    handles.add(1, receiver).map_err(|_| AllocError)?;
-    Ok(handles)
-}
-
 impl<T> NameTable<T> {
     ghost use Rattle.std.specs.Prelude.{◌≡◌, [], IfOk};
     ghost use Rattle.channel_world_runs.specs.NameTable.{first_name_table, with_lent, with_given_back, with_handed_over, with_poll_state};
@@ -38,8 +23,13 @@ impl<T> NameTable<T> {
     pub(crate) fn new(alloc: Global) -> Result<NameTable<T>, AllocError>
         ensures { IfOk result (λ name_table. name_table ≡ first_name_table) }
     {
+        let sender = HandleEntry::unused(HandleKind::Sender);
+        let receiver = HandleEntry::unused(HandleKind::Receiver);
+        let mut handles = Directory::new(alloc)?;
+        handles.add(0, sender).map_err(|_| AllocError)?;
+        handles.add(1, receiver).map_err(|_| AllocError)?;
         Ok(NameTable {
-            handles: first_handles(alloc)?,
+            handles,
             operations: Directory::new(alloc)?,
         })
     }
@@ -86,6 +76,7 @@ impl<T> NameTable<T> {
     }
 }
 
+ghost use Rattle.std.specs.Prelude.{◌≡◌};
 ghost use Rattle.channel_world_runs.specs.Pending.{stands_counted, operation_stands, stream_stands};
 
 /// Whether an operation is pending; and was woken, where only the woken are asked for.
@@ -113,14 +104,10 @@ impl<T> NameTable<T> {
         ensures { result ≡ how_many (stands_counted only_woken) self.now }
     {
         let operations = self.operations.iter();
-        let operations = operations
-            .filter(|(_, x)| is_counted(only_woken, *x))
-            .count();
+        let operations = operations.filter(|(_, x)| is_counted(only_woken, *x));
         let streams = self.handles.iter();
-        let streams = streams
-            .filter(|(_, x)| is_stream_counted(only_woken, *x))
-            .count();
-        operations + streams
+        let streams = streams.filter(|(_, x)| is_stream_counted(only_woken, *x));
+        operations.count() + streams.count()
     }
 
     /// How many operations and streams are pending: they live, their last poll ended so, and no poll of them is under way. Own to

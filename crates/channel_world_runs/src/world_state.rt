@@ -109,9 +109,7 @@ impl<T: Drop> WorldState<T> {
     {
         let k = find_call(&self.calls, party)?;
         let room = self.channel.most_listeners();
-        let Ok(names) = Vec::with_capacity(self.alloc, room) else {
-            return None;
-        };
+        let names = Vec::with_capacity(self.alloc, room).ok()?;
         let mut sink = Woken { names };
         let call = &mut self.calls[k];
         let reply = call.step(&mut self.channel, &mut sink);

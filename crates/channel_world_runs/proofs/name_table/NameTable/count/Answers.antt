@@ -6,9 +6,9 @@ use Rattle.channel_world_runs.proofs.name_table.NameTable.count.Goals as goal
 
 pub returns : goal.returns
 returns g c =
-    let operations : c.count-operations.result ≡ count_by (λ e. operation_stands (stands_counted c.args.only_woken) e.1) c.args.self.now.operations
-    = passed _ _ _ _ (c.filter.ensures.source ∙ c.iter-operations.ensures.entries) c.filter.ensures.closure (λ x b q k. (search rules, search rules)) c.count-operations.ensures.ran in
-    let streams : c.count-streams.result ≡ count_by (λ e. stream_stands (stands_counted c.args.only_woken) e.1) c.args.self.now.handles
-    = passed _ _ _ _ (c.filter-2.ensures.source ∙ c.iter-streams.ensures.entries) c.filter-2.ensures.closure (λ x b q k. (search rules, search rules)) c.count-streams.ensures.ran in
-    ap (λ n. n + c.count-streams.result) operations
+    let operations : c.count.result ≡ count_by (λ e. operation_stands (stands_counted c.args.only_woken) e.1) c.args.self.now.operations
+    = passed _ _ _ _ (c.filter-operations.ensures.source ∙ c.iter-operations.ensures.entries) c.filter-operations.ensures.closure (λ x b q k. (search rules, search rules)) c.count.ensures.ran in
+    let streams : c.count-2.result ≡ count_by (λ e. stream_stands (stands_counted c.args.only_woken) e.1) c.args.self.now.handles
+    = passed _ _ _ _ (c.filter-streams.ensures.source ∙ c.iter-streams.ensures.entries) c.filter-streams.ensures.closure (λ x b q k. (search rules, search rules)) c.count-2.ensures.ran in
+    ap (λ n. n + c.count-2.result) operations
     ∙ ap (λ n. count_by (λ e. operation_stands (stands_counted c.args.only_woken) e.1) c.args.self.now.operations + n) streams
