@@ -145,9 +145,11 @@ impl<T: Drop> NameTable<T> {
         let Some(handle_entry) = self.handles.get(handle.0) else {
             return self.operations.spend(op.0);
         };
-        let Some(borrowed) = (*handle_entry).borrowed_more() else {
+        let mut borrowed = *handle_entry;
+        let Some(borrowers) = borrowed.handle.borrowers.checked_add(1) else {
             return false;
         };
+        borrowed.handle.borrowers = borrowers;
         if !self.operations.spend(op.0) {
             return false;
         }

@@ -114,8 +114,8 @@ pub struct HandleEntry {
 }
 
 impl HandleEntry {
-    ghost use Rattle.std.specs.Prelude.{◌≡◌, IfSome};
-    ghost use Rattle.channel_world_runs.specs.NameTable.{unused, borrowed_more};
+    ghost use Rattle.std.specs.Prelude.{◌≡◌};
+    ghost use Rattle.channel_world_runs.specs.NameTable.{unused};
 
     /// A handle that nobody uses.
     pub(crate) fn unused(kind: HandleKind) -> HandleEntry
@@ -126,14 +126,6 @@ impl HandleEntry {
             users: 0,
             poll_state: PollState::Rests,
         }
-    }
-
-    /// The same, borrowed by one more operation. None where as many borrow it as can be counted.
-    pub(crate) fn borrowed_more(mut self) -> Option<HandleEntry>
-        ensures { IfSome result (λ h. h ≡ borrowed_more self) }
-    {
-        self.handle.borrowers = self.handle.borrowers.checked_add(1)?;
-        Some(self)
     }
 }
 
