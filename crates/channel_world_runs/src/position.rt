@@ -5,23 +5,14 @@ use crate::world_state::WorldState;
 use channel_calls::mark::Mark;
 use channel_calls::reply::Reply;
 use channel_world_model::call::Call;
-use concurrent_queue::cells::QueueForm;
 use futures::task::Poll;
 
 /// How many messages a channel accepts at most: the positions of a queue end there.
 pub(crate) const MOST_MESSAGES: u64 = (1 << 61) - 1;
 
 ghost use Rattle.std.specs.Prelude.{◌≡◌};
-ghost use Rattle.concurrent_queue.specs.Capacity.{capacity_of};
 ghost use Rattle.channel_steps.specs.Count.{brought_in};
-ghost use Rattle.channel_world_runs.specs.Positions.{is_one_place, accepted_by};
-
-/// Whether a queue of this form has one place alone: it counts no positions.
-pub(crate) fn is_one_place(form: QueueForm) -> bool
-    ensures { result ≡ is_one_place (capacity_of form) }
-{
-    matches!(form, QueueForm::Bounded(1))
-}
+ghost use Rattle.channel_world_runs.specs.Positions.{accepted_by};
 
 /// How many messages a step with this mark brings in.
 pub(crate) fn brought_in(mark: Mark) -> u64

@@ -3,7 +3,7 @@
 use crate::calls::{CallUnderWay, find_call, is_at_work};
 use crate::name_table::NameTable;
 use crate::order::Order;
-use crate::position::{brought_in, is_one_place};
+use crate::position::brought_in;
 use crate::step::{Entry, PartyId, Step};
 use crate::woken::Woken;
 use channel_calls::mark::Mark;
@@ -59,7 +59,7 @@ impl<T: Drop> WorldState<T> {
             name_table: NameTable::new(alloc)?,
             order: Order::new(alloc)?,
             messages: 0,
-            has_one_place: is_one_place(form),
+            has_one_place: matches!(form, QueueForm::Bounded(1)),
             accepted: 0,
             alloc,
         })
