@@ -2,7 +2,7 @@
 
 ghost use Rattle.std.specs.Prelude.{◌≡◌, Some};
 ghost use Rattle.channel_world_model.specs.Asked.{poll_asked, refusal_asked, drop_asked, plain_asked};
-ghost use Rattle.channel_world_runs.specs.Bookkeeping.{mint_asked, new_message, unpolled};
+ghost use Rattle.channel_world_runs.specs.Bookkeeping.{mint_asked, new_message};
 
 use crate::name_table::NameTable;
 use crate::names::{OnReturn, OperationEntry, PollState};
