@@ -76,12 +76,10 @@ fn poll_ask<T>(operation: Option<Operation<T>>, key: Option<Key>, op: OpId) -> C
 fn refusal_ask<T>(operation: Option<Operation<T>>, key: Option<Key>) -> ChannelAsk<T, Waiter>
     ensures { result ≡ refusal_asked key operation }
 {
-    match operation {
-        Some(operation) => {
-            ChannelAsk::RefusePoll(operation.waits_in(), operation.into_message(), key)
-        }
-        None => ChannelAsk::Make,
-    }
+    let Some(operation) = operation else {
+        return ChannelAsk::Make;
+    };
+    ChannelAsk::RefusePoll(operation.waits_in(), operation.into_message(), key)
 }
 
 /// What a call asks that goes through one handle. A receive of several messages takes its room from `alloc`, at its first step.

@@ -3,7 +3,7 @@
 use crate::name_table::NameTable;
 use crate::names::HandleEntry;
 use channel_world_model::call::Call;
-use channel_world_model::name::{HandleId, HandleKind, OpId, Operation};
+use channel_world_model::name::{HandleId, OpId, Operation};
 use channel_world_model::plan::{Plan, Wanted};
 use channel_world_model::refusal::WorldRefusal;
 
@@ -69,14 +69,11 @@ impl<T> NameTable<T> {
         let (Some(a), Some(b)) = (self.handles.get(a.0), self.handles.get(b.0)) else {
             return Some(WorldRefusal::UnknownName);
         };
-        match (a.handle.kind, b.handle.kind) {
-            (HandleKind::Sender, HandleKind::Sender)
-            | (HandleKind::Receiver, HandleKind::Receiver) => {
-                let is_polled = a.poll_state.is_polled() || b.poll_state.is_polled();
-                is_polled.then_some(WorldRefusal::OpUnderWay)
-            }
-            _ => Some(WorldRefusal::WrongKind),
+        if a.handle.kind != b.handle.kind || !Wanted::Strong.fits(a.handle.kind) {
+            return Some(WorldRefusal::WrongKind);
         }
+        let is_polled = a.poll_state.is_polled() || b.poll_state.is_polled();
+        is_polled.then_some(WorldRefusal::OpUnderWay)
     }
 
     /// Why this operation is neither polled nor given up.
