@@ -1,29 +1,31 @@
 -- A call made alone, by names: what its code does, and what is kept.
 use Rattle.std.proofs.Common.{arith, ◌≡◌, ◌+◌, ◌-◌, ◌≤◌, ◌^◌, min, ℕ, Bool, true, false, List, [], ◌∷◌, map, length, drop, Option, None, Result, Ok, Err, IfOk, OnErr, ◌⊎◌, inl, inr, refl, sym, ap, ◌∙◌, subst, vec_len, vec_capacity}
+use Rattle.std.specs.Global.{Vec}
 use Rattle.channel_calls.specs.Moves.{Channel}
 use Rattle.channel_calls.specs.declared.ask.ChannelAsk.{ChannelAsk}
 use Rattle.channel_calls.specs.declared.reply.Reply.{Reply}
 use Rattle.channel_steps.specs.solo.Alone.{Alone}
 use Rattle.channel_steps.specs.solo.Run.{HasNextPosition, IsAtRest}
-use Rattle.channel_steps.specs.solo.Configurations.{LoneRun, RunsInConfigurations}
-use Rattle.channel_calls.specs.declared.whole.Completed.{Completed}
+use Rattle.channel_steps.specs.solo.Configurations.{LoneRun}
 use Rattle.channel_world_model.specs.declared.call.Call.{Call}
 use Rattle.channel_world_model.specs.declared.name.Waiter.{Waiter}
 use Rattle.channel_world_model.specs.declared.run.Done.{Done as Answered}
 use Rattle.concurrent_queue.specs.Step.{FitsAt}
 use Rattle.channel_steps.specs.Configuration.{ActiveCall, Configuration, ActiveCallWitness, active_call_of, all_seats, Represents}
-use Rattle.channel_world_runs.specs.Bookkeeping.{asks}
+use Rattle.channel_world_runs.specs.Bookkeeping.{asks, BeginsByName}
 use Rattle.channel_world_runs.specs.WorldState.{parties_of, agents_of, parts_in, name_state_of, AreCounted, HasOnePlace, Shown, IsQuiet, IsSame, LeadsOn}
 use Rattle.channel_world_runs.specs.WorldState as place
 use Rattle.channel_world_runs.specs.Activity.{activity_of}
 use Rattle.channel_world_runs.specs.WorldInvariant.{WorldInvariant}
 use Rattle.channel_world_runs.specs.Owners.{All}
-use Rattle.channel_world_runs.specs.Lone.{names_alone, order_alone, BringsWithin, CallsAlone, WakesAtMost}
+use Rattle.channel_world_runs.specs.Lone.{BringsWithin, CallsAlone, FinishesAlone, WakesAtMost}
 use Rattle.channel_world_runs.specs.Positions.{brings, accepted_by, is_one_place, yet_in}
 use Rattle.channel_world_runs.specs.Refusal.{begin_refusal}
 use Rattle.channel_world_runs.specs.Run.{NameState}
 use Rattle.channel_world_runs.specs.Reaches.{Reaches, reply_of}
-use Rattle.channel_world_runs.specs.Woken.{Hears}
+use Rattle.channel_world_runs.specs.Order.{order_begun}
+use Rattle.channel_world_runs.specs.declared.beginning.Begun.{Begun}
+use Rattle.channel_world_runs.specs.declared.name_table.NameTable.{NameTable}
 use Rattle.channel_world_runs.specs.declared.world_state.WorldState.{WorldState}
 use Rattle.channel_world_runs.specs.Calls.{agent_of}
 use Rattle.channel_world_runs.specs.declared.calls.CallUnderWay.{CallUnderWay}
@@ -93,30 +95,30 @@ module _ {T : Type 0} where
     by true e = one (room e)
     by false e = none sh.positions
 
-  pub is_called : (c : Call T) (old new : WorldState T) (a : ChannelAsk T Waiter) (d : Completed T) (empty full : Sink) (fresh : List Waiter) (room came : ℕ)
-      → RunsInConfigurations Hears a (parts_in old) empty old.messages d (parts_in new) full new.messages
-      → a ≡ asks old.name_table c → IsQuiet old → IsQuiet new → BringsWithin c old → came ≡ accepted_by (brings old.name_table c) d.reply
-      → new.accepted ≡ min (old.accepted + came) (2 ^ 64 - 1) → new.has_one_place ≡ old.has_one_place
-      → drop (length empty.names.items) full.names.items ≡ fresh → length empty.names.items + room ≤ vec_capacity empty.names
-      → WakesAtMost room c old → new.name_table ≡ names_alone old.name_table c d.reply d.kept fresh
-      → new.order ≡ order_alone old.name_table c d.kept fresh old.order
-      → CallsAlone c old d.reply fresh new
-  is_called c old new a d empty full fresh room came ran asked quiet still place_left brought counts same_place behind enough few names order s sh all =
-      let r = ran s 0 (has_position old s sh) (subst (λ ps. Represents (parts_in old) ps s) (no_parties old quiet) sh.shows) in
+  -- a call that begins where no other is under way, and is made to its end, is made alone
+  pub is_called : (c : Call T) (old new : WorldState T) (names : NameTable T) (order : List Waiter) (begun : Begun T) (b : Bool) (before : Vec Waiter)
+      (d : Answered T) (room : ℕ)
+      → FinishesAlone begun b before (record old { name_table = names; order = order }) d new → BeginsByName old.name_table c begun names
+      → order ≡ order_begun c old.order → b ≡ brings old.name_table c → IsQuiet old → BringsWithin c old
+      → length before.items + room ≤ vec_capacity before → WakesAtMost room c old
+      → CallsAlone c old d.reply (drop (length before.items) d.woken.items) new
+  is_called c old new names order begun b before d room made by_name placed may quiet place_left enough few s sh all =
+      let empty : Sink = record { names = before } in
+      let r = made.run s 0 (has_position old s sh) (subst (λ ps. Represents (parts_in old) ps s) (no_parties old quiet) sh.shows) in
       let alone : Alone (asks old.name_table c) s.now r.outcome =
-      subst (λ (x : ChannelAsk T Waiter). Alone x s.now r.outcome) asked r.does in
+      subst (λ (x : ChannelAsk T Waiter). Alone x s.now r.outcome) by_name.ask r.does in
       let most = few s r.outcome sh all alone in
-      let start : vec_len empty.names ≡ length empty.names.items = empty.names.ok.0 in
-      let heard : fresh ≡ r.outcome.woken =
-      sym behind
-      ∙ (ap (λ (ws : List Waiter). drop (length empty.names.items) ws) (all_heard empty r.outcome.woken full r.woken (omega (arith, most, enough, start)))
-      ∙ drop_front empty.names.items r.outcome.woken) in
+      let start : vec_len before ≡ length before.items = before.ok.0 in
+      let heard : drop (length before.items) d.woken.items ≡ r.outcome.woken =
+      ap (λ (ws : List Waiter). drop (length before.items) ws) (all_heard empty r.outcome.woken (record { names = d.woken }) r.woken (omega (arith, most, enough, start)))
+      ∙ drop_front before.items r.outcome.woken in
       let run : LoneRun s 0 (asks old.name_table c) r.outcome r.after =
-      subst (λ (x : ChannelAsk T Waiter). LoneRun s 0 x r.outcome r.after) asked r.run in
-      let said : came ≡ accepted_by (brings old.name_table c) r.outcome.reply =
-      brought ∙ ap (λ (y : Reply T). accepted_by (brings old.name_table c) y) r.reply in
+      subst (λ (x : ChannelAsk T Waiter). LoneRun s 0 x r.outcome r.after) by_name.ask r.run in
+      let said : accepted_by b d.reply ≡ accepted_by (brings old.name_table c) r.outcome.reply =
+      ap (λ (x : Bool). accepted_by x d.reply) may ∙ ap (λ (y : Reply T). accepted_by (brings old.name_table c) y) r.reply in
       let capacity : r.after.now.queue.capacity ≡ s.now.queue.capacity =
       ap (λ (x : Channel T Waiter). x.queue.capacity) r.now ∙ r.capacity in
+      let still : IsQuiet new = ap (λ (cs : Vec (CallUnderWay T)). cs.items) made.calls ∙ quiet in
       record {
         outcome = r.outcome;
         after = r.after;
@@ -127,16 +129,16 @@ module _ {T : Type 0} where
         now = r.now;
         shown = record {
           shows = subst (λ ps. Represents (parts_in new) ps r.after) (sym (no_parties new still)) r.shown;
-          place = same_place ∙ (sh.place ∙ sym (ap (λ (cap : Option ℕ). is_one_place cap) capacity));
-          positions = counted_then old new (brings old.name_table c) r.outcome.reply came s r.after
+          place = made.place ∙ (sh.place ∙ sym (ap (λ (cap : Option ℕ). is_one_place cap) capacity));
+          positions = counted_then old new (brings old.name_table c) r.outcome.reply (accepted_by b d.reply) s r.after
               (counted_alone old.name_table c old.accepted s r.after r.outcome 0 run alone r.now (none_under_way old s quiet sh))
-              (subst (λ n. place.HasPositions n old) (sym said) (place_left s r.outcome sh all alone)) said counts same_place run.over
+              (subst (λ n. place.HasPositions n old) (sym said) (place_left s r.outcome sh all alone)) said made.accepted made.place run.over
               sh.positions;
           messages = r.counted sh.messages;
           activities = rw (still, run.over) refl;
           few = subst (λ (us : List (ActiveCall T Waiter)). All (TookFew r.after.now.queue.removed) us) (sym run.over) tt;
         };
-        name_state = rw (names, order, still, r.reply, r.kept, heard) refl;
+        name_state = rw (made.name_table, made.order, by_name.on_return, by_name.names, placed, still, r.reply, r.kept, heard) refl;
       }
 
   -- a call made alone leads from a configuration in which the channel stood to one in which it stands

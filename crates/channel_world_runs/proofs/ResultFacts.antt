@@ -1,6 +1,7 @@
 -- Results of which it is known whether they are values.
 use Rattle.std.proofs.Common.{◌≡◌, true, false, Option, None, Some, Result, Ok, Err, is_err, IfSome, IfOk, OnOk, subst, sym}
 use Rattle.std.specs.Option.{ok_or}
+use Rattle.std.specs.Result.{result_ok}
 
 -- what is made of an option by `ok_or`
 pub ok_where_some : {A E : Type 0} (P Q : A → Type 0) (o : Option A) (e : E) (r : Result A E) → r ≡ ok_or o e
@@ -9,6 +10,11 @@ ok_where_some {A} {E} P Q o e r is so held = subst (λ (x : Result A E). IfOk x 
   by : (o : Option A) → IfSome o P → IfOk (ok_or o e) Q
   by None held = tt
   by (Some x) held = so x held
+
+-- the value of one that has it
+pub value_is : {A E : Type 0} (P : A → Type 0) (r : Result A E) (x : A) → Some x ≡ result_ok r → IfOk r P → P x
+value_is P (Ok y) x is held = let same : y ≡ x = cc in subst P same held
+value_is P (Err e) x is held = absurd (let no : Some x ≡ None = is in cc)
 
 -- one that is no error
 pub on_ok : {A E : Type 0} (P : Type 0) (r : Result A E) → false ≡ is_err r → OnOk r P → P

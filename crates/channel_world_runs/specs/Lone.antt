@@ -1,18 +1,23 @@
 -- A call made alone, from its beginning to its end, by names.
-use Rattle.std.specs.Prelude.{◌≡◌, ◌≤◌, ℕ, List, [], length}
+use Rattle.std.specs.Prelude.{◌≡◌, ◌≤◌, ◌+◌, ◌-◌, ◌^◌, ℕ, min, Bool, false, List, [], drop, length}
+use Rattle.std.specs.Global.{Vec}
 use Rattle.channel_calls.specs.declared.reply.Reply.{Reply}
 use Rattle.channel_calls.specs.declared.stage.Returned.{Returned}
 use Rattle.channel_steps.specs.solo.Alone.{Outcome, Alone}
-use Rattle.channel_steps.specs.solo.Configurations.{LoneRun}
+use Rattle.channel_steps.specs.solo.Ample.{lacks_memory, HasNode}
+use Rattle.channel_steps.specs.solo.Configurations.{LoneRun, RunsInConfigurations}
 use Rattle.channel_world_model.specs.declared.call.Call.{Call}
 use Rattle.channel_world_model.specs.declared.name.Waiter.{Waiter}
+use Rattle.channel_world_model.specs.declared.run.Done.{Done}
 use Rattle.channel_steps.specs.Configuration.{Configuration}
 use Rattle.channel_world_runs.specs.Bookkeeping.{asks, on_return_of, names_begun, written_back, all_woken}
-use Rattle.channel_world_runs.specs.WorldState.{name_state_of, HasPositions, Shown}
+use Rattle.channel_world_runs.specs.WorldState.{name_state_of, parts_in, HasPositions, Shown}
 use Rattle.channel_world_runs.specs.WorldInvariant.{WorldInvariant}
 use Rattle.channel_world_runs.specs.Order.{order_begun, all_moved_last, order_settled}
 use Rattle.channel_world_runs.specs.Positions.{accepted_by, brings}
 use Rattle.channel_world_runs.specs.Run.{NameState}
+use Rattle.channel_world_runs.specs.Woken.{Hears}
+use Rattle.channel_world_runs.specs.declared.beginning.Begun.{Begun}
 use Rattle.channel_world_runs.specs.declared.world_state.WorldState.{WorldState}
 use Rattle.channel_world_runs.specs.declared.name_table.NameTable.{NameTable}
 
@@ -46,6 +51,18 @@ module _ {T : Type 0} where
     pub now : after.now ≡ outcome.channel
     pub shown : Shown new after
     pub name_state : name_state_of new ≡ name_state_alone (name_state_of old) c outcome
+
+  -- A call that has begun was made to its end with no other under way: those whom it woke stand after the names before, and it has
+  -- written back what it had to.
+  pub record FinishesAlone (begun : Begun T) (may_bring : Bool) (before : Vec Waiter) (old : WorldState T) (d : Done T) (new : WorldState T) : Type 0 where
+    pub kept : Returned T
+    pub run : RunsInConfigurations Hears begun.ask (parts_in old) (record { names = before }) old.messages (record { reply = d.reply; kept = kept }) (parts_in new) (record { names = d.woken }) new.messages
+    pub ample : HasNode begun.ask (parts_in old) → lacks_memory d.reply ≡ false
+    pub name_table : new.name_table ≡ written_back begun.on_return d.reply kept (all_woken (drop (length before.items) d.woken.items) old.name_table)
+    pub order : new.order ≡ order_settled begun.on_return kept.key (all_moved_last (drop (length before.items) d.woken.items) old.order)
+    pub accepted : new.accepted ≡ min (old.accepted + accepted_by may_bring d.reply) (2 ^ 64 - 1)
+    pub calls : new.calls ≡ old.calls
+    pub place : new.has_one_place ≡ old.has_one_place
 
   -- in each configuration that is shown and in which all is kept
   abbrev pub CallsAlone : Call T → WorldState T → Reply T → List Waiter → WorldState T → Type 0

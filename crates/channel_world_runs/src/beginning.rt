@@ -2,7 +2,7 @@
 
 ghost use Rattle.std.specs.Prelude.{◌≡◌, Some};
 ghost use Rattle.channel_world_model.specs.Asked.{poll_asked, refusal_asked, drop_asked, plain_asked};
-ghost use Rattle.channel_world_runs.specs.Bookkeeping.{mint_asked, new_message, unpolled};
+ghost use Rattle.channel_world_runs.specs.Bookkeeping.{mint_asked, new_message};
 
 use crate::name_table::NameTable;
 use crate::names::{OnReturn, OperationEntry, PollState};
@@ -22,19 +22,26 @@ pub(crate) struct Begun<T> {
     pub(crate) on_return: OnReturn<T>,
 }
 
+impl<T> Begun<T> {
+    ghost use Rattle.std.specs.Prelude.{◌≡◌};
+
+    /// It asks this, and has this to write back.
+    fn new(ask: ChannelAsk<T, Waiter>, on_return: OnReturn<T>) -> Begun<T>
+        ensures { result ≡ record { ask = ask; on_return = on_return } }
+    {
+        Begun { ask, on_return }
+    }
+}
+
 /// What the making of a handle from another asks: a weak one is not counted.
 fn mint_ask<T>(kinship: Kinship, handle: Handle) -> ChannelAsk<T, Waiter>
     ensures { result ≡ mint_asked kinship (Some handle) }
 {
-    match (kinship, handle.kind) {
+    match (kinship, kinship.of(handle.kind)) {
         (Kinship::Own, HandleKind::Sender) => ChannelAsk::CloneHandle(Side::Senders),
         (Kinship::Own, HandleKind::Receiver) => ChannelAsk::CloneHandle(Side::Receivers),
-        (Kinship::Strong, HandleKind::Sender | HandleKind::WeakSender) => {
-            ChannelAsk::Upgrade(Side::Senders)
-        }
-        (Kinship::Strong, HandleKind::Receiver | HandleKind::WeakReceiver) => {
-            ChannelAsk::Upgrade(Side::Receivers)
-        }
+        (Kinship::Strong, HandleKind::Sender) => ChannelAsk::Upgrade(Side::Senders),
+        (Kinship::Strong, HandleKind::Receiver) => ChannelAsk::Upgrade(Side::Receivers),
         _ => ChannelAsk::Make,
     }
 }
@@ -69,12 +76,10 @@ fn poll_ask<T>(operation: Option<Operation<T>>, key: Option<Key>, op: OpId) -> C
 fn refusal_ask<T>(operation: Option<Operation<T>>, key: Option<Key>) -> ChannelAsk<T, Waiter>
     ensures { result ≡ refusal_asked key operation }
 {
-    match operation {
-        Some(operation) => {
-            ChannelAsk::RefusePoll(operation.waits_in(), operation.into_message(), key)
-        }
-        None => ChannelAsk::Make,
-    }
+    let Some(operation) = operation else {
+        return ChannelAsk::Make;
+    };
+    ChannelAsk::RefusePoll(operation.waits_in(), operation.into_message(), key)
 }
 
 /// What a call asks that goes through one handle. A receive of several messages takes its room from `alloc`, at its first step.
@@ -109,21 +114,6 @@ fn new_message<T: Drop>(call: Call<T>) -> Option<T>
     }
 }
 
-/// An operation whose name was taken is being made.
-fn making<T>(op: OpId, operation: Operation<T>) -> Begun<T>
-    ensures ask { result.ask ≡ ChannelAsk.Make }
-    ensures on_return { result.on_return ≡ OnReturn.Make op (unpolled operation) }
-{
-    let operation = OperationEntry {
-        operation,
-        poll_state: PollState::Rests,
-    };
-    Begun {
-        ask: ChannelAsk::Make,
-        on_return: OnReturn::Make { op, operation },
-    }
-}
-
 impl<T: Drop> NameTable<T> {
     ghost use Rattle.std.specs.Prelude.{◌≡◌, None, Some, List, true, false, IfOk, OnErr, IfErr, IfSome, IfNone};
     ghost use Rattle.std.specs.Bool.{OnTrue, OnFalse};
@@ -141,10 +131,7 @@ impl<T: Drop> NameTable<T> {
         ensures { Starts ask (OnReturn.Leave handle) (with_lent handle self.old) result self.new }
     {
         self.lend(handle);
-        Begun {
-            ask,
-            on_return: OnReturn::Leave { handle },
-        }
+        Begun::new(ask, OnReturn::Leave(handle))
     }
 
     /// A new name is taken for an operation, which borrows the handle. False where there was no room.
@@ -156,9 +143,11 @@ impl<T: Drop> NameTable<T> {
         let Some(handle_entry) = self.handles.get(handle.0) else {
             return self.operations.spend(op.0);
         };
-        let Some(borrowed) = (*handle_entry).borrowed_more() else {
+        let mut borrowed = *handle_entry;
+        let Some(borrowers) = borrowed.handle.borrowers.checked_add(1) else {
             return false;
         };
+        borrowed.handle.borrowers = borrowers;
         if !self.operations.spend(op.0) {
             return false;
         }
@@ -184,43 +173,18 @@ impl<T: Drop> NameTable<T> {
         (Some(entry.operation), entry.poll_state.key())
     }
 
-    pub(crate) fn poll(&mut self, op: OpId) -> Begun<T>
-        ensures { BeginsByName self.old (Call.Poll op) result self.new }
-    {
-        let (operation, key) = self.lend_operation(op);
-        Begun {
-            ask: poll_ask(operation, key, op),
-            on_return: OnReturn::Poll { op },
-        }
-    }
-
-    fn poll_refused(&mut self, op: OpId) -> Begun<T>
-        ensures { BeginsByName self.old (Call.PollRefused op) result self.new }
-    {
-        let (operation, key) = self.lend_operation(op);
-        Begun {
-            ask: refusal_ask(operation, key),
-            on_return: OnReturn::Poll { op },
-        }
-    }
-
     fn give_up(&mut self, op: OpId) -> Begun<T>
         ensures { BeginsByName self.old (Call.GiveUp op) result self.new }
     {
         let Some(entry) = self.operations.take(op.0) else {
-            return Begun {
-                ask: ChannelAsk::Make,
-                on_return: OnReturn::Nothing,
-            };
+            return Begun::new(ChannelAsk::Make, OnReturn::Nothing);
         };
         let handle = entry.operation.handle();
         self.hand_over(handle);
         let waits_in = entry.operation.waits_in();
         let message = entry.operation.into_message();
-        Begun {
-            ask: ChannelAsk::GiveUp(waits_in, message, entry.poll_state.key()),
-            on_return: OnReturn::Leave { handle },
-        }
+        let ask = ChannelAsk::GiveUp(waits_in, message, entry.poll_state.key());
+        Begun::new(ask, OnReturn::Leave(handle))
     }
 
     /// Whether a poll has finished the send, and the handle that it borrows.
@@ -228,25 +192,22 @@ impl<T: Drop> NameTable<T> {
         ensures { BeginsByName self.old (Call.SendIsTerminated op) result self.new }
     {
         let Some(entry) = self.operations.get(op.0) else {
-            return Begun {
-                ask: ChannelAsk::SendIsTerminated(false),
-                on_return: OnReturn::Nothing,
-            };
+            return Begun::new(ChannelAsk::SendIsTerminated(false), OnReturn::Nothing);
         };
         let handle = entry.operation.handle();
         let is_finished = entry.is_finished();
         self.through(handle, ChannelAsk::SendIsTerminated(is_finished))
     }
 
-    pub(crate) fn poll_next(&mut self, receiver: HandleId) -> Begun<T>
+    fn poll_next(&mut self, receiver: HandleId) -> Begun<T>
         ensures { BeginsByName self.old (Call.PollNext receiver) result self.new }
     {
-        let key = self.lend_stream(receiver);
+        let handle_entry = self.handles.get(receiver.0);
+        let key = handle_entry.and_then(|entry| entry.poll_state.key());
+        self.restand(receiver, PollState::IsPolled { brings: false });
         self.lend(receiver);
-        Begun {
-            ask: ChannelAsk::PollNext(key, Waiter::Stream(receiver)),
-            on_return: OnReturn::PollNext { receiver },
-        }
+        let ask = ChannelAsk::PollNext(key, Waiter::Stream(receiver));
+        Begun::new(ask, OnReturn::PollNext(receiver))
     }
 
     fn drop_handle(&mut self, handle: HandleId) -> Begun<T>
@@ -256,10 +217,7 @@ impl<T: Drop> NameTable<T> {
             Some(handle_entry) => drop_ask(handle_entry.handle, handle_entry.poll_state.key()),
             None => ChannelAsk::Make,
         };
-        Begun {
-            ask,
-            on_return: OnReturn::Nothing,
-        }
+        Begun::new(ask, OnReturn::Nothing)
     }
 
     /// A handle is being made from another. None where its name found no room, or that lives no more.
@@ -270,45 +228,38 @@ impl<T: Drop> NameTable<T> {
             Starts (mint_asked kinship seen) (new_from from new (kin kinship) seen) (with_lent from (handle_named new self.old)) b self.new) }
         ensures none { IfNone result (self.new ≡ self.old) }
     {
-        let seen = self.seen(from)?;
+        let seen = self.handles.get(from.0)?.handle;
         if !self.handles.spend(new.0) {
             return None;
         }
         self.lend(from);
-        Some(Begun {
-            ask: mint_ask(kinship, seen),
-            on_return: OnReturn::New {
-                from,
-                new,
-                kind: kinship.of(seen.kind),
-            },
-        })
-    }
-
-    fn same_channel(&mut self, a: HandleId, b: HandleId) -> Begun<T>
-        ensures { BeginsByName self.old (Call.SameChannel a b) result self.new }
-    {
-        self.lend(a);
-        self.lend(b);
-        Begun {
-            ask: ChannelAsk::SameChannel(true),
-            on_return: OnReturn::LeaveBoth { a, b },
-        }
+        let on_return = OnReturn::New(from, new, kinship.of(seen.kind));
+        Some(Begun::new(mint_ask(kinship, seen), on_return))
     }
 
     /// A call begins that brings nothing but names of what lives, each in its own way.
-    fn begin_named(&mut self, call: Call<T>) -> Begun<T>
+    pub(crate) fn begin_named(&mut self, call: Call<T>) -> Begun<T>
         requires { is_named (plan_of call) ≡ true }
         ensures { BeginsByName self.old call result self.new }
     {
         match call {
-            Call::Poll { op } => self.poll(op),
-            Call::PollRefused { op } => self.poll_refused(op),
+            Call::Poll { op } => {
+                let (operation, key) = self.lend_operation(op);
+                Begun::new(poll_ask(operation, key, op), OnReturn::Poll(op))
+            }
+            Call::PollRefused { op } => {
+                let (operation, key) = self.lend_operation(op);
+                Begun::new(refusal_ask(operation, key), OnReturn::Poll(op))
+            }
             Call::GiveUp { op } => self.give_up(op),
             Call::SendIsTerminated { op } => self.send_is_terminated(op),
             Call::PollNext { receiver } => self.poll_next(receiver),
             Call::Drop { handle } => self.drop_handle(handle),
-            Call::SameChannel { a, b } => self.same_channel(a, b),
+            Call::SameChannel { a, b } => {
+                self.lend(a);
+                self.lend(b);
+                Begun::new(ChannelAsk::SameChannel(true), OnReturn::LeaveBoth(a, b))
+            }
             _ => unreachable!(),
         }
     }
@@ -328,7 +279,11 @@ impl<T: Drop> NameTable<T> {
                 if !self.name_operation(op, handle) {
                     return Err(call);
                 }
-                Ok(making(op, Operation::new(kind, handle, new_message(call))))
+                let operation = OperationEntry {
+                    operation: Operation::new(kind, handle, new_message(call)),
+                    poll_state: PollState::Rests,
+                };
+                Ok(Begun::new(ChannelAsk::Make, OnReturn::Make(op, operation)))
             }
             Plan::Mints(_, from, new, kinship) => self.mint(from, new, kinship).ok_or(call),
             _ => Ok(self.begin_named(call)),

@@ -1,35 +1,24 @@
 //! What calls write back as they end, and whom they wake.
 
 use crate::name_table::NameTable;
-use crate::names::{HandleEntry, OnReturn, OperationEntry, PollState};
+use crate::names::{HandleEntry, OnReturn, PollState};
 use crate::world_state::WorldState;
 use channel_calls::reply::Reply;
 use channel_calls::stage::Returned;
-use channel_world_model::name::{HandleId, HandleKind, OpId, Waiter};
+use channel_world_model::name::{OpId, Waiter};
 
 impl<T: Drop> NameTable<T> {
-    ghost use Rattle.std.specs.Prelude.{◌≡◌, Option, drop};
-    ghost use Rattle.channel_world_runs.specs.Bookkeeping.{with_operation, restored, installed, written_back, with_one_woken, all_woken};
+    ghost use Rattle.std.specs.Prelude.{◌≡◌, Option};
+    ghost use Rattle.channel_world_runs.specs.Bookkeeping.{with_operation, restored, written_back, with_one_woken};
 
     /// The operation gets back what its poll left to it.
     fn restore(&mut self, op: OpId, kept: Returned<T>)
         ensures { self.new ≡ with_operation (restored kept) op self.old }
     {
-        if let Some(entry) = self.operations.take(op.0) {
-            let restored = OperationEntry {
-                operation: entry.operation.with_message(kept.message),
-                poll_state: PollState::with(kept.key),
-            };
-            self.operations.set(op.0, restored);
-        }
-    }
-
-    /// The handle lives from now on, if it was made.
-    fn install(&mut self, new: HandleId, kind: HandleKind, reply: &Reply<T>)
-        ensures { self.new ≡ installed new kind reply.now self.old }
-    {
-        if let Reply::Made = reply {
-            self.handles.set(new.0, HandleEntry::unused(kind));
+        if let Some(mut entry) = self.operations.take(op.0) {
+            entry.operation = entry.operation.with_message(kept.message);
+            entry.poll_state = PollState::with(kept.key);
+            self.operations.set(op.0, entry);
         }
     }
 
@@ -39,20 +28,22 @@ impl<T: Drop> NameTable<T> {
     {
         match on_return {
             OnReturn::Nothing => {}
-            OnReturn::Leave { handle } => self.give_back(handle),
-            OnReturn::LeaveBoth { a, b } => {
+            OnReturn::Leave(handle) => self.give_back(handle),
+            OnReturn::LeaveBoth(a, b) => {
                 self.give_back(a);
                 self.give_back(b);
             }
-            OnReturn::Make { op, operation } => self.operations.set(op.0, operation),
-            OnReturn::Poll { op } => self.restore(op, kept),
-            OnReturn::PollNext { receiver } => {
+            OnReturn::Make(op, operation) => self.operations.set(op.0, operation),
+            OnReturn::Poll(op) => self.restore(op, kept),
+            OnReturn::PollNext(receiver) => {
                 self.restand(receiver, PollState::with(kept.key));
                 self.give_back(receiver);
             }
-            OnReturn::New { from, new, kind } => {
+            OnReturn::New(from, new, kind) => {
                 self.give_back(from);
-                self.install(new, kind, reply);
+                if let Reply::Made = reply {
+                    self.handles.set(new.0, HandleEntry::unused(kind));
+                }
             }
         }
     }
@@ -69,30 +60,35 @@ impl<T: Drop> NameTable<T> {
                 }
             }
             Waiter::Stream(receiver) => {
-                if let Some(poll_state) = self.poll_state(receiver) {
-                    self.restand(receiver, poll_state.told());
+                if let Some(mut entry) = self.handles.take(receiver.0) {
+                    entry.poll_state = entry.poll_state.told();
+                    self.handles.set(receiver.0, entry);
                 }
             }
-        }
-    }
-
-    /// The names from this place on are woken, in order.
-    pub(crate) fn wake_from(&mut self, names: &Vec<Waiter>, from: usize)
-        ensures { self.new ≡ all_woken (drop from names.now.items) self.old }
-    {
-        for k in from..names.len() {
-            self.wake(names[k]);
         }
     }
 }
 
 impl<T: Drop> WorldState<T> {
-    ghost use Rattle.std.specs.Prelude.{◌≡◌, ◌<◌, vec_len, slice_get, Some};
+    ghost use Rattle.std.specs.Prelude.{◌≡◌, ◌<◌, vec_len, slice_get, Some, drop};
     ghost use Rattle.channel_steps.specs.Configuration.{left_by, unless_answered};
+    ghost use Rattle.channel_world_runs.specs.Bookkeeping.{all_woken};
     ghost use Rattle.channel_world_runs.specs.Calls.{agent_of};
+    ghost use Rattle.channel_world_runs.specs.Order.{all_moved_last};
     ghost use Rattle.channel_world_runs.specs.Run.{name_state_ended};
     ghost use Rattle.channel_world_runs.specs.WorldState.{name_state_of};
     ghost use Rattle.channel_world_runs.specs.declared.calls.CallUnderWay.{CallUnderWay};
+
+    /// The names from this place on are woken, in order.
+    pub(crate) fn wake_from(&mut self, names: &Vec<Waiter>, from: usize)
+        ensures { let told = drop from names.now.items in
+            self.new ≡ record self.old { name_table = all_woken told self.old.name_table; order = all_moved_last told self.old.order } }
+    {
+        for k in from..names.len() {
+            self.name_table.wake(names[k]);
+            self.order.wake(names[k]);
+        }
+    }
 
     /// The k-th call, if it has answered, writes back what it has to, and is under way no more.
     pub(crate) fn write_back(&mut self, k: usize, reply: &Option<Reply<T>>)

@@ -7,13 +7,33 @@ use crate::world_state::WorldState;
 use channel_calls::whole::Completed;
 use channel_steps::alone::run_alone;
 use channel_world_model::call::Call;
+use channel_world_model::name::Waiter;
 use channel_world_model::run::Done;
 
 impl<T: Drop> WorldState<T> {
     ghost use Rattle.std.specs.Prelude.{◌≡◌, None, IfOk, IfErr, OnErr};
+    ghost use Rattle.channel_steps.specs.solo.Run.{IsAtRest};
     ghost use Rattle.channel_world_runs.specs.Refusal.{begin_refusal};
-    ghost use Rattle.channel_world_runs.specs.WorldState.{Stands, IsQuiet, IsSame};
-    ghost use Rattle.channel_world_runs.specs.Lone.{CallsAlone, WakesAtMost};
+    ghost use Rattle.channel_world_runs.specs.WorldState.{parts_in, Stands, IsQuiet, IsSame};
+    ghost use Rattle.channel_world_runs.specs.Lone.{CallsAlone, FinishesAlone, WakesAtMost};
+
+    /// Makes a call that has begun to its end, where no other call is under way. Those whom it wakes go after the given names,
+    /// where there is room for them; `brings` says whether it may bring a message.
+    pub(crate) fn finish(&mut self, begun: Begun<T>, brings: bool, names: Vec<Waiter>) -> Done<T>
+        requires at_rest { IsAtRest (parts_in self.old) }
+        ensures { FinishesAlone begun brings names self.old result self.new }
+    {
+        let from = names.len();
+        let mut sink = Woken { names };
+        let (channel, messages) = (&mut self.channel, &mut self.messages);
+        let Completed { reply, kept } = run_alone(begun.ask, channel, messages, &mut sink);
+        self.accepted = self.accepted.saturating_add(accepted_by(brings, &reply));
+        let Woken { names: woken } = sink;
+        self.wake_from(&woken, from);
+        self.order.settle(&begun.on_return, kept.key);
+        self.name_table.settle(begun.on_return, &reply, kept);
+        Done { reply, woken }
+    }
 
     /// Makes a call that is not refused, where no call is under way, from its beginning to its end; or hands it back where
     /// there was no room, with nothing changed.
@@ -32,28 +52,13 @@ impl<T: Drop> WorldState<T> {
         ensures back { IfErr result (λ c. c ≡ call) }
     {
         let brings = self.name_table.brings(&call);
-        let Ok(mut sink) = Woken::with_room(room, self.alloc) else {
+        let Ok(names) = Vec::with_capacity(self.alloc, room) else {
             return Err(call);
         };
         if !self.has_position(&call) || self.order.begin(&call).is_err() {
             return Err(call);
         }
-        let Begun { ask, on_return } = self.name_table.begin(call, self.alloc)?;
-        let Completed { reply, kept } = run_alone(
-            ask,
-            &mut self.channel,
-            &mut self.messages,
-            &mut sink,
-        );
-        self.accepted = self.accepted.saturating_add(accepted_by(brings, &reply));
-        let Woken { names } = sink;
-        self.name_table.wake_from(&names, 0);
-        self.order.wake_from(&names, 0);
-        self.order.settle(&on_return, kept.key);
-        self.name_table.settle(on_return, &reply, kept);
-        Ok(Done {
-            reply,
-            woken: names,
-        })
+        let begun = self.name_table.begin(call, self.alloc)?;
+        Ok(self.finish(begun, brings, names))
     }
 }

@@ -25,6 +25,7 @@ pub enum PollState {
 impl PollState {
     ghost use Rattle.std.specs.Prelude.{◌≡◌};
     ghost use Rattle.channel_world_runs.specs.NameTable.{key_of, poll_state_with, is_polled, is_woken, told};
+    ghost use Rattle.channel_world_runs.specs.Pending.{stands_counted};
 
     /// The listener of one that is pending.
     pub(crate) fn key(self) -> Option<Key>
@@ -40,11 +41,9 @@ impl PollState {
     pub(crate) fn with(key: Option<Key>) -> PollState
         ensures { result ≡ poll_state_with key }
     {
+        let is_woken = false;
         match key {
-            Some(key) => PollState::Waits {
-                key,
-                is_woken: false,
-            },
+            Some(key) => PollState::Waits { key, is_woken },
             None => PollState::Rests,
         }
     }
@@ -63,17 +62,21 @@ impl PollState {
         matches!(self, PollState::Waits { is_woken: true, .. })
     }
 
+    /// Whether it is pending; and was woken, where only the woken are asked for.
+    pub(crate) fn is_counted(self, only_woken: bool) -> bool
+        ensures { result ≡ stands_counted only_woken self }
+    {
+        matches!(self, PollState::Waits { key: _, is_woken } if is_woken || !only_woken)
+    }
+
     /// The same, woken where it is pending.
-    pub(crate) fn told(self) -> PollState
+    pub(crate) fn told(mut self) -> PollState
         ensures { result ≡ told self }
     {
-        match self {
-            PollState::Waits { key, is_woken: _ } => PollState::Waits {
-                key,
-                is_woken: true,
-            },
-            other => other,
+        if let PollState::Waits { key: _, is_woken } = &mut self {
+            *is_woken = true;
         }
+        self
     }
 }
 
@@ -111,8 +114,8 @@ pub struct HandleEntry {
 }
 
 impl HandleEntry {
-    ghost use Rattle.std.specs.Prelude.{◌≡◌, IfSome};
-    ghost use Rattle.channel_world_runs.specs.NameTable.{unused, used_more, used_less, borrowed_more, handed_over};
+    ghost use Rattle.std.specs.Prelude.{◌≡◌};
+    ghost use Rattle.channel_world_runs.specs.NameTable.{unused};
 
     /// A handle that nobody uses.
     pub(crate) fn unused(kind: HandleKind) -> HandleEntry
@@ -124,38 +127,6 @@ impl HandleEntry {
             poll_state: PollState::Rests,
         }
     }
-
-    /// The same, used by one more call.
-    pub(crate) fn used_more(mut self) -> HandleEntry
-        ensures { result ≡ used_more self }
-    {
-        self.users = self.users.saturating_add(1);
-        self
-    }
-
-    /// The same, used by one fewer.
-    pub(crate) fn used_less(mut self) -> HandleEntry
-        ensures { result ≡ used_less self }
-    {
-        self.users = self.users.saturating_sub(1);
-        self
-    }
-
-    /// The same, borrowed by one more operation. None where as many borrow it as can be counted.
-    pub(crate) fn borrowed_more(mut self) -> Option<HandleEntry>
-        ensures { IfSome result (λ h. h ≡ borrowed_more self) }
-    {
-        self.handle.borrowers = self.handle.borrowers.checked_add(1)?;
-        Some(self)
-    }
-
-    /// The same, once the call that gives up an operation uses it, and the operation borrows it no more.
-    pub(crate) fn handed_over(mut self) -> HandleEntry
-        ensures { result ≡ handed_over self }
-    {
-        self.handle.borrowers = self.handle.borrowers.saturating_sub(1);
-        self.used_more()
-    }
 }
 
 /// What a call under way has to write back at its end.
@@ -163,42 +134,16 @@ impl HandleEntry {
 pub enum OnReturn<T> {
     /// Nothing.
     Nothing,
-    /// A handle is used no more.
-    Leave {
-        /// Which one.
-        handle: HandleId,
-    },
-    /// Two handles are used no more.
-    LeaveBoth {
-        /// The first.
-        a: HandleId,
-        /// The second.
-        b: HandleId,
-    },
-    /// This operation lives from now on.
-    Make {
-        /// Its name.
-        op: OpId,
-        /// What it is, and how it stands.
-        operation: OperationEntry<T>,
-    },
+    /// This handle is used no more.
+    Leave(HandleId),
+    /// These two handles are used no more.
+    LeaveBoth(HandleId, HandleId),
+    /// Under this name this operation lives from now on.
+    Make(OpId, OperationEntry<T>),
     /// The operation gets its listener and its message back.
-    Poll {
-        /// Its name.
-        op: OpId,
-    },
+    Poll(OpId),
     /// The receiver gets its stream's listener back, and is used no more.
-    PollNext {
-        /// Its name.
-        receiver: HandleId,
-    },
-    /// A handle is used no more; a new one of this kind lives from now on, if it was made.
-    New {
-        /// The handle that was used.
-        from: HandleId,
-        /// The new one's name.
-        new: HandleId,
-        /// What it is.
-        kind: HandleKind,
-    },
+    PollNext(HandleId),
+    /// The first handle is used no more; under the second name one of this kind lives from now on, if it was made.
+    New(HandleId, HandleId, HandleKind),
 }

@@ -32,9 +32,9 @@ impl Model for Order {
 }
 
 impl Order {
-    ghost use Rattle.std.specs.Prelude.{◌≡◌, [], IfOk, OnOk, OnErr, drop};
+    ghost use Rattle.std.specs.Prelude.{◌≡◌, [], IfOk, OnOk, OnErr};
     ghost use Rattle.channel_world_model.specs.Lines.{without_waiter};
-    ghost use Rattle.channel_world_runs.specs.Order.{placed, moved_last, all_moved_last, kept_place};
+    ghost use Rattle.channel_world_runs.specs.Order.{placed, moved_last, order_begun, order_settled};
     ghost use Rattle.channel_world_runs.specs.OwnerOrder.{woken_in};
 
     /// Nobody has a place.
@@ -76,15 +76,6 @@ impl Order {
         let _removed = self.places.pop(&w);
     }
 
-    /// The names from this place on are woken, in order.
-    pub(crate) fn wake_from(&mut self, names: &Vec<Waiter>, from: usize)
-        ensures { self.new ≡ all_moved_last (drop from names.now.items) self.old }
-    {
-        for k in from..names.len() {
-            self.wake(names[k]);
-        }
-    }
-
     /// Those who are pending and were woken, in the order of their waking. A walk over all names that are polled or pending. Own
     /// to this project.
     pub fn woken<T: Drop>(
@@ -104,20 +95,6 @@ impl Order {
         Ok(names)
     }
 
-    /// A poll of w has left this listener; or none, and w may not be woken any more.
-    fn keep(&mut self, w: Waiter, key: Option<Key>)
-        ensures { self.new ≡ kept_place w key self.old }
-    {
-        if key.is_none() {
-            self.leave(w);
-        }
-    }
-}
-
-impl Order {
-    ghost use Rattle.std.specs.Prelude.{◌≡◌, OnOk, OnErr};
-    ghost use Rattle.channel_world_runs.specs.Order.{order_begun, order_settled};
-
     /// A call begins: who is polled gets a place, who is given up or dropped loses it. Where memory was refused, nothing is
     /// changed.
     pub(crate) fn begin<T>(&mut self, call: &Call<T>) -> Result<(), AllocError>
@@ -134,13 +111,13 @@ impl Order {
         Ok(())
     }
 
-    /// A call with this to write back has left this listener, or none.
+    /// A call with this to write back has left this listener; or none, and whom it polled may not be woken any more.
     pub(crate) fn settle<T>(&mut self, on_return: &OnReturn<T>, key: Option<Key>)
         ensures { self.new ≡ order_settled on_return.now key self.old }
     {
-        match on_return {
-            OnReturn::Poll { op } => self.keep(Waiter::Op(*op), key),
-            OnReturn::PollNext { receiver } => self.keep(Waiter::Stream(*receiver), key),
+        match (on_return, key) {
+            (OnReturn::Poll(op), None) => self.leave(Waiter::Op(*op)),
+            (OnReturn::PollNext(receiver), None) => self.leave(Waiter::Stream(*receiver)),
             _ => {}
         }
     }

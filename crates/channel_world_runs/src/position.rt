@@ -5,27 +5,14 @@ use crate::world_state::WorldState;
 use channel_calls::mark::Mark;
 use channel_calls::reply::Reply;
 use channel_world_model::call::Call;
-use channel_world_model::name::{OpId, Waiter};
-use concurrent_queue::cells::QueueForm;
 use futures::task::Poll;
 
 /// How many messages a channel accepts at most: the positions of a queue end there.
 pub(crate) const MOST_MESSAGES: u64 = (1 << 61) - 1;
 
 ghost use Rattle.std.specs.Prelude.{◌≡◌};
-ghost use Rattle.concurrent_queue.specs.Capacity.{capacity_of};
 ghost use Rattle.channel_steps.specs.Count.{brought_in};
-ghost use Rattle.channel_world_runs.specs.Positions.{is_one_place, accepted_by};
-
-/// Whether a queue of this form has one place alone: it counts no positions.
-pub(crate) fn is_one_place(form: QueueForm) -> bool
-    ensures { result ≡ is_one_place (capacity_of form) }
-{
-    match form {
-        QueueForm::Bounded(capacity) => capacity == 1,
-        QueueForm::Unbounded => false,
-    }
-}
+ghost use Rattle.channel_world_runs.specs.Positions.{accepted_by};
 
 /// How many messages a step with this mark brings in.
 pub(crate) fn brought_in(mark: Mark) -> u64
@@ -50,36 +37,17 @@ pub(crate) fn accepted_by<T>(brings: bool, reply: &Reply<T>) -> u64
 
 impl<T> NameTable<T> {
     ghost use Rattle.std.specs.Prelude.{◌≡◌};
-    ghost use Rattle.channel_world_model.specs.Settling.{poll_of};
     ghost use Rattle.channel_world_runs.specs.Positions.{brings};
 
-    /// Whether a poll of the operation may bring a message: that of an unfinished send.
-    fn has_message(&self, op: OpId) -> bool
-        ensures { result ≡ brings self.now (Call.Poll op) }
-    {
-        match self.operations.get(op.0) {
-            Some(entry) => entry.operation.has_message(),
-            None => false,
-        }
-    }
-
-    /// Whether a poll of what has this name may bring a message.
-    pub(crate) fn brings_polled(&self, name: Waiter) -> bool
-        ensures { result ≡ brings self.now (poll_of name) }
-    {
-        match name {
-            Waiter::Op(op) => self.has_message(op),
-            Waiter::Stream(_) => false,
-        }
-    }
-
-    /// Whether the call may bring a message.
+    /// Whether the call may bring a message: a poll of an operation that of an unfinished send.
     pub(crate) fn brings(&self, call: &Call<T>) -> bool
         ensures { result ≡ brings self.now call.now }
     {
         match call {
             Call::TrySend { .. } | Call::ForceSend { .. } => true,
-            Call::Poll { op } => self.has_message(*op),
+            Call::Poll { op } => {
+                matches!(self.operations.get(op.0), Some(entry) if entry.operation.has_message())
+            }
             _ => false,
         }
     }

@@ -3,7 +3,7 @@
 use crate::name_table::NameTable;
 use crate::names::HandleEntry;
 use channel_world_model::call::Call;
-use channel_world_model::name::{HandleId, HandleKind, OpId, Operation};
+use channel_world_model::name::{HandleId, OpId, Operation};
 use channel_world_model::plan::{Plan, Wanted};
 use channel_world_model::refusal::WorldRefusal;
 
@@ -19,9 +19,8 @@ impl HandleEntry {
         if !wanted.fits(self.handle.kind) {
             return Some(WorldRefusal::WrongKind);
         }
-        self.poll_state
-            .is_polled()
-            .then_some(WorldRefusal::OpUnderWay)
+        let is_polled = self.poll_state.is_polled();
+        is_polled.then_some(WorldRefusal::OpUnderWay)
     }
 
     /// Why a call doesn't take it whole: an operation borrows it, or a call under way uses it.
@@ -70,14 +69,11 @@ impl<T> NameTable<T> {
         let (Some(a), Some(b)) = (self.handles.get(a.0), self.handles.get(b.0)) else {
             return Some(WorldRefusal::UnknownName);
         };
-        match (a.handle.kind, b.handle.kind) {
-            (HandleKind::Sender, HandleKind::Sender)
-            | (HandleKind::Receiver, HandleKind::Receiver) => {
-                let is_polled = a.poll_state.is_polled() || b.poll_state.is_polled();
-                is_polled.then_some(WorldRefusal::OpUnderWay)
-            }
-            _ => Some(WorldRefusal::WrongKind),
+        if a.handle.kind != b.handle.kind || !Wanted::Strong.fits(a.handle.kind) {
+            return Some(WorldRefusal::WrongKind);
         }
+        let is_polled = a.poll_state.is_polled() || b.poll_state.is_polled();
+        is_polled.then_some(WorldRefusal::OpUnderWay)
     }
 
     /// Why this operation is neither polled nor given up.
@@ -85,10 +81,8 @@ impl<T> NameTable<T> {
         ensures { let u = under_way_in self.now in result ≡ unfit_operation (u.polled (Op op)) (operation_at op self.now) }
     {
         match self.operations.get(op.0) {
-            Some(operation) => {
-                let is_polled = operation.poll_state.is_polled();
-                is_polled.then_some(WorldRefusal::OpUnderWay)
-            }
+            Some(entry) if entry.poll_state.is_polled() => Some(WorldRefusal::OpUnderWay),
+            Some(_) => None,
             None => Some(WorldRefusal::UnknownName),
         }
     }
@@ -112,18 +106,16 @@ impl<T> NameTable<T> {
             Plan::Through(wanted, handle) => self.through_refusal(wanted, handle),
             Plan::ThroughBoth(a, b) => self.unlike_handles(a, b),
             Plan::Makes(wanted, handle, op, _) => {
-                let is_taken = self.operations.is_taken(op.0);
-                let unfit = self.through_refusal(wanted, handle);
-                unfit.or(is_taken.then_some(WorldRefusal::NameTaken))
+                let taken = (self.operations.is_taken(op.0)).then_some(WorldRefusal::NameTaken);
+                self.through_refusal(wanted, handle).or(taken)
             }
             Plan::Polls(op) | Plan::GivesUp(op) => self.unfit_operation(op),
             Plan::Asks(op) => self.unfit_send(op),
             Plan::Streams(receiver) => self.taking_refusal(Wanted::Receiver, receiver),
             Plan::Drops(handle) => self.taking_refusal(Wanted::Any, handle),
             Plan::Mints(wanted, from, new, _) => {
-                let is_taken = self.handles.is_taken(new.0);
-                let unfit = self.through_refusal(wanted, from);
-                unfit.or(is_taken.then_some(WorldRefusal::NameTaken))
+                let taken = (self.handles.is_taken(new.0)).then_some(WorldRefusal::NameTaken);
+                self.through_refusal(wanted, from).or(taken)
             }
         }
     }

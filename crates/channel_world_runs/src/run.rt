@@ -14,10 +14,8 @@ fn stopped<T: Drop>(trace: Vec<Entry<T>>, why: WorldRefusal) -> Run<T>
     ensures stopped { result.stopped ≡ Some (record { place = vec_len trace; why = why }) }
 {
     let place = trace.len();
-    Run {
-        trace,
-        stopped: Some(Stopped { place, why }),
-    }
+    let stopped = Some(Stopped { place, why });
+    Run { trace, stopped }
 }
 
 impl<T: Drop> WorldState<T> {
@@ -70,9 +68,7 @@ impl<T: Drop> WorldState<T> {
                 }
             }
         }
-        Run {
-            trace,
-            stopped: None,
-        }
+        let stopped = None;
+        Run { trace, stopped }
     }
 }

@@ -1,14 +1,11 @@
 //! Polls of those who are pending and were woken, made alone, one after another, as settling makes them.
 
-use crate::beginning::Begun;
 use crate::name_table::NameTable;
-use crate::position::accepted_by;
-use crate::woken::Woken;
 use crate::world_state::WorldState;
 use channel_calls::reply::Reply;
-use channel_calls::whole::Completed;
-use channel_steps::alone::run_alone;
+use channel_world_model::call::Call;
 use channel_world_model::name::{HandleKind, Waiter};
+use channel_world_model::run::Done;
 
 /// What a poll left.
 #[derive(Drop)]
@@ -19,10 +16,21 @@ pub struct Polled<T> {
     pub names: Vec<Waiter>,
 }
 
+ghost use Rattle.std.specs.Prelude.{◌≡◌};
+ghost use Rattle.channel_world_model.specs.Settling.{poll_of};
+
+/// The poll of this name.
+fn poll_of<T>(name: Waiter) -> Call<T>
+    ensures { result ≡ poll_of name }
+{
+    match name {
+        Waiter::Op(op) => Call::Poll { op },
+        Waiter::Stream(receiver) => Call::PollNext { receiver },
+    }
+}
+
 impl<T: Drop> NameTable<T> {
     ghost use Rattle.std.specs.Prelude.{◌≡◌};
-    ghost use Rattle.channel_world_model.specs.Settling.{poll_of};
-    ghost use Rattle.channel_world_runs.specs.Bookkeeping.{BeginsByName};
     ghost use Rattle.channel_world_runs.specs.OwnerOrder.{was_woken};
     ghost use Rattle.channel_world_runs.specs.Owners.{status};
 
@@ -41,16 +49,6 @@ impl<T: Drop> NameTable<T> {
                 }
                 None => false,
             },
-        }
-    }
-
-    /// A poll of this name begins.
-    fn begin_poll(&mut self, name: Waiter) -> Begun<T>
-        ensures { BeginsByName self.old (poll_of name) result self.new }
-    {
-        match name {
-            Waiter::Op(op) => self.poll(op),
-            Waiter::Stream(receiver) => self.poll_next(receiver),
         }
     }
 }
@@ -84,22 +82,13 @@ impl<T: Drop> WorldState<T> {
         ensures capacity { vec_capacity names ≤ vec_capacity result.names }
         ensures ample { lacks_memory result.reply ≡ false }
     {
-        let from = names.len();
-        let brings = self.name_table.brings_polled(name);
-        let mut sink = Woken { names };
-        let Begun { ask, on_return } = self.name_table.begin_poll(name);
-        let Completed { reply, kept } = run_alone(
-            ask,
-            &mut self.channel,
-            &mut self.messages,
-            &mut sink,
-        );
-        self.accepted = self.accepted.saturating_add(accepted_by(brings, &reply));
-        let Woken { names } = sink;
-        self.name_table.wake_from(&names, from);
-        self.order.wake_from(&names, from);
-        self.order.settle(&on_return, kept.key);
-        self.name_table.settle(on_return, &reply, kept);
+        let poll = poll_of(name);
+        let brings = self.name_table.brings(&poll);
+        let begun = self.name_table.begin_named(poll);
+        let Done {
+            reply,
+            woken: names,
+        } = self.finish(begun, brings, names);
         Polled { reply, names }
     }
 }

@@ -3,7 +3,7 @@
 use crate::calls::{CallUnderWay, find_call, is_at_work};
 use crate::name_table::NameTable;
 use crate::order::Order;
-use crate::position::{brought_in, is_one_place};
+use crate::position::brought_in;
 use crate::step::{Entry, PartyId, Step};
 use crate::woken::Woken;
 use channel_calls::mark::Mark;
@@ -53,16 +53,13 @@ impl<T: Drop> WorldState<T> {
         ensures name_state { IfOk result (λ f. name_state_of f ≡ record { name_table = first_name_table; order = []; agents = [] }) }
         ensures stands { IfOk result (λ f. Stands f) }
     {
-        let order = Order::new(alloc)?;
-        let name_table = NameTable::new(alloc)?;
-        let opened = open_channel(form, alloc)?;
         Ok(WorldState {
-            channel: opened.cells,
+            channel: open_channel(form, alloc)?.cells,
             calls: Vec::new(alloc),
-            name_table,
-            order,
+            name_table: NameTable::new(alloc)?,
+            order: Order::new(alloc)?,
             messages: 0,
-            has_one_place: is_one_place(form),
+            has_one_place: matches!(form, QueueForm::Bounded(1)),
             accepted: 0,
             alloc,
         })
@@ -112,23 +109,17 @@ impl<T: Drop> WorldState<T> {
     {
         let k = find_call(&self.calls, party)?;
         let room = self.channel.most_listeners();
-        let Ok(mut sink) = Woken::with_room(room, self.alloc) else {
-            return None;
-        };
+        let names = Vec::with_capacity(self.alloc, room).ok()?;
+        let mut sink = Woken { names };
         let call = &mut self.calls[k];
         let reply = call.step(&mut self.channel, &mut sink);
         let mark = call.party.last_mark();
         self.accepted = self.accepted.saturating_add(brought_in(mark));
         self.messages = counted(self.messages, mark);
-        let Woken { names } = sink;
-        self.name_table.wake_from(&names, 0);
-        self.order.wake_from(&names, 0);
+        let Woken { names: woken } = sink;
+        self.wake_from(&woken, 0);
         self.write_back(k, &reply);
-        Some(Entry {
-            mark,
-            woken: names,
-            reply,
-        })
+        Some(Entry { mark, woken, reply })
     }
 
     /// Makes a step that nothing but want of room refuses; or hands it back where there was none, with nothing changed.

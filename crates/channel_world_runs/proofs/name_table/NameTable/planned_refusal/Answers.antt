@@ -13,8 +13,8 @@ returns-in-ThroughBoth g c = rw c.in-ThroughBoth.is (c.unlike_handles.ensures �
 pub returns-in-Makes : goal.returns-in-Makes
 returns-in-Makes g c =
     rw c.in-Makes.is (c.or.ensures
-    ∙ then_taken (c.through_refusal-unfit.ensures ∙ through_seen c.args.self.now c.in-Makes.wanted c.in-Makes.handle) c.then_some.ensures
-    (c.is_taken-is_taken.ensures ∙ operation_taken c.args.self.now c.in-Makes.op))
+    ∙ then_taken (c.through_refusal-in-Makes.ensures ∙ through_seen c.args.self.now c.in-Makes.wanted c.in-Makes.handle) c.then_some-taken.ensures
+    (c.is_taken.ensures ∙ operation_taken c.args.self.now c.in-Makes.op))
 
 pub returns-in-Polls : goal.returns-in-Polls
 returns-in-Polls g c =
@@ -33,5 +33,5 @@ returns-in-Drops g c = rw c.in-Drops.is (c.taking_refusal-in-Drops.ensures ∙ t
 pub returns-in-Mints : goal.returns-in-Mints
 returns-in-Mints g c =
     rw c.in-Mints.is (c.or-in-Mints.ensures
-    ∙ then_taken (c.through_refusal-unfit-in-Mints.ensures ∙ through_seen c.args.self.now c.in-Mints.wanted c.in-Mints.from) c.then_some-in-Mints.ensures
-    (c.is_taken-is_taken-in-Mints.ensures ∙ handle_taken c.args.self.now c.in-Mints.new))
+    ∙ then_taken (c.through_refusal-in-Mints.ensures ∙ through_seen c.args.self.now c.in-Mints.wanted c.in-Mints.from) c.then_some-taken-in-Mints.ensures
+    (c.is_taken-in-Mints.ensures ∙ handle_taken c.args.self.now c.in-Mints.new))

@@ -1,13 +1,14 @@
-use Rattle.std.proofs.Common.{arith, ◌≡◌, ◌∙◌, length, vec_len, refl, sym, ap, subst}
+use Rattle.std.proofs.Common.{[], ◌≤◌, vec_capacity, arith, ◌≡◌, ◌∙◌, length, vec_len, refl, sym, ap, subst}
 use Rattle.std.proofs.lemmas.Option.{slice_get_within, slice_get_read}
 use Rattle.channel_steps.proofs.Interface.{after-set, get-set}
-use Rattle.channel_world_runs.specs.Bookkeeping.{all_woken}
-use Rattle.channel_world_runs.specs.Order.{all_moved_last}
 use Rattle.channel_world_runs.specs.WorldState.{LeadsByStep}
 use Rattle.channel_world_runs.specs.declared.calls.CallUnderWay.{CallUnderWay}
 use Rattle.channel_world_runs.specs.declared.step.Entry.{Entry}
 use Rattle.channel_world_runs.specs.declared.step.Step.TheVariants as step
 use Rattle.channel_world_runs.specs.declared.world_state.WorldState.{WorldState}
+use Rattle.std.specs.Global.{Vec}
+use Rattle.channel_world_model.specs.declared.name.Waiter.{Waiter}
+use Rattle.channel_world_runs.proofs.ResultFacts.{value_is}
 use Rattle.channel_world_runs.proofs.CallFacts.{agents_kept}
 use Rattle.channel_world_runs.proofs.WorldStateFacts.{has_stepped}
 use Rattle.channel_world_runs.proofs.world_state.WorldState.go_on.Goals as goal
@@ -34,15 +35,15 @@ returns-clause-some g c =
     let same : x ≡ located.0 = cc in
     let whose = ap (λ (y : CallUnderWay g.row.T.Denot). y.party.id) same ∙ located.2 in
     let agents = agents_kept calls.items k x d there c.step-reply.ensures.agent in
-    let full = c.step-reply.new.sink.names.items in
-    let told : c.wake_from.new.self ≡ all_woken full c.args.self.now.name_table = c.wake_from.ensures in
-    let moved : c.wake_from-2.new.self ≡ all_moved_last full c.args.self.now.order = c.wake_from-2.ensures in
+    let calls_left = rw c.wake_from.ensures at c.write_back.ensures.calls in
+    let names_left = rw c.wake_from.ensures at c.write_back.ensures.names in
+    let rest = rw c.wake_from.ensures at c.write_back.ensures.rest in
     let entry : Entry g.row.T.Denot = record { mark = c.last_mark-mark.result; woken = c.step-reply.new.sink.names; reply = c.step-reply.result } in
-    subst (λ (f : WorldState g.row.T.Denot). LeadsByStep (step.Step c.args.party) c.args.self.now entry f) (sym c.write_back.ensures.rest)
-    (has_stepped c.args.party k c.most_listeners-room.result c.brought_in.result x d c.args.self.now _ c.in-Ok.sink c.step-reply.new.sink entry
+    subst (λ (f : WorldState g.row.T.Denot). LeadsByStep (step.Step c.args.party) c.args.self.now entry f) (sym rest)
+    (has_stepped c.args.party k c.most_listeners-room.result c.brought_in.result x d c.args.self.now _ (record { names = c.in_ok-names.names }) c.step-reply.new.sink entry
     there whose c.step-reply.ensures.steps c.last_mark-mark.ensures c.step-reply.ensures.activity
-    (c.write_back.ensures.calls ∙ after-set calls.items k d c.step-reply.result)
-    c.in-Ok.ensures.none c.most_listeners-room.ensures c.in-Ok.ensures.room refl
-    (rw (sym told, sym moved, sym c.step-reply.ensures.agent, sym agents)
-    (c.write_back.ensures.names d (get-set calls.items k d x there)))
+    (calls_left ∙ after-set calls.items k d c.step-reply.result)
+    (value_is (λ (ns : Vec Waiter). ns.items ≡ []) _ _ c.in_ok-names.ensures.value c.with_capacity.ensures.items) c.most_listeners-room.ensures (value_is (λ (ns : Vec Waiter). c.most_listeners-room.result ≤ vec_capacity ns) _ _ c.in_ok-names.ensures.value c.with_capacity.ensures.capacity) refl
+    (rw (sym c.step-reply.ensures.agent, sym agents)
+    (names_left d (get-set calls.items k d x there)))
     c.counted-self.ensures c.brought_in.ensures c.saturating_add-self.ensures refl c.requires.accepted)
