@@ -1,19 +1,18 @@
 //! Scripts, from bytes to bytes.
 ghost use Rattle.std.specs.Prelude.{◌≡◌, ◌≤◌, ◌<◌, ◌^◌, ◌++◌, ◌∷◌, [], length, Some, None, IfOk, OnOk, OnErr, OnSome, IfSome};
 ghost use Rattle.std.specs.Option.{option_map};
-ghost use Rattle.channel_world_model.specs.State.{start};
+ghost use Rattle.std.specs.Result.{result_unwrap_or};
 ghost use Rattle.channel_world_language.specs.Words.{lines_of};
 ghost use Rattle.channel_world_language.specs.Language.{today};
 ghost use Rattle.channel_world_language.specs.Said.{said_line};
 ghost use Rattle.channel_world.specs.Staged.{scene_of};
-ghost use Rattle.channel_world.specs.Script.{readable, ending, followed, first_names, opened, script_of_lines};
+ghost use Rattle.channel_world.specs.Script.{readable, ending, first_scene, opened, script_of_lines};
 ghost use Rattle.channel_world.specs.Added.{Extends};
-ghost use Rattle.channel_world.specs.View.{at_rest, IsQuiet};
+ghost use Rattle.channel_world.specs.View.{IsQuiet};
 
 use super::end::ScriptEnd;
 use super::scene::Scene;
 use crate::world::World;
-use channel_calls::error::OpenError;
 use channel_world_language::command::{Line, Opening, parse_line, parse_opening};
 use channel_world_language::table::{Sort, Table};
 use channel_world_language::words::first_line;
@@ -46,34 +45,53 @@ fn readable(number: u32, line: &[u8]) -> Option<Line<'_>>
 }
 
 /// Ends a script at a line that can't be read.
-fn end_unreadable(alloc: Global, line: u32, out: &mut Vec<u8>) -> ScriptEnd
-    ensures { Extends (ending (ScriptEnd.Unreadable line)) result out.old.items out.new.items }
+fn end_unreadable(alloc: Global, line: u32, out: &mut Vec<u8>) -> Result<ScriptEnd, AllocError>
+    ensures { Extends (ending (ScriptEnd.Unreadable line)) (result_unwrap_or result ScriptEnd.Memory) out.old.items out.new.items }
 {
-    let Ok(text) = format!(in alloc; "line {line}: can't be read") else {
-        return ScriptEnd::Memory;
-    };
-    match add_line(out, text.as_bytes()) {
-        Ok(()) => ScriptEnd::Unreadable { line },
-        Err(_) => ScriptEnd::Memory,
-    }
+    let text = format!(in alloc; "line {line}: can't be read")?;
+    add_line(out, text.as_bytes())?;
+    Ok(ScriptEnd::Unreadable { line })
 }
 
 /// Ends a script whose channel would hold nothing.
-fn end_without_capacity(out: &mut Vec<u8>) -> ScriptEnd
-    ensures { Extends (ending ScriptEnd.Capacity) result out.old.items out.new.items }
+fn end_without_capacity(out: &mut Vec<u8>) -> Result<ScriptEnd, AllocError>
+    ensures { Extends (ending ScriptEnd.Capacity) (result_unwrap_or result ScriptEnd.Memory) out.old.items out.new.items }
 {
-    match add_line(out, b"capacity must be positive") {
-        Ok(()) => ScriptEnd::Capacity,
-        Err(_) => ScriptEnd::Memory,
-    }
+    add_line(out, b"capacity must be positive")?;
+    Ok(ScriptEnd::Capacity)
 }
 
-/// Runs the lines of a script after the first, and adds its text.
-fn follow<'a>(alloc: Global, scene: &mut Scene<'a>, text: &'a [u8], out: &mut Vec<u8>) -> ScriptEnd
-    requires few { length scene.old.table ≤ 2 }
-    requires quiet { IsQuiet scene.old.world }
-    ensures { Extends (followed today (scene_of scene.old) 2 (lines_of text.now)) result out.old.items out.new.items }
+/// A channel of this capacity, or of any number of messages, and the first names of a script.
+fn open<'a>(alloc: Global, capacity: Option<usize>) -> Result<Scene<'a>, AllocError>
+    requires { IfSome capacity (λ c. 0 < c) }
+    ensures scene { IfOk result (λ scene. scene_of scene ≡ first_scene capacity) }
+    ensures quiet { IfOk result (λ scene. IsQuiet scene.world) }
+    ensures fits { OnOk result (IfSome capacity (λ c. c ≤ 2 ^ 58)) }
 {
+    let mut ids = EventIds::new();
+    let opened = match capacity {
+        Some(capacity) => World::bounded(alloc, capacity, &mut ids),
+        None => World::unbounded(alloc, &mut ids),
+    };
+    let world = opened.map_err(|_| AllocError)?;
+    let mut table = Table::new(alloc);
+    table.give(b"s", Sort::Handle)?;
+    table.give(b"r", Sort::Handle)?;
+    Ok(Scene { world, table })
+}
+
+/// Opens the channel of a script, runs the lines after the first, and adds the text of all.
+fn run_opened(
+    alloc: Global,
+    capacity: Option<usize>,
+    text: &[u8],
+    out: &mut Vec<u8>,
+) -> Result<ScriptEnd, AllocError>
+    requires { IfSome capacity (λ c. 0 < c) }
+    ensures { Extends (opened today capacity (lines_of text.now)) (result_unwrap_or result ScriptEnd.Memory) out.old.items out.new.items }
+{
+    let mut scene = open(alloc, capacity)?;
+    add_line(out, b"ok")?;
     let mut rest = text;
     let mut number = 2u32;
     let mut reply = Vec::new(alloc);
@@ -81,78 +99,27 @@ fn follow<'a>(alloc: Global, scene: &mut Scene<'a>, text: &'a [u8], out: &mut Ve
         let Some(command) = readable(number, line) else {
             return end_unreadable(alloc, number, out);
         };
-        let Ok(()) = scene.obey(&command, &mut reply) else {
-            return ScriptEnd::Memory;
-        };
-        let Ok(()) = add_line(out, reply.as_slice()) else {
-            return ScriptEnd::Memory;
-        };
+        scene.obey(&command, &mut reply)?;
+        add_line(out, reply.as_slice())?;
         rest = after;
         number += 1;
     }
-    ScriptEnd::Done
-}
-
-/// The first names of a script.
-fn first_names<'a>(alloc: Global) -> Result<Table<'a>, AllocError>
-    ensures { IfOk result (λ table. table ≡ first_names) }
-{
-    let mut table = Table::new(alloc);
-    table.give(b"s", Sort::Handle)?;
-    table.give(b"r", Sort::Handle)?;
-    Ok(table)
-}
-
-/// A channel of this capacity, or of any number of messages.
-fn open(alloc: Global, capacity: Option<usize>) -> Result<World<u64>, OpenError>
-    requires { IfSome capacity (λ c. 0 < c) }
-    ensures world { IfOk result (λ world. at_rest world ≡ start capacity) }
-    ensures quiet { IfOk result (λ world. IsQuiet world) }
-    ensures fits { OnOk result (IfSome capacity (λ c. c ≤ 2 ^ 58)) }
-{
-    let mut ids = EventIds::new();
-    match capacity {
-        Some(capacity) => World::bounded(alloc, capacity, &mut ids),
-        None => World::unbounded(alloc, &mut ids),
-    }
-}
-
-/// Opens the channel of a script, runs the lines after the first, and adds the text of all.
-fn run_opened<'a>(
-    alloc: Global,
-    capacity: Option<usize>,
-    text: &'a [u8],
-    out: &mut Vec<u8>,
-) -> ScriptEnd
-    requires { IfSome capacity (λ c. 0 < c) }
-    ensures { Extends (opened today capacity (lines_of text.now)) result out.old.items out.new.items }
-{
-    let Ok(world) = open(alloc, capacity) else {
-        return ScriptEnd::Memory;
-    };
-    let Ok(table) = first_names(alloc) else {
-        return ScriptEnd::Memory;
-    };
-    let Ok(()) = add_line(out, b"ok") else {
-        return ScriptEnd::Memory;
-    };
-    let mut scene = Scene { world, table };
-    follow(alloc, &mut scene, text, out)
+    Ok(ScriptEnd::Done)
 }
 
 /// Runs a script, and adds its text, but for the last line where memory was refused.
-pub fn compose(alloc: Global, input: &[u8], out: &mut Vec<u8>) -> ScriptEnd
-    ensures { Extends (script_of_lines today (lines_of input.now)) result out.old.items out.new.items }
+pub fn compose(alloc: Global, input: &[u8], out: &mut Vec<u8>) -> Result<ScriptEnd, AllocError>
+    ensures { Extends (script_of_lines today (lines_of input.now)) (result_unwrap_or result ScriptEnd.Memory) out.old.items out.new.items }
 {
     let Some((line, rest)) = first_line(input) else {
-        return ScriptEnd::Done;
+        return Ok(ScriptEnd::Done);
     };
-    let Some(opening) = parse_opening(line) else {
-        return end_unreadable(alloc, 1, out);
-    };
-    match opening {
-        Opening::Bounded { capacity: 0 } => end_without_capacity(out),
-        Opening::Bounded { capacity } => run_opened(alloc, Some(capacity as usize), rest, out),
-        Opening::Unbounded => run_opened(alloc, None, rest, out),
+    match parse_opening(line) {
+        None => end_unreadable(alloc, 1, out),
+        Some(Opening::Bounded { capacity: 0 }) => end_without_capacity(out),
+        Some(Opening::Bounded { capacity }) => {
+            run_opened(alloc, Some(capacity as usize), rest, out)
+        }
+        Some(Opening::Unbounded) => run_opened(alloc, None, rest, out),
     }
 }
