@@ -17,10 +17,8 @@ pub fn add_settling(
     ensures text { OnOk result (line.new.items ≡ line.old.items ++ settle_text table.now (polls_in polls.now)) }
     ensures whole { OnOk result (AreAmple polls.now) }
 {
-    let count = polls.len();
-    add_number(b"polls ", count as u64, line)?;
-    for k in 0..count {
-        let poll = &polls[k];
+    add_number(b"polls ", polls.len() as u64, line)?;
+    for (k, poll) in polls.iter().enumerate() {
         line.extend_from_slice(part_before(k))?;
         add_poll(table, poll.name, &poll.reply, line)?;
     }
