@@ -50,8 +50,9 @@ pub followed_more : (language : Language) (s t : ScriptScene) (n : ℕ) (lines r
 followed_more language s t n lines rest line reply command e r o = rw (e, ← r, ← o) refl
 
 -- a script that opens a channel
-pub opened_fits : (language : Language) (size : Option ℕ) (lines : List (List ℕ)) → IfSome size (λ c. c ≤ 2 ^ 58) → opened language size lines ≡ replying_first (codes "ok") (followed language (first_scene size) 2 lines)
-opened_fits language None lines h = refl
-opened_fits language (Some c) lines h =
+pub opened_fits : (language : Language) (size : Option ℕ) (lines : List (List ℕ)) (scene : ScriptScene) → scene ≡ first_scene size → IfSome size (λ c. c ≤ 2 ^ 58)
+    → opened language size lines ≡ replying_first (codes "ok") (followed language scene 2 lines)
+opened_fits language None lines scene same h = rw same refl
+opened_fits language (Some c) lines scene same h =
     let fits : nat_lt (2 ^ 58) c ≡ false = grind (arith, nat_tests) in
-    rw fits refl
+    rw (same, fits) refl

@@ -25,9 +25,7 @@ pub(crate) fn filled<T: Copy>(mut room: Vec<T>, items: &[T]) -> Vec<T>
     requires room { length items.now ≤ vec_capacity room }
     ensures { result.items ≡ items.now }
 {
-    let Ok(()) = room.extend_from_slice(items) else {
-        unreachable!()
-    };
+    room.extend_from_slice(items).unwrap();
     room
 }
 

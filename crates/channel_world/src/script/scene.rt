@@ -11,12 +11,11 @@ ghost use Rattle.channel_world_language.specs.Said.{sort_of, sending_call, makin
 ghost use Rattle.channel_world.specs.Staged.{scene_of};
 ghost use Rattle.channel_world.specs.View.{at_rest, IsQuiet};
 
-use super::text::add_settling;
 use crate::world::World;
 use channel_world_language::call::{call_of, given, used};
 use channel_world_language::command::{Command, Line};
 use channel_world_language::table::{Named, Table};
-use channel_world_language::text::{add_answer, add_refused};
+use channel_world_language::text::{add_answer, add_number, add_poll, add_refused, part_before};
 use channel_world_model::call::Call;
 use channel_world_model::refusal::WorldRefusal;
 use std::alloc::AllocError;
@@ -133,7 +132,12 @@ impl<'a> Scene<'a> {
     {
         let polls = self.world.settle().map_err(|_| AllocError)?;
         line.clear();
-        add_settling(&self.table, polls.as_slice(), line)
+        add_number(b"polls ", polls.len() as u64, line)?;
+        for (k, poll) in polls.iter().enumerate() {
+            line.extend_from_slice(part_before(k))?;
+            add_poll(&self.table, poll.name, &poll.reply, line)?;
+        }
+        Ok(())
     }
 
     /// Does what a line says, and writes its reply line in place of what stands there. Where memory or serials are refused
