@@ -66,7 +66,9 @@ impl<T: Eq> Record<T> {
     pub fn holds(&self, receipt: &Receipt<T>) -> bool
         ensures { result ≡ stands_in ⟦<Receipt<T> as PartialEq>⟧.eq self.now.entries receipt.now }
     {
-        let entry = self.entries.get(receipt.place);
-        entry.is_some_and(|entry| *entry == *receipt)
+        match self.entries.get(receipt.place) {
+            Some(entry) => *entry == *receipt,
+            None => false,
+        }
     }
 }

@@ -162,7 +162,7 @@ impl<T: Copy, L: Ledger> Recording<T, L> {
     /// The record, where as many seats are gathered as were made. Else all comes back.
     pub(crate) fn finish(
         self,
-        seats: Vec<RecordSeat<L>>,
+        mut seats: Vec<RecordSeat<L>>,
     ) -> Result<Record<T>, (Self, Vec<RecordSeat<L>>)>
         ensures all { OnOk result (length seats.items ≡ self.seats) }
         ensures record { IfOk result (λ r. r ≡ record { capacity = self.capacity; entries = self.entries }) }
@@ -176,7 +176,6 @@ impl<T: Copy, L: Ledger> Recording<T, L> {
             return Err((self, seats));
         }
         let mut all = self.rest;
-        let mut seats = seats;
         while let Some(seat) = seats.pop() {
             all.merge(seat.mine);
         }
