@@ -2,17 +2,19 @@
 ghost use Rattle.std.specs.Prelude.{◌≡◌, ◌≤◌, ◌<◌, ◌^◌, ◌++◌, ◌∷◌, [], length, Some, None, IfOk, OnOk, OnErr, OnSome, IfSome};
 ghost use Rattle.std.specs.Option.{option_map};
 ghost use Rattle.std.specs.Result.{result_unwrap_or};
+ghost use Rattle.channel_world_model.specs.State.{start};
 ghost use Rattle.channel_world_language.specs.Words.{lines_of};
 ghost use Rattle.channel_world_language.specs.Language.{today};
 ghost use Rattle.channel_world_language.specs.Said.{said_line};
 ghost use Rattle.channel_world.specs.Staged.{scene_of};
-ghost use Rattle.channel_world.specs.Script.{readable, ending, first_scene, opened, script_of_lines};
+ghost use Rattle.channel_world.specs.Script.{readable, ending, first_names, opened, script_of_lines};
 ghost use Rattle.channel_world.specs.Added.{Extends};
-ghost use Rattle.channel_world.specs.View.{IsQuiet};
+ghost use Rattle.channel_world.specs.View.{at_rest, IsQuiet};
 
 use super::end::ScriptEnd;
 use super::scene::Scene;
 use crate::world::World;
+use channel_calls::error::OpenError;
 use channel_world_language::command::{Line, Opening, parse_line, parse_opening};
 use channel_world_language::table::{Sort, Table};
 use channel_world_language::words::first_line;
@@ -61,23 +63,28 @@ fn end_without_capacity(out: &mut Vec<u8>) -> Result<ScriptEnd, AllocError>
     Ok(ScriptEnd::Capacity)
 }
 
-/// A channel of this capacity, or of any number of messages, and the first names of a script.
-fn open<'a>(alloc: Global, capacity: Option<usize>) -> Result<Scene<'a>, AllocError>
-    requires { IfSome capacity (λ c. 0 < c) }
-    ensures scene { IfOk result (λ scene. scene_of scene ≡ first_scene capacity) }
-    ensures quiet { IfOk result (λ scene. IsQuiet scene.world) }
-    ensures fits { OnOk result (IfSome capacity (λ c. c ≤ 2 ^ 58)) }
+/// The first names of a script.
+fn first_names<'a>(alloc: Global) -> Result<Table<'a>, AllocError>
+    ensures { IfOk result (λ table. table ≡ first_names) }
 {
-    let mut ids = EventIds::new();
-    let opened = match capacity {
-        Some(capacity) => World::bounded(alloc, capacity, &mut ids),
-        None => World::unbounded(alloc, &mut ids),
-    };
-    let world = opened.map_err(|_| AllocError)?;
     let mut table = Table::new(alloc);
     table.give(b"s", Sort::Handle)?;
     table.give(b"r", Sort::Handle)?;
-    Ok(Scene { world, table })
+    Ok(table)
+}
+
+/// A channel of this capacity, or of any number of messages.
+fn open(alloc: Global, capacity: Option<usize>) -> Result<World<u64>, OpenError>
+    requires { IfSome capacity (λ c. 0 < c) }
+    ensures world { IfOk result (λ world. at_rest world ≡ start capacity) }
+    ensures quiet { IfOk result (λ world. IsQuiet world) }
+    ensures fits { OnOk result (IfSome capacity (λ c. c ≤ 2 ^ 58)) }
+{
+    let mut ids = EventIds::new();
+    match capacity {
+        Some(capacity) => World::bounded(alloc, capacity, &mut ids),
+        None => World::unbounded(alloc, &mut ids),
+    }
 }
 
 /// Opens the channel of a script, runs the lines after the first, and adds the text of all.
@@ -90,7 +97,11 @@ fn run_opened(
     requires { IfSome capacity (λ c. 0 < c) }
     ensures { Extends (opened today capacity (lines_of text.now)) (result_unwrap_or result ScriptEnd.Memory) out.old.items out.new.items }
 {
-    let mut scene = open(alloc, capacity)?;
+    let Ok(world) = open(alloc, capacity) else {
+        return Err(AllocError);
+    };
+    let table = first_names(alloc)?;
+    let mut scene = Scene { world, table };
     add_line(out, b"ok")?;
     let mut rest = text;
     let mut number = 2u32;

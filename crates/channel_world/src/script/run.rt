@@ -84,11 +84,13 @@ fn read_and_compose<R: Read>(alloc: Global, reader: &mut R, out: &mut Vec<u8>) -
 fn write_script<W: Write>(writer: &mut W, text: &[u8], end: ScriptEnd) -> ScriptEnd
     ensures { WritesText (text.now ++ late_line end) end result (W.contents writer.old) (W.contents writer.new) }
 {
-    if write_text(writer, text) && write_text(writer, last_line(end)) {
-        end
-    } else {
-        ScriptEnd::Fault
+    if !write_text(writer, text) {
+        return ScriptEnd::Fault;
     }
+    if !write_text(writer, last_line(end)) {
+        return ScriptEnd::Fault;
+    }
+    end
 }
 
 /// Reads a script to its end, runs it, writes its text, and says how it ended.

@@ -46,8 +46,10 @@ impl<'a> Scene<'a> {
         requires { IsQuiet self.now.world }
         ensures { result ≡ is_known (at_rest self.now.world).names self.now.table name.now }
     {
-        let named = self.table.get(name);
-        named.is_some_and(|named| lives(&self.world, named))
+        match self.table.get(name) {
+            Some(named) => lives(&self.world, named),
+            None => false,
+        }
     }
 
     /// Whether all names that a command uses were given to something that lives.
@@ -56,14 +58,20 @@ impl<'a> Scene<'a> {
         ensures { result ≡ list_all (is_known (at_rest self.now.world).names self.now.table) (used (said command.now)) }
     {
         let (first, second) = used(command);
-        self.is_known(first) && second.is_none_or(|second| self.is_known(second))
+        match second {
+            Some(second) => self.is_known(first) && self.is_known(second),
+            None => self.is_known(first),
+        }
     }
 
     /// Whether the name that a command gives was given before.
     fn is_given_before(&self, command: &Command<'_>) -> bool
         ensures { result ≡ is_given_before self.now.table (said command.now) }
     {
-        given(command).is_some_and(|(name, _)| self.table.has(name))
+        match given(command) {
+            Some((name, _)) => self.table.has(name),
+            None => false,
+        }
     }
 
     /// Why a command has no call: a name that it uses was not given to what lives, or is of the wrong sort.
@@ -101,6 +109,42 @@ impl<'a> Scene<'a> {
         Ok(call)
     }
 
+    /// Gives the new name of an accepted command. Where memory is refused nothing is known of the names.
+    fn give(&mut self, command: &Command<'a>) -> Result<(), AllocError>
+        requires new { is_given_before self.old.table (said command.now) ≡ false }
+        requires few { length self.old.table < 2 ^ 32 }
+        ensures table { OnOk result (self.new.table ≡ with_given self.old.table (said command.now)) }
+        ensures world { self.new.world ≡ self.old.world }
+    {
+        match given(command) {
+            Some((name, sort)) => self.table.give(name, sort),
+            None => Ok(()),
+        }
+    }
+
+    /// Makes the call of a command, and writes its reply line in place of what stands there.
+    fn make(
+        &mut self,
+        command: &Command<'a>,
+        call: Call<u64>,
+        line: &mut Vec<u8>,
+    ) -> Result<(), AllocError>
+        requires quiet { IsQuiet self.old.world }
+        requires accepted { refusal (at_rest self.old.world) call ≡ None }
+        requires new { is_given_before self.old.table (said command.now) ≡ false }
+        requires few { length self.old.table < 2 ^ 32 }
+        ensures line { OnOk result (record { after = scene_of self.new; line = line.new.items } ≡ answered (scene_of self.old) (said command.now) call) }
+        ensures quiet { IsQuiet self.new.world }
+    {
+        let Ok(done) = self.world.answer(call) else {
+            return Err(AllocError);
+        };
+        line.clear();
+        add_answer(&self.table, &done, line)?;
+        self.give(command)?;
+        Ok(())
+    }
+
     /// Makes the call that a command says, if it is not refused, and writes its reply line. Where memory or serials are
     /// refused nothing is known of the scene.
     fn call(&mut self, command: &Command<'a>, line: &mut Vec<u8>) -> Result<(), AllocError>
@@ -110,17 +154,13 @@ impl<'a> Scene<'a> {
         ensures names { OnOk result (length self.new.table ≤ length self.old.table + 1) }
         ensures quiet { IsQuiet self.new.world }
     {
-        line.clear();
-        let call = match self.check(command) {
-            Ok(call) => call,
-            Err(why) => return add_refused(why, line),
-        };
-        let done = self.world.answer(call).map_err(|_| AllocError)?;
-        add_answer(&self.table, &done, line)?;
-        if let Some((name, sort)) = given(command) {
-            self.table.give(name, sort)?;
+        match self.check(command) {
+            Ok(call) => self.make(command, call, line),
+            Err(why) => {
+                line.clear();
+                add_refused(why, line)
+            }
         }
-        Ok(())
     }
 
     /// Settles, and writes the reply line. Where memory or serials are refused nothing is known of the scene.
@@ -130,7 +170,10 @@ impl<'a> Scene<'a> {
         ensures names { self.new.table ≡ self.old.table }
         ensures quiet { IsQuiet self.new.world }
     {
-        let polls = self.world.settle().map_err(|_| AllocError)?;
+        let Ok(settled) = self.world.settle() else {
+            return Err(AllocError);
+        };
+        let polls = settled.as_slice();
         line.clear();
         add_number(b"polls ", polls.len() as u64, line)?;
         for (k, poll) in polls.iter().enumerate() {

@@ -9,7 +9,7 @@ use Rattle.channel_world.proofs.script.compose.run_opened.Given as goal
 
 abbrev pub invariant-loop-line : goal.invariant-loop-line
 invariant-loop-line l = record {
-  said : GoesOn (opened today l.capacity (lines_of l.fn.text)) l.fn.out.items (followed today (scene_of l.scene) l.number (lines_of l.rest)) l.out.items;
+  said : GoesOn (opened today l.fn.capacity (lines_of l.fn.text)) l.fn.out.items (followed today (scene_of l.scene) l.number (lines_of l.rest)) l.out.items;
   few : length l.scene.table ≤ l.number;
   quiet : IsQuiet l.scene.world;
 }

@@ -6,6 +6,6 @@ use Rattle.channel_world.proofs.script.scene.Scene.settle.Given as goal
 
 abbrev pub invariant-loop-k : goal.invariant-loop-k
 invariant-loop-k l = record {
-  text : l.line.items ≡ codes "polls " ++ decimal (length l.polls.items) ++ parted l.self.table (polls_in (take l.k l.polls.items));
-  whole : AreAmple (take l.k l.polls.items);
+  text : l.line.items ≡ codes "polls " ++ decimal (length l.polls) ++ parted l.self.table (polls_in (take l.k l.polls));
+  whole : AreAmple (take l.k l.polls);
 }
