@@ -1,7 +1,6 @@
 -- How many messages a reply lists at most.
 use Rattle.std.proofs.Common.{arith, ◌≡◌, ◌≤◌, ℕ, zero, suc, List, [], ◌∷◌, length, take, drop, Bool, true, false, ◌||◌, ◌==◌, ◌^◌, ◌-◌, nat_lt, if◌then◌else◌, is_none, Option, None, Some, refl, sym, subst, inl, inr}
 use Rattle.std.proofs.lemmas.List.{length-take}
-use Rattle.channel_calls.specs.declared.reply.Reply.TheVariants as reply
 use Rattle.channel_world_model.specs.Answer.{Answer, answer, space_of, Found, first, none_yet, none_ever, found, displacing, next_answer, strong_handles, dropped, one_more, drop_one, drop_answer, poll_answer, poll_refused_answer, give_up_answer, send_poll_answer, recv_poll_answer, try_send_answer, force_send_answer, try_recv_answer, recv_many_answer, clone_answer, downgrade_answer, upgrade_answer, close_answer, strong_of}
 use Rattle.channel_calls.specs.Model.{ModelChannel}
 use Rattle.channel_world_model.specs.Lines.{is_among, untold, gone}
