@@ -1,9 +1,6 @@
 -- How many messages a reply lists at most.
-use Rattle.std.proofs.Common.{arith, ◌≡◌, ◌≤◌, ℕ, zero, suc, List, [], ◌∷◌, length, take, drop, Bool, true, false, ◌||◌, ◌==◌, ◌^◌, ◌-◌, nat_lt, if◌then◌else◌, is_none, Option, None, Some, Result, Ok, Err, IfOk, refl, sym, subst, inl, inr}
+use Rattle.std.proofs.Common.{arith, ◌≡◌, ◌≤◌, ℕ, zero, suc, List, [], ◌∷◌, length, take, drop, Bool, true, false, ◌||◌, ◌==◌, ◌^◌, ◌-◌, nat_lt, if◌then◌else◌, is_none, Option, None, Some, refl, sym, subst, inl, inr}
 use Rattle.std.proofs.lemmas.List.{length-take}
-use Rattle.channel_calls.specs.declared.error.Refused.{Refused}
-use Rattle.channel_calls.specs.declared.error.TryRecvError.{TryRecvError}
-use Rattle.channel_calls.specs.declared.reply.Reply.TheVariants as reply
 use Rattle.channel_world_model.specs.Answer.{Answer, answer, space_of, Found, first, none_yet, none_ever, found, displacing, next_answer, strong_handles, dropped, one_more, drop_one, drop_answer, poll_answer, poll_refused_answer, give_up_answer, send_poll_answer, recv_poll_answer, try_send_answer, force_send_answer, try_recv_answer, recv_many_answer, clone_answer, downgrade_answer, upgrade_answer, close_answer, strong_of}
 use Rattle.channel_calls.specs.Model.{ModelChannel}
 use Rattle.channel_world_model.specs.Lines.{is_among, untold, gone}
@@ -223,12 +220,6 @@ module _ {T : Type 0} where
   pub few_listed : (s : State T) (c : Call T) (a : Answer T) → Answers s c a → length (listed a.reply) ≤ most_listed c
   few_listed s c a (inl e) = subst (λ (x : Answer T). length (listed x.reply) ≤ most_listed c) (sym e) (few_ample s c)
   few_listed s c a (inr (lack, e)) = let none = taken (answer_without lack s c) a e (bare_without lack s c) in omega (arith, none)
-
-  -- room for a list is room for the answer that holds it
-  pub room_for_list : (n : ℕ) (r : Result (List T) (Refused TryRecvError Unit)) → length (listed (reply.RecvMany r)) ≤ n
-      → IfOk r (λ ms. length ms ≤ n)
-  room_for_list n (Ok ms) h = h
-  room_for_list n (Err e) h = tt
 
   -- a call that takes no several messages
   pub lists_nothing : (c : Call T) → ((h : HandleId) (n : ℕ) → c ≡ call.RecvMany h n → ⊥) → most_listed c ≡ 0

@@ -1,14 +1,13 @@
--- Records that grow, the one call of a run, the calls of seats, and the two laws of every record.
-use Rattle.std.proofs.Common.{arith, ◌≡◌, ◌+◌, ◌-◌, ◌*◌, ◌^◌, ◌≤◌, ℕ, zero, suc, List, [], ◌∷◌, ◌++◌, length, Option, None, Some, IfSome, refl, sym, subst, ap, ◌∙◌, add-one, append_assoc, append-nil}
-use Rattle.std.specs.Option.{option_map}
+-- Records that grow, the calls of seats, and the two laws of every record.
+use Rattle.std.proofs.Common.{arith, ◌≡◌, ◌+◌, ◌-◌, ◌*◌, ◌^◌, ◌≤◌, ℕ, zero, suc, List, [], ◌∷◌, ◌++◌, length, Option, None, refl, sym, subst, ap, ◌∙◌, add-one, append_assoc, append-nil}
+use Rattle.channel_calls.specs.declared.reply.Reply.{Reply}
 use Rattle.channel_world_model.specs.Awake.{AwakeIn}
 use Rattle.channel_world_model.specs.Laws.{removed_by, brought_by_call, sends_after, NobodyIsLeft}
-use Rattle.channel_world_model.specs.Run.{Runs, Stops, MayBeDone, MayStop}
+use Rattle.channel_world_model.specs.Refusal.{refusal}
+use Rattle.channel_world_model.specs.Refused.{Answers}
 use Rattle.channel_world_model.specs.State.{State, start}
 use Rattle.channel_world_model.specs.declared.call.Call.{Call}
-use Rattle.channel_world_model.specs.declared.refusal.WorldRefusal.{WorldRefusal}
-use Rattle.channel_world_model.specs.declared.run.Done.{Done}
-use Rattle.channel_world_model.specs.declared.run.Stopped.{Stopped}
+use Rattle.channel_world_model.specs.declared.name.Waiter.{Waiter}
 use Rattle.channel_world_model.proofs.LawSteps.{Kept, step_good, opened_kept}
 use Rattle.channel_world.specs.RecordLaws.{removed_in_record, accepted_in_record, accepted_after}
 use Rattle.channel_world.specs.RecordReplay.{MadeAsSaid, Replays, IsHistory}
@@ -47,17 +46,6 @@ told_apart made numbers calls count most small e =
     let same : count ≡ calls = omega (arith, most, small, sum, e) in
     (omega (arith, e, same), same)
 
--- ---- lists of one
-
-only_one : {A : Type 0} (xs : List A) (x y : A) → y ∷ [] ≡ xs ++ x ∷ [] → y ≡ x
-only_one [] x y e = cc e
-only_one (a ∷ []) x y e = cc e
-only_one (a ∷ b ∷ xs) x y e = cc e
-
-not_none : {A : Type 0} (xs : List A) (x : A) → [] ≡ xs ++ x ∷ [] → ⊥
-not_none [] x e = cc e
-not_none (a ∷ xs) x e = cc e
-
 module _ {T : Type 0} where
   -- ---- one entry more
 
@@ -92,39 +80,12 @@ module _ {T : Type 0} where
         kept = i.kept;
       }
 
-  -- ---- a run of one call
-
-  last_of : (s t : State T) (c : Call T) (before ds : List (Done T)) (d : Done T) (why : Option WorldRefusal) (rest : List (Call T))
-      → Runs s (c ∷ []) ds why rest t → ds ≡ before ++ d ∷ [] → MayBeDone s c d t
-  last_of s t c before [] d why rest run e = absurd (not_none before d e)
-  last_of s t c before (x ∷ []) d why rest (mid, does, (left, same, stops)) e =
-      let is : x ≡ d = only_one before d x e in
-      subst (λ (y : Done T). MayBeDone s c y t) is (subst (λ (y : State T). MayBeDone s c x y) (sym same) does)
-  last_of s t c before (x ∷ y ∷ ds) d why rest (mid, does, more) e = absurd more
-
-  -- the call that was made is the last one made
-  pub one_done : (s t : State T) (c : Call T) (calls rest : List (Call T)) (before ds : List (Done T)) (d : Done T) (why : Option WorldRefusal)
-      → Runs s calls ds why rest t → calls ≡ c ∷ [] → ds ≡ before ++ d ∷ [] → MayBeDone s c d t
-  one_done s t c calls rest before ds d why run one e =
-      last_of s t c before ds d why rest (subst (λ (cs : List (Call T)). Runs s cs ds why rest t) one run) e
-
-  -- and the receipt that says so of it is right
-  pub made_so : (s t : State T) (c : Call T) (d : Done T) (place seat : ℕ) (r : Receipt T) → MayBeDone s c d t
-      → r ≡ record { place = place; seat = seat; call = c; reply = d.reply; woken = d.woken.items } → MadeAsSaid s r t
-  made_so s t c d place seat r does is = subst (λ (x : Receipt T). MadeAsSaid s x t) (sym is) does
-
-  stopped_by : (s : State T) (c : Call T) (stopped : Option Stopped) (why : WorldRefusal) → Stops s (c ∷ []) (option_map (λ (x : Stopped). x.why) stopped)
-      → IfSome stopped (λ x. why ≡ x.why) → MayStop s c (Some why)
-  stopped_by s c None why stops is = absurd stops
-  stopped_by s c (Some x) why stops is = subst (λ (w : WorldRefusal). MayStop s c (Some w)) (sym is) stops
-
-  -- or none was made, for a reason, and nothing is changed
-  pub none_done : (s t : State T) (c : Call T) (calls rest : List (Call T)) (ds : List (Done T)) (stopped : Option Stopped) (why : WorldRefusal)
-      → Runs s calls ds (option_map (λ (x : Stopped). x.why) stopped) rest t → calls ≡ c ∷ [] → length ds ≡ 0 → IfSome stopped (λ x. why ≡ x.why)
-      → (t ≡ s) × MayStop s c (Some why)
-  none_done s t c calls rest [] stopped why (left, same, stops) one none is =
-      (same, stopped_by s c stopped why (subst (λ (cs : List (Call T)). Stops s cs (option_map (λ (x : Stopped). x.why) stopped)) one stops) is)
-  none_done s t c calls rest (d ∷ ds) stopped why run one none is = absurd (omega (arith, none))
+  -- the entry of a call that was made says how
+  pub made_so : (s t : State T) (c : Call T) (place seat : ℕ) (reply : Reply T) (woken names : List Waiter) → refusal s c ≡ None
+      → Answers s c (record { after = t; reply = reply; woken = woken }) → names ≡ woken
+      → MadeAsSaid s (record { place = place; seat = seat; call = c; reply = reply; woken = names }) t
+  made_so s t c place seat reply woken names fine does same =
+      (fine, subst (λ (ws : List Waiter). Answers s c (record { after = t; reply = reply; woken = ws })) (sym same) does)
 
   -- ---- the laws
 

@@ -1,6 +1,7 @@
 -- How the output grows.
 use Rattle.std.proofs.lemmas.Bool.Decides.{nat_tests}
-use Rattle.std.proofs.Common.{arith, ◌≤◌, ◌^◌, nat_lt, false, Option, None, Some, IfSome, codes, ◌≡◌, ℕ, suc, ◌+◌, List, [], ◌∷◌, ◌++◌, refl, sym, subst, ap, ◌∙◌, append_assoc, append-nil}
+use Rattle.std.proofs.Common.{arith, ◌≤◌, ◌^◌, nat_lt, true, false, Option, None, Some, Result, Ok, Err, is_err, IfSome, codes, ◌≡◌, ℕ, suc, ◌+◌, List, [], ◌∷◌, ◌++◌, refl, sym, subst, ap, ◌∙◌, append_assoc, append-nil}
+use Rattle.std.specs.Result.{result_unwrap_or}
 use Rattle.channel_world_language.specs.Language.{Language}
 use Rattle.channel_world.specs.Script.{Script, ScriptScene, ending, replying_first, readable, obeyed, followed, opened, first_scene}
 use Rattle.channel_world_language.specs.Command.{Command}
@@ -11,6 +12,11 @@ use Rattle.channel_world.specs.declared.script.end.ScriptEnd.TheVariants.{Done, 
 -- nothing was added before memory was refused
 pub stays : (script : Script) (old : List ℕ) → Extends script Memory old old
 stays script old = ([], sym (append-nil old), (0, refl))
+
+-- a script that hands want of memory up ends so
+pub refused : {E : Type 0} (script : Script) (r : Result ScriptEnd E) (old new : List ℕ) → is_err r ≡ true → Extends script Memory old new → Extends script (result_unwrap_or r Memory) old new
+refused script (Ok e) old new h x = cc h
+refused script (Err e) old new h x = x
 
 -- a script ends with nothing more
 pub is_done : (old : List ℕ) → Extends (ending Done) Done old old
@@ -50,8 +56,9 @@ pub followed_more : (language : Language) (s t : ScriptScene) (n : ℕ) (lines r
 followed_more language s t n lines rest line reply command e r o = rw (e, ← r, ← o) refl
 
 -- a script that opens a channel
-pub opened_fits : (language : Language) (size : Option ℕ) (lines : List (List ℕ)) → IfSome size (λ c. c ≤ 2 ^ 58) → opened language size lines ≡ replying_first (codes "ok") (followed language (first_scene size) 2 lines)
-opened_fits language None lines h = refl
-opened_fits language (Some c) lines h =
+pub opened_fits : (language : Language) (size : Option ℕ) (lines : List (List ℕ)) (scene : ScriptScene) → scene ≡ first_scene size → IfSome size (λ c. c ≤ 2 ^ 58)
+    → opened language size lines ≡ replying_first (codes "ok") (followed language scene 2 lines)
+opened_fits language None lines scene same h = rw same refl
+opened_fits language (Some c) lines scene same h =
     let fits : nat_lt (2 ^ 58) c ≡ false = grind (arith, nat_tests) in
-    rw fits refl
+    rw (same, fits) refl

@@ -4,7 +4,6 @@ mod compose;
 mod end;
 mod run;
 mod scene;
-mod text;
 
 pub use end::ScriptEnd;
 pub use run::run_script;

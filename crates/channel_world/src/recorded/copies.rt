@@ -2,11 +2,10 @@
 //!
 //! A poll's answer of the kit is not `Copy`, and a list of messages wants room, so a reply is taken apart here.
 
-ghost use Rattle.std.specs.Prelude.{◌≡◌, ◌≤◌, [], length, vec_capacity, IfOk};
+ghost use Rattle.std.specs.Prelude.{◌≡◌, ◌≤◌, [], length, vec_capacity};
 ghost use Rattle.channel_world.specs.Listed.{listed, most_listed};
 
 use crate::call::{Call, Reply};
-use channel_calls::error::{Refused, TryRecvError};
 use channel_calls::several::Messages;
 use futures::task::Poll;
 
@@ -26,25 +25,8 @@ pub(crate) fn filled<T: Copy>(mut room: Vec<T>, items: &[T]) -> Vec<T>
     requires room { length items.now ≤ vec_capacity room }
     ensures { result.items ≡ items.now }
 {
-    let Ok(()) = room.extend_from_slice(items) else {
-        unreachable!()
-    };
+    room.extend_from_slice(items).unwrap();
     room
-}
-
-/// A copy of an answer that may hold several messages, in the room that was taken for them.
-fn several<T: Copy>(
-    answer: &Result<Messages<T>, Refused<TryRecvError>>,
-    room: Vec<T>,
-) -> Result<Messages<T>, Refused<TryRecvError>>
-    requires empty { room.items ≡ [] }
-    requires room { IfOk answer.now (λ messages. length messages ≤ vec_capacity room) }
-    ensures { result ≡ answer.now }
-{
-    match answer {
-        Ok(messages) => Ok(Messages::new(filled(room, messages.as_slice()))),
-        Err(error) => Err(*error),
-    }
 }
 
 /// How many messages the reply of a call lists at most.
@@ -67,7 +49,10 @@ pub(crate) fn copied_reply<T: Copy>(reply: &Reply<T>, room: Vec<T>) -> Reply<T>
         Reply::TrySend(answer) => Reply::TrySend(*answer),
         Reply::ForceSend(answer) => Reply::ForceSend(*answer),
         Reply::TryRecv(answer) => Reply::TryRecv(*answer),
-        Reply::RecvMany(answer) => Reply::RecvMany(several(answer, room)),
+        Reply::RecvMany(Ok(messages)) => {
+            Reply::RecvMany(Ok(Messages::new(filled(room, messages.as_slice()))))
+        }
+        Reply::RecvMany(Err(error)) => Reply::RecvMany(Err(*error)),
         Reply::SendPoll(poll) => Reply::SendPoll(polled(poll)),
         Reply::RecvPoll(poll) => Reply::RecvPoll(polled(poll)),
         Reply::ClosedPoll(poll) => Reply::ClosedPoll(polled(poll)),

@@ -1,7 +1,6 @@
 //! What stands behind the lock: a world with the record of its calls.
 
 ghost use Rattle.std.specs.Prelude.{◌≡◌, ◌⊎◌, ◌<◌, ◌≤◌, ◌+◌, ◌^◌, ◌∷◌, ◌++◌, [], IfSome, IfNone, IsOk, IfOk, IfErr, OnOk, OnErr, length, vec_len, vec_capacity};
-ghost use Rattle.std.specs.VecDeque.{deque_len, deque_capacity};
 ghost use Rattle.channel_world.specs.Listed.{listed, most_listed};
 ghost use Rattle.channel_world.specs.World.{most_woken};
 ghost use Rattle.channel_world.specs.View.{at_rest};
@@ -12,10 +11,9 @@ use super::names::Names;
 use super::receipt::Receipt;
 use super::record::Record;
 use super::seat::RecordSeat;
-use crate::call::{Call, CallRun, Done, Stopped, WorldRefusal};
+use crate::call::{Call, WorldRefusal};
 use crate::name::Waiter;
 use crate::world::World;
-use std::collections::VecDeque;
 use std::marker::Model;
 use std::sync::ledger::{Blank, Book, Ledger, Share};
 use std::sync::{Mutex, Wait};
@@ -33,8 +31,6 @@ pub(crate) struct Recording<T: Copy, L: Ledger> {
     /// The capacity with which the channel was opened.
     capacity: Option<usize>,
     world: World<T>,
-    /// The call that is handed to the world; empty between two calls.
-    asked: VecDeque<Call<T>>,
     entries: Vec<Receipt<T>>,
     book: Book<L>,
     rest: Share<L>,
@@ -53,7 +49,7 @@ impl<T: Copy, L: Ledger> Model for Recording<T, L> {
 
     ghost view = { λ r. record { capacity = r.capacity; state = at_rest r.world; entries = r.entries.items; seats = r.made; parts = r.left } };
 
-    ghost invariant = { λ r. IsQuiet r.world × (r.asked.items ≡ []) × IsRecording (record { capacity = r.capacity; state = at_rest r.world; entries = r.entries.items; seats = r.made; parts = r.left }) (vec_len r.entries) r.book.total r.rest.parts r.rest.amount L.parts };
+    ghost invariant = { λ r. IsQuiet r.world × IsRecording (record { capacity = r.capacity; state = at_rest r.world; entries = r.entries.items; seats = r.made; parts = r.left }) (vec_len r.entries) r.book.total r.rest.parts r.rest.amount L.parts };
 }
 
 impl<T: Copy, L: Ledger> Recording<T, L> {
@@ -74,7 +70,6 @@ impl<T: Copy, L: Ledger> Recording<T, L> {
         let (book, rest) = blank.open::<L>();
         Recording {
             capacity,
-            asked: VecDeque::new(world.alloc()),
             entries: Vec::new(world.alloc()),
             world,
             book,
@@ -140,32 +135,34 @@ impl<T: Copy, L: Ledger> Recording<T, L> {
         ensures unchanged { OnErr result (self.new ≡ self.old) }
         ensures idle { OnErr result (seat.new ≡ seat.old) }
     {
-        let Some(lists) = ask(&self.world, &mut self.asked, &mut self.entries, &call) else {
+        let Some(lists) = room_for(&self.world, &mut self.entries, &call) else {
             return Err(RecordError::NoRoom { call });
         };
-        let CallRun { mut done, stopped } = self.world.run_calls(&mut self.asked);
-        self.asked.clear();
-        match done.pop() {
-            Some(done) => {
-                self.book.audit(&mut seat.mine);
-                let place = self.entries.len();
-                let entry = entry_of(place, seat.number, call, done);
-                let receipt = copied_receipt(&entry, lists);
-                self.entries.push_reserved(entry);
-                self.book.add(&mut seat.mine, CALL_WEIGHT);
-                Ok(receipt)
-            }
-            None => Err(RecordError::World {
-                why: reason(stopped),
-                call,
-            }),
+        if let Some(why) = self.world.refusal(&call) {
+            return Err(RecordError::World { why, call });
         }
+        let Ok(done) = self.world.answer(call) else {
+            let why = WorldRefusal::NoMemory;
+            return Err(RecordError::World { why, call });
+        };
+        self.book.audit(&mut seat.mine);
+        let entry = Receipt {
+            place: self.entries.len(),
+            seat: seat.number,
+            call,
+            reply: done.reply,
+            woken: Names::new(done.woken),
+        };
+        let receipt = copied_receipt(&entry, lists);
+        self.entries.push_reserved(entry);
+        self.book.add(&mut seat.mine, CALL_WEIGHT);
+        Ok(receipt)
     }
 
     /// The record, where as many seats are gathered as were made. Else all comes back.
     pub(crate) fn finish(
         self,
-        seats: Vec<RecordSeat<L>>,
+        mut seats: Vec<RecordSeat<L>>,
     ) -> Result<Record<T>, (Self, Vec<RecordSeat<L>>)>
         ensures all { OnOk result (length seats.items ≡ self.seats) }
         ensures record { IfOk result (λ r. r ≡ record { capacity = self.capacity; entries = self.entries }) }
@@ -179,7 +176,6 @@ impl<T: Copy, L: Ledger> Recording<T, L> {
             return Err((self, seats));
         }
         let mut all = self.rest;
-        let mut seats = seats;
         while let Some(seat) = seats.pop() {
             all.merge(seat.mine);
         }
@@ -199,42 +195,22 @@ struct Lists<T> {
     messages: Vec<T>,
 }
 
-/// Hands a copy of the call to the world's list, once there is room for it, for its entry and for the lists of its receipt.
-/// That for the lists is what comes back; None where room is refused.
-fn ask<T: Copy>(
+/// Room for the lists of a call's receipt, once there is room for its entry; None where room is refused.
+fn room_for<T: Copy>(
     world: &World<T>,
-    asked: &mut VecDeque<Call<T>>,
     entries: &mut Vec<Receipt<T>>,
     call: &Call<T>,
 ) -> Option<Lists<T>>
-    requires { asked.old.items ≡ [] }
-    ensures asked { IfSome result (λ lists. asked.new.items ≡ call.now ∷ []) }
     ensures names { IfSome result (λ lists. (lists.names.items ≡ []) × (most_woken call.now (at_rest world.now).waiting ≤ vec_capacity lists.names)) }
     ensures messages { IfSome result (λ lists. (lists.messages.items ≡ []) × (most_listed call.now ≤ vec_capacity lists.messages)) }
     ensures room { IfSome result (λ lists. vec_len entries.new < vec_capacity entries.new) }
     ensures entries { (entries.new.items ≡ entries.old.items) × (vec_len entries.new ≡ vec_len entries.old) }
-    ensures refused { IfNone result (asked.new.items ≡ []) }
 {
     let most = world.room_for(call)?;
     let names = Vec::with_capacity(world.alloc(), most).ok()?;
     let messages = Vec::with_capacity(world.alloc(), most_listed(call)).ok()?;
     entries.reserve(1).ok()?;
-    asked.reserve(1).ok()?;
-    asked.push_back_reserved(*call);
     Some(Lists { names, messages })
-}
-
-/// The entry of a call that was made.
-fn entry_of<T>(place: usize, seat: u32, call: Call<T>, done: Done<T>) -> Receipt<T>
-    ensures { result ≡ record { place = place; seat = seat; call = call; reply = done.reply; woken = done.woken.items } }
-{
-    Receipt {
-        place,
-        seat,
-        call,
-        reply: done.reply,
-        woken: Names::new(done.woken),
-    }
 }
 
 /// The receipt of an entry: its copy, whose lists lie in the room that was taken for them.
@@ -245,20 +221,8 @@ fn copied_receipt<T: Copy>(entry: &Receipt<T>, lists: Lists<T>) -> Receipt<T>
     ensures same { result ≡ entry.now }
 {
     Receipt {
-        place: entry.place,
-        seat: entry.seat,
-        call: entry.call,
         reply: copied_reply(&entry.reply, lists.messages),
         woken: Names::new(filled(lists.names, entry.woken.as_slice())),
-    }
-}
-
-/// Why a run stopped that did not make its one call.
-fn reason(stopped: Option<Stopped>) -> WorldRefusal
-    ensures { IfSome stopped (λ s. result ≡ s.why) }
-{
-    match stopped {
-        Some(stopped) => stopped.why,
-        None => WorldRefusal::NoMemory,
+        ..*entry
     }
 }

@@ -1,12 +1,13 @@
 //! Scripts, from bytes to bytes.
 ghost use Rattle.std.specs.Prelude.{◌≡◌, ◌≤◌, ◌<◌, ◌^◌, ◌++◌, ◌∷◌, [], length, Some, None, IfOk, OnOk, OnErr, OnSome, IfSome};
 ghost use Rattle.std.specs.Option.{option_map};
+ghost use Rattle.std.specs.Result.{result_unwrap_or};
 ghost use Rattle.channel_world_model.specs.State.{start};
 ghost use Rattle.channel_world_language.specs.Words.{lines_of};
 ghost use Rattle.channel_world_language.specs.Language.{today};
 ghost use Rattle.channel_world_language.specs.Said.{said_line};
 ghost use Rattle.channel_world.specs.Staged.{scene_of};
-ghost use Rattle.channel_world.specs.Script.{readable, ending, followed, first_names, opened, script_of_lines};
+ghost use Rattle.channel_world.specs.Script.{readable, ending, first_names, opened, script_of_lines};
 ghost use Rattle.channel_world.specs.Added.{Extends};
 ghost use Rattle.channel_world.specs.View.{at_rest, IsQuiet};
 
@@ -46,51 +47,20 @@ fn readable(number: u32, line: &[u8]) -> Option<Line<'_>>
 }
 
 /// Ends a script at a line that can't be read.
-fn end_unreadable(alloc: Global, line: u32, out: &mut Vec<u8>) -> ScriptEnd
-    ensures { Extends (ending (ScriptEnd.Unreadable line)) result out.old.items out.new.items }
+fn end_unreadable(alloc: Global, line: u32, out: &mut Vec<u8>) -> Result<ScriptEnd, AllocError>
+    ensures { Extends (ending (ScriptEnd.Unreadable line)) (result_unwrap_or result ScriptEnd.Memory) out.old.items out.new.items }
 {
-    let Ok(text) = format!(in alloc; "line {line}: can't be read") else {
-        return ScriptEnd::Memory;
-    };
-    match add_line(out, text.as_bytes()) {
-        Ok(()) => ScriptEnd::Unreadable { line },
-        Err(_) => ScriptEnd::Memory,
-    }
+    let text = format!(in alloc; "line {line}: can't be read")?;
+    add_line(out, text.as_bytes())?;
+    Ok(ScriptEnd::Unreadable { line })
 }
 
 /// Ends a script whose channel would hold nothing.
-fn end_without_capacity(out: &mut Vec<u8>) -> ScriptEnd
-    ensures { Extends (ending ScriptEnd.Capacity) result out.old.items out.new.items }
+fn end_without_capacity(out: &mut Vec<u8>) -> Result<ScriptEnd, AllocError>
+    ensures { Extends (ending ScriptEnd.Capacity) (result_unwrap_or result ScriptEnd.Memory) out.old.items out.new.items }
 {
-    match add_line(out, b"capacity must be positive") {
-        Ok(()) => ScriptEnd::Capacity,
-        Err(_) => ScriptEnd::Memory,
-    }
-}
-
-/// Runs the lines of a script after the first, and adds its text.
-fn follow<'a>(alloc: Global, scene: &mut Scene<'a>, text: &'a [u8], out: &mut Vec<u8>) -> ScriptEnd
-    requires few { length scene.old.table ≤ 2 }
-    requires quiet { IsQuiet scene.old.world }
-    ensures { Extends (followed today (scene_of scene.old) 2 (lines_of text.now)) result out.old.items out.new.items }
-{
-    let mut rest = text;
-    let mut number = 2u32;
-    let mut reply = Vec::new(alloc);
-    while let Some((line, after)) = first_line(rest) {
-        let Some(command) = readable(number, line) else {
-            return end_unreadable(alloc, number, out);
-        };
-        let Ok(()) = scene.obey(&command, &mut reply) else {
-            return ScriptEnd::Memory;
-        };
-        let Ok(()) = add_line(out, reply.as_slice()) else {
-            return ScriptEnd::Memory;
-        };
-        rest = after;
-        number += 1;
-    }
-    ScriptEnd::Done
+    add_line(out, b"capacity must be positive")?;
+    Ok(ScriptEnd::Capacity)
 }
 
 /// The first names of a script.
@@ -118,41 +88,49 @@ fn open(alloc: Global, capacity: Option<usize>) -> Result<World<u64>, OpenError>
 }
 
 /// Opens the channel of a script, runs the lines after the first, and adds the text of all.
-fn run_opened<'a>(
+fn run_opened(
     alloc: Global,
     capacity: Option<usize>,
-    text: &'a [u8],
+    text: &[u8],
     out: &mut Vec<u8>,
-) -> ScriptEnd
+) -> Result<ScriptEnd, AllocError>
     requires { IfSome capacity (λ c. 0 < c) }
-    ensures { Extends (opened today capacity (lines_of text.now)) result out.old.items out.new.items }
+    ensures { Extends (opened today capacity (lines_of text.now)) (result_unwrap_or result ScriptEnd.Memory) out.old.items out.new.items }
 {
     let Ok(world) = open(alloc, capacity) else {
-        return ScriptEnd::Memory;
+        return Err(AllocError);
     };
-    let Ok(table) = first_names(alloc) else {
-        return ScriptEnd::Memory;
-    };
-    let Ok(()) = add_line(out, b"ok") else {
-        return ScriptEnd::Memory;
-    };
+    let table = first_names(alloc)?;
     let mut scene = Scene { world, table };
-    follow(alloc, &mut scene, text, out)
+    add_line(out, b"ok")?;
+    let mut rest = text;
+    let mut number = 2u32;
+    let mut reply = Vec::new(alloc);
+    while let Some((line, after)) = first_line(rest) {
+        let Some(command) = readable(number, line) else {
+            return end_unreadable(alloc, number, out);
+        };
+        scene.obey(&command, &mut reply)?;
+        add_line(out, reply.as_slice())?;
+        rest = after;
+        number += 1;
+    }
+    Ok(ScriptEnd::Done)
 }
 
 /// Runs a script, and adds its text, but for the last line where memory was refused.
-pub fn compose(alloc: Global, input: &[u8], out: &mut Vec<u8>) -> ScriptEnd
-    ensures { Extends (script_of_lines today (lines_of input.now)) result out.old.items out.new.items }
+pub fn compose(alloc: Global, input: &[u8], out: &mut Vec<u8>) -> Result<ScriptEnd, AllocError>
+    ensures { Extends (script_of_lines today (lines_of input.now)) (result_unwrap_or result ScriptEnd.Memory) out.old.items out.new.items }
 {
     let Some((line, rest)) = first_line(input) else {
-        return ScriptEnd::Done;
+        return Ok(ScriptEnd::Done);
     };
-    let Some(opening) = parse_opening(line) else {
-        return end_unreadable(alloc, 1, out);
-    };
-    match opening {
-        Opening::Bounded { capacity: 0 } => end_without_capacity(out),
-        Opening::Bounded { capacity } => run_opened(alloc, Some(capacity as usize), rest, out),
-        Opening::Unbounded => run_opened(alloc, None, rest, out),
+    match parse_opening(line) {
+        None => end_unreadable(alloc, 1, out),
+        Some(Opening::Bounded { capacity: 0 }) => end_without_capacity(out),
+        Some(Opening::Bounded { capacity }) => {
+            run_opened(alloc, Some(capacity as usize), rest, out)
+        }
+        Some(Opening::Unbounded) => run_opened(alloc, None, rest, out),
     }
 }

@@ -37,9 +37,8 @@ fn read_input<R: Read>(alloc: Global, reader: &mut R) -> Result<Vec<u8>, ScriptE
         if INPUT_LIMIT - input.len() < count {
             return Err(ScriptEnd::Fault);
         }
-        if input.extend_from_slice(&piece[..count]).is_err() {
-            return Err(ScriptEnd::Memory);
-        }
+        let added = input.extend_from_slice(&piece[..count]);
+        added.map_err(|_| ScriptEnd::Memory)?;
     }
     Err(ScriptEnd::Fault)
 }
@@ -76,7 +75,7 @@ fn read_and_compose<R: Read>(alloc: Global, reader: &mut R, out: &mut Vec<u8>) -
     ensures { (input : List ℕ) × IfSome (R.remaining reader.old) (λ known. input ≡ known) × IsText input result (out.new.items ++ late_line result) }
 {
     match read_input(alloc, reader) {
-        Ok(input) => compose(alloc, input.as_slice(), out),
+        Ok(input) => compose(alloc, input.as_slice(), out).unwrap_or(ScriptEnd::Memory),
         Err(end) => end,
     }
 }

@@ -11,12 +11,11 @@ ghost use Rattle.channel_world_language.specs.Said.{sort_of, sending_call, makin
 ghost use Rattle.channel_world.specs.Staged.{scene_of};
 ghost use Rattle.channel_world.specs.View.{at_rest, IsQuiet};
 
-use super::text::add_settling;
 use crate::world::World;
 use channel_world_language::call::{call_of, given, used};
 use channel_world_language::command::{Command, Line};
 use channel_world_language::table::{Named, Table};
-use channel_world_language::text::{add_answer, add_refused};
+use channel_world_language::text::{add_answer, add_number, add_poll, add_refused, part_before};
 use channel_world_model::call::Call;
 use channel_world_model::refusal::WorldRefusal;
 use std::alloc::AllocError;
@@ -171,11 +170,16 @@ impl<'a> Scene<'a> {
         ensures names { self.new.table ≡ self.old.table }
         ensures quiet { IsQuiet self.new.world }
     {
-        let Ok(polls) = self.world.settle() else {
+        let Ok(settled) = self.world.settle() else {
             return Err(AllocError);
         };
+        let polls = settled.as_slice();
         line.clear();
-        add_settling(&self.table, polls.as_slice(), line)?;
+        add_number(b"polls ", polls.len() as u64, line)?;
+        for (k, poll) in polls.iter().enumerate() {
+            line.extend_from_slice(part_before(k))?;
+            add_poll(&self.table, poll.name, &poll.reply, line)?;
+        }
         Ok(())
     }
 

@@ -1,7 +1,10 @@
-use Rattle.channel_world.proofs.ScriptLemmas.{stays_by}
+use Rattle.channel_world.proofs.ScriptLemmas.{refused, stays_by}
 use Rattle.channel_world.specs.Script.{ending}
 use Rattle.channel_world.specs.declared.script.end.ScriptEnd.TheVariants.{Unreadable}
 use Rattle.channel_world.proofs.script.compose.end_unreadable.Goals as goal
 
-pub returns : goal.returns
-returns c = stays_by (ending (Unreadable c.args.line)) c.args.out.now.items c.add_line.new.out.items c.in-Err.ensures.err
+pub returns-in_err-add_line : goal.returns-in_err-add_line
+returns-in_err-add_line c =
+    let script = ending (Unreadable c.args.line) in
+    refused script c.from_residual-in_err-add_line.result c.args.out.now.items c.add_line.new.out.items c.from_residual-in_err-add_line.ensures.0
+    (stays_by script c.args.out.now.items c.add_line.new.out.items c.in_err-add_line.ensures.err)

@@ -1,10 +1,11 @@
-use Rattle.std.proofs.Common.{arith, ◌≡◌, ◌∙◌, ◌∷◌, ◌++◌, [], List, Some, ap, length, refl, subst, sym, vec_len}
-use Rattle.channel_world_model.specs.Answer.{Answer}
-use Rattle.channel_world_model.specs.Run.{MayBeDone, MayStop}
+use Rattle.std.proofs.Common.{arith, rules, ◌≡◌, ◌∙◌, ◌∷◌, ◌++◌, [], List, None, Some, ap, inl, inr, length, refl, subst, sym, vec_len}
+use Rattle.channel_world_model.specs.Refusal.{refusal}
+use Rattle.channel_world_model.specs.Run.{MayStop}
+use Rattle.channel_world_model.specs.declared.name.Waiter.{Waiter}
+use Rattle.channel_world_model.specs.declared.refusal.WorldRefusal.TheVariants as why
 use Rattle.channel_world.proofs.Few.{few_woken}
 use Rattle.channel_world.proofs.FewListed.{few_listed}
-use Rattle.channel_world.proofs.RecordLemmas.{one_done, made_so, none_done, one_recorded, still_recording, sum_is_small}
-use Rattle.channel_world.specs.Listed.{listed}
+use Rattle.channel_world.proofs.RecordLemmas.{made_so, one_recorded, still_recording, sum_is_small}
 use Rattle.channel_world.specs.RecordReplay.{MadeAsSaid}
 use Rattle.channel_world.specs.RecordSeat.{SeatView}
 use Rattle.channel_world.specs.Recording.{RecordingView, IsRecording}
@@ -14,57 +15,64 @@ use Rattle.channel_world.proofs.recorded.recording.Recording.call.Goals as goal
 
 pub copied_receipt-receipt-requires-clause-names : goal.copied_receipt-receipt-requires-clause-names
 copied_receipt-receipt-requires-clause-names g c =
-    let before = at_rest c.self.inside.world in
-    let after = at_rest c.run_calls-done.new.self in
-    let done = c.in-Some-pop.done in
-    let does : MayBeDone before c.args.call done after =
-    one_done before after c.args.call c.ask.new.asked.items c.run_calls-done.new.calls.items c.pop.new.self.items c.run_calls-done.result.done.items done _
-    c.run_calls-done.ensures.run c.in-Some.ensures.asked c.in-Some-pop.ensures.items in
-    let a : Answer g.row.T.Denot = record { after = after; reply = done.reply; woken = done.woken.items } in
-    let few = few_woken before c.args.call a does.1 in
+    let few = few_woken (at_rest c.self.inside.world) c.args.call _ c.in-Ok.ensures.ok in
     let room = c.in-Some.ensures.names.1 in
-    let woken = ap (λ (r : Receipt g.row.T.Denot). length r.woken) c.entry_of-entry.ensures in
+    let woken = ap (λ (ws : List Waiter). length ws) c.new.ensures in
     omega (arith, few, room, woken)
 
 pub copied_receipt-receipt-requires-clause-messages : goal.copied_receipt-receipt-requires-clause-messages
 copied_receipt-receipt-requires-clause-messages g c =
-    let before = at_rest c.self.inside.world in
-    let after = at_rest c.run_calls-done.new.self in
-    let done = c.in-Some-pop.done in
-    let does : MayBeDone before c.args.call done after =
-    one_done before after c.args.call c.ask.new.asked.items c.run_calls-done.new.calls.items c.pop.new.self.items c.run_calls-done.result.done.items done _
-    c.run_calls-done.ensures.run c.in-Some.ensures.asked c.in-Some-pop.ensures.items in
-    let a : Answer g.row.T.Denot = record { after = after; reply = done.reply; woken = done.woken.items } in
-    let few = few_listed before c.args.call a does.1 in
+    let few = few_listed (at_rest c.self.inside.world) c.args.call _ c.in-Ok.ensures.ok in
     let room = c.in-Some.ensures.messages.1 in
-    let list = ap (λ (r : Receipt g.row.T.Denot). length (listed r.reply)) c.entry_of-entry.ensures in
-    omega (arith, few, room, list)
+    omega (arith, few, room)
 
-pub invariant_of-self-in-Some-pop : goal.invariant_of-self-in-Some-pop
-invariant_of-self-in-Some-pop g c =
+pub returns-in-Some-refusal-clause-why : goal.returns-in-Some-refusal-clause-why
+returns-in-Some-refusal-clause-why g c =
+    let refused : refusal (at_rest c.self.inside.world) c.args.call ≡ Some c.in-Some-refusal.why = search rules in
+    subst (λ (v : RecordingView g.row.T.Denot). MayStop v.state c.args.call (Some c.in-Some-refusal.why)) c.self.view_is (inl refused)
+
+pub returns-in_default-answer-clause-why : goal.returns-in_default-answer-clause-why
+returns-in_default-answer-clause-why g c =
+    let accepted : refusal (at_rest c.self.inside.world) c.args.call ≡ None = search rules in
+    subst (λ (v : RecordingView g.row.T.Denot). MayStop v.state c.args.call (Some why.NoMemory)) c.self.view_is (inr (accepted, refl))
+
+pub invariant_of-self : goal.invariant_of-self
+invariant_of-self g c =
+    let state = at_rest c.self.inside.world in
+    let v : RecordingView g.row.T.Denot = record { capacity = c.self.inside.capacity; state = state; entries = c.self.inside.entries.items; seats = c.self.inside.made; parts = c.self.inside.left } in (
+      c.self.invariant.0,
+      still_recording v state c.room_for.new.entries.items (vec_len c.self.inside.entries) (vec_len c.room_for.new.entries) c.self.inside.book.total
+          c.self.inside.rest.parts c.self.inside.rest.amount g.L.Ledger.parts c.self.invariant.1 refl c.in_default.ensures.entries.0 c.in_default.ensures.entries.1,
+    )
+
+pub invariant_of-self-in_default-answer : goal.invariant_of-self-in_default-answer
+invariant_of-self-in_default-answer g c =
+    let state = at_rest c.self.inside.world in
+    let v : RecordingView g.row.T.Denot = record { capacity = c.self.inside.capacity; state = state; entries = c.self.inside.entries.items; seats = c.self.inside.made; parts = c.self.inside.left } in (
+      c.answer.ensures.quiet,
+      still_recording v (at_rest c.answer.new.self) c.room_for.new.entries.items (vec_len c.self.inside.entries) (vec_len c.room_for.new.entries) c.self.inside.book.total
+          c.self.inside.rest.parts c.self.inside.rest.amount g.L.Ledger.parts c.self.invariant.1 c.in_default-answer.ensures.err c.in-Some.ensures.entries.0 c.in-Some.ensures.entries.1,
+    )
+
+pub invariant_of-self-2 : goal.invariant_of-self-2
+invariant_of-self-2 g c =
     let before = at_rest c.self.inside.world in
-    let after = at_rest c.run_calls-done.new.self in
-    let done = c.in-Some-pop.done in
-    let entry = c.entry_of-entry.result in
-    let is = c.entry_of-entry.ensures in
-    let does : MayBeDone before c.args.call done after =
-    one_done before after c.args.call c.ask.new.asked.items c.run_calls-done.new.calls.items c.pop.new.self.items c.run_calls-done.result.done.items done _
-    c.run_calls-done.ensures.run c.in-Some.ensures.asked c.in-Some-pop.ensures.items in
-    let made : MadeAsSaid before entry after = made_so before after c.args.call done c.len-place.result c.seat.inside.number entry does is in
+    let after = at_rest c.answer.new.self in
+    let done = c.in-Ok.done in
+    let accepted : refusal before c.args.call ≡ None = search rules in
+    let entry : Receipt g.row.T.Denot = record { place = c.len.result; seat = c.seat.inside.number; call = c.args.call; reply = done.reply; woken = c.new.result } in
+    let made = made_so before after c.args.call c.len.result c.seat.inside.number done.reply done.woken.items c.new.result accepted c.in-Ok.ensures.ok c.new.ensures in
     let old = c.self.inside.entries.items in
     let v : RecordingView g.row.T.Denot = record { capacity = c.self.inside.capacity; state = before; entries = old; seats = c.self.inside.made; parts = c.self.inside.left } in
-    let place : entry.place ≡ c.len-place.result = ap (λ (r : Receipt g.row.T.Denot). r.place) is in
-    let len = c.len-place.ensures in
+    let len = c.len.ensures in
     let still = c.in-Some.ensures.entries.1 in
     let long : vec_len c.self.inside.entries ≡ length old = c.self.inside.entries.ok.0 in
-    let at : entry.place ≡ length v.entries = omega (arith, place, len, still, long) in
     let longer = c.push_reserved.ensures.len in
     let items : c.push_reserved.new.self.items ≡ old ++ entry ∷ [] =
     c.push_reserved.ensures.items ∙ ap (λ (es : List (Receipt g.row.T.Denot)). es ++ entry ∷ []) c.in-Some.ensures.entries.0 in
     let i = one_recorded v after entry (vec_len c.self.inside.entries) (vec_len c.push_reserved.new.self) c.self.inside.book.total c.add.new.self.total
-    c.self.inside.rest.parts c.self.inside.rest.amount g.L.Ledger.parts c.self.invariant.2 at made (omega (arith, longer, still)) (omega (arith, c.audit.ensures.total, c.add.ensures.total)) in (
-      c.run_calls-done.ensures.quiet,
-      c.clear.ensures.items,
+    c.self.inside.rest.parts c.self.inside.rest.amount g.L.Ledger.parts c.self.invariant.1 (omega (arith, len, still, long)) made (omega (arith, longer, still)) (omega (arith, c.audit.ensures.total, c.add.ensures.total)) in (
+      c.answer.ensures.quiet,
       subst
           (λ (es : List (Receipt g.row.T.Denot)).
           IsRecording (record { capacity = c.self.inside.capacity; state = after; entries = es; seats = c.self.inside.made; parts = c.self.inside.left }) (vec_len c.push_reserved.new.self)
@@ -72,113 +80,46 @@ invariant_of-self-in-Some-pop g c =
           (sym items) i,
     )
 
-pub invariant_of-self : goal.invariant_of-self
-invariant_of-self g c =
-    let state = at_rest c.self.inside.world in
-    let v : RecordingView g.row.T.Denot = record { capacity = c.self.inside.capacity; state = state; entries = c.self.inside.entries.items; seats = c.self.inside.made; parts = c.self.inside.left } in (
-      c.self.invariant.0,
-      c.in_default.ensures.refused,
-      still_recording v state c.ask.new.entries.items (vec_len c.self.inside.entries) (vec_len c.ask.new.entries) c.self.inside.book.total
-          c.self.inside.rest.parts c.self.inside.rest.amount g.L.Ledger.parts c.self.invariant.2 refl c.in_default.ensures.entries.0 c.in_default.ensures.entries.1,
-    )
-
-pub invariant_of-self-in-None-pop : goal.invariant_of-self-in-None-pop
-invariant_of-self-in-None-pop g c =
+pub returns-clause-made : goal.returns-clause-made
+returns-clause-made g c =
     let before = at_rest c.self.inside.world in
-    let after = at_rest c.run_calls-done.new.self in
-    let done = c.run_calls-done.result.done in
-    let empty = c.in-None.ensures.cases.0 in
-    let long : vec_len done ≡ length done.items = done.ok.0 in
-    let none = none_done before after c.args.call c.ask.new.asked.items c.run_calls-done.new.calls.items done.items c.run_calls-done.result.stopped
-    c.reason.result c.run_calls-done.ensures.run c.in-Some.ensures.asked (omega (arith, empty, long)) c.reason.ensures in
-    let v : RecordingView g.row.T.Denot = record { capacity = c.self.inside.capacity; state = before; entries = c.self.inside.entries.items; seats = c.self.inside.made; parts = c.self.inside.left } in (
-      c.run_calls-done.ensures.quiet,
-      c.clear.ensures.items,
-      still_recording v after c.ask.new.entries.items (vec_len c.self.inside.entries) (vec_len c.ask.new.entries) c.self.inside.book.total
-          c.self.inside.rest.parts c.self.inside.rest.amount g.L.Ledger.parts c.self.invariant.2 none.0 c.in-Some.ensures.entries.0 c.in-Some.ensures.entries.1,
-    )
+    let after = at_rest c.answer.new.self in
+    let done = c.in-Ok.done in
+    let accepted : refusal before c.args.call ≡ None = search rules in
+    let made = made_so before after c.args.call c.len.result c.seat.inside.number done.reply done.woken.items c.new.result accepted c.in-Ok.ensures.ok c.new.ensures in
+    let receipt : MadeAsSaid before c.copied_receipt-receipt.result after =
+    subst (λ (r : Receipt g.row.T.Denot). MadeAsSaid before r after) (sym c.copied_receipt-receipt.ensures.same) made in
+    subst (λ (v : RecordingView g.row.T.Denot). MadeAsSaid v.state c.copied_receipt-receipt.result after) c.self.view_is receipt
 
-pub returns-in-Some-pop-clause-place : goal.returns-in-Some-pop-clause-place
-returns-in-Some-pop-clause-place g c =
-    let is = c.copied_receipt-receipt.ensures.same ∙ c.entry_of-entry.ensures in
-    let place : c.copied_receipt-receipt.result.place ≡ c.len-place.result = ap (λ (r : Receipt g.row.T.Denot). r.place) is in
-    let len = c.len-place.ensures in
-    let still = c.in-Some.ensures.entries.1 in
-    let long : vec_len c.self.inside.entries ≡ length c.self.inside.entries.items = c.self.inside.entries.ok.0 in
-    let seen = ap (λ (v : RecordingView g.row.T.Denot). length v.entries) c.self.view_is in
-    omega (arith, place, len, still, long, seen)
-
-pub returns-in-Some-pop-clause-made : goal.returns-in-Some-pop-clause-made
-returns-in-Some-pop-clause-made g c =
+pub returns-clause-ends : goal.returns-clause-ends
+returns-clause-ends g c =
     let before = at_rest c.self.inside.world in
-    let after = at_rest c.run_calls-done.new.self in
-    let done = c.in-Some-pop.done in
-    let receipt = c.copied_receipt-receipt.result in
-    let does : MayBeDone before c.args.call done after =
-    one_done before after c.args.call c.ask.new.asked.items c.run_calls-done.new.calls.items c.pop.new.self.items c.run_calls-done.result.done.items done _
-    c.run_calls-done.ensures.run c.in-Some.ensures.asked c.in-Some-pop.ensures.items in
-    let made : MadeAsSaid before receipt after =
-    made_so before after c.args.call done c.len-place.result c.seat.inside.number receipt does (c.copied_receipt-receipt.ensures.same ∙ c.entry_of-entry.ensures) in
-    subst (λ (v : RecordingView g.row.T.Denot). MadeAsSaid v.state receipt after) c.self.view_is made
-
-pub returns-in-Some-pop-clause-ends : goal.returns-in-Some-pop-clause-ends
-returns-in-Some-pop-clause-ends g c =
-    let before = at_rest c.self.inside.world in
-    let after = at_rest c.run_calls-done.new.self in
-    let done = c.in-Some-pop.done in
-    let receipt = c.copied_receipt-receipt.result in
-    let is = c.copied_receipt-receipt.ensures.same ∙ c.entry_of-entry.ensures in
-    let does : MayBeDone before c.args.call done after =
-    one_done before after c.args.call c.ask.new.asked.items c.run_calls-done.new.calls.items c.pop.new.self.items c.run_calls-done.result.done.items done _
-    c.run_calls-done.ensures.run c.in-Some.ensures.asked c.in-Some-pop.ensures.items in
-    let place : receipt.place ≡ c.len-place.result = ap (λ (r : Receipt g.row.T.Denot). r.place) is in
-    let len = c.len-place.ensures in
+    let after = at_rest c.answer.new.self in
+    let done = c.in-Ok.done in
+    let accepted : refusal before c.args.call ≡ None = search rules in
+    let made = made_so before after c.args.call c.len.result c.seat.inside.number done.reply done.woken.items c.new.result accepted c.in-Ok.ensures.ok c.new.ensures in
+    let place : c.copied_receipt-receipt.result.place ≡ c.len.result = ap (λ (r : Receipt g.row.T.Denot). r.place) c.copied_receipt-receipt.ensures.same in
+    let len = c.len.ensures in
     let still = c.in-Some.ensures.entries.1 in
     let long : vec_len c.self.inside.entries ≡ length c.self.inside.entries.items = c.self.inside.entries.ok.0 in
     record {
       capacity = c.self.inside.capacity;
       before = c.self.inside.entries.items;
-      history = record { last = before; replays = c.self.invariant.2.replays };
+      history = record { last = before; replays = c.self.invariant.1.replays };
       place = omega (arith, place, len, still, long);
       after = after;
-      made = made_so before after c.args.call done c.len-place.result c.seat.inside.number receipt does is;
+      made = subst (λ (r : Receipt g.row.T.Denot). MadeAsSaid before r after) (sym c.copied_receipt-receipt.ensures.same) made;
     }
 
-pub returns-in-Some-pop-clause-behind : goal.returns-in-Some-pop-clause-behind
-returns-in-Some-pop-clause-behind g c =
-    let is = c.copied_receipt-receipt.ensures.same ∙ c.entry_of-entry.ensures in
-    let place : c.copied_receipt-receipt.result.place ≡ c.len-place.result = ap (λ (r : Receipt g.row.T.Denot). r.place) is in
-    let len = c.len-place.ensures in
+pub returns-clause-behind : goal.returns-clause-behind
+returns-clause-behind g c =
+    let place : c.copied_receipt-receipt.result.place ≡ c.len.result = ap (λ (r : Receipt g.row.T.Denot). r.place) c.copied_receipt-receipt.ensures.same in
+    let len = c.len.ensures in
     let still = c.in-Some.ensures.entries.1 in
     let bound = c.audit.ensures.bound in
-    let counted = c.self.invariant.2.counted in
-    let most = c.self.invariant.2.numbered in
+    let counted = c.self.invariant.1.counted in
+    let most = c.self.invariant.1.numbered in
     let sum = sum_is_small c.self.inside.made most in
     let mine = c.seat.invariant.2 in
     let calls = ap (λ (s : SeatView). s.calls) c.seat.view_is in
     omega (arith, place, len, still, bound, counted, most, sum, mine, calls)
-
-pub returns-in-Some-pop-clause-recorded : goal.returns-in-Some-pop-clause-recorded
-returns-in-Some-pop-clause-recorded g c =
-    let receipt = c.copied_receipt-receipt.result in
-    let view = c.self.view_is in
-    let old : c.ask.new.entries.items ≡ c.args.self.now.entries = c.in-Some.ensures.entries.0 ∙ ap (λ (v : RecordingView g.row.T.Denot). v.entries) view in
-    let items : c.push_reserved.new.self.items ≡ c.args.self.now.entries ++ receipt ∷ [] =
-    c.push_reserved.ensures.items
-    ∙ (ap (λ (es : List (Receipt g.row.T.Denot)). es ++ c.entry_of-entry.result ∷ []) old
-    ∙ ap (λ (r : Receipt g.row.T.Denot). c.args.self.now.entries ++ r ∷ []) (sym c.copied_receipt-receipt.ensures.same)) in
-    let capacity = ap (λ (v : RecordingView g.row.T.Denot). v.capacity) view in
-    let seats = ap (λ (v : RecordingView g.row.T.Denot). v.seats) view in
-    let parts = ap (λ (v : RecordingView g.row.T.Denot). v.parts) view in
-    λ i. record { capacity = capacity i; state = at_rest c.run_calls-done.new.self; entries = items i; seats = seats i; parts = parts i }
-
-pub returns-in-None-clause-why : goal.returns-in-None-clause-why
-returns-in-None-clause-why g c =
-    let before = at_rest c.self.inside.world in
-    let after = at_rest c.run_calls-done.new.self in
-    let done = c.run_calls-done.result.done in
-    let empty = c.in-None.ensures.cases.0 in
-    let long : vec_len done ≡ length done.items = done.ok.0 in
-    let none = none_done before after c.args.call c.ask.new.asked.items c.run_calls-done.new.calls.items done.items c.run_calls-done.result.stopped
-    c.reason.result c.run_calls-done.ensures.run c.in-Some.ensures.asked (omega (arith, empty, long)) c.reason.ensures in
-    subst (λ (v : RecordingView g.row.T.Denot). MayStop v.state c.args.call (Some c.reason.result)) c.self.view_is none.1

@@ -36,7 +36,7 @@ returns-clause-counted g c =
     let p = i.parts in
     let q = i.amounts in
     let s = i.small in
-    let old = c.self.invariant.2 in
+    let old = c.self.invariant.1 in
     let seats = old.one_each in
     let counted = old.counted in
     let none : vec_len c.loop-seat.seats ≡ 0 = c.in_default.ensures.cases.0 in
@@ -56,7 +56,7 @@ returns-clause-counted g c =
 
 pub returns-then-len-self-clause-gathered : goal.returns-then-len-self-clause-gathered
 returns-then-len-self-clause-gathered g c all =
-    let old = c.self.invariant.2 in
+    let old = c.self.invariant.1 in
     let each = old.one_each in
     let few = c.if-len-self.true in
     let long = c.len.ensures in
@@ -65,4 +65,4 @@ returns-then-len-self-clause-gathered g c all =
     absurd (omega (arith, all, each, few, long, items, kept))
 
 pub invariant_of-result : goal.invariant_of-result
-invariant_of-result g c = record { last = at_rest c.self.inside.world; replays = c.self.invariant.2.replays }
+invariant_of-result g c = record { last = at_rest c.self.inside.world; replays = c.self.invariant.1.replays }

@@ -10,14 +10,13 @@ invariant_of-result g c =
     let all = c.requires.parts in
     let total = c.open-book.ensures.total in
     let parts = c.open-book.ensures.parts in
-    let len = c.new-2.ensures.len in
+    let len = c.new.ensures.len in
     let a = all.0 in
     let b = all.1 in
     let opened = c.requires.opened in (
       c.requires.quiet,
-      c.new.ensures.items,
       record {
-        replays = subst (λ (rs : List (Receipt g.row.T.Denot)). Replays 0 (start c.args.capacity) rs (at_rest c.args.world)) (sym c.new-2.ensures.items) opened;
+        replays = subst (λ (rs : List (Receipt g.row.T.Denot)). Replays 0 (start c.args.capacity) rs (at_rest c.args.world)) (sym c.new.ensures.items) opened;
         counted = omega (arith, total, len);
         idle = c.open-book.ensures.amount;
         parts_left = omega (arith, parts, a, b);

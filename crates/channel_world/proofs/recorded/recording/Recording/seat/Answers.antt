@@ -8,7 +8,7 @@ pub returns-then-self-le1-clause-used_up : goal.returns-then-self-le1-clause-use
 returns-then-self-le1-clause-used_up g c =
     let parts = ap (λ (v : RecordingView g.row.T.Denot). v.parts) c.self.view_is in
     let seats = ap (λ (v : RecordingView g.row.T.Denot). v.seats) c.self.view_is in
-    let most = c.self.invariant.2.numbered in
+    let most = c.self.invariant.1.numbered in
     elim c.then-self-le1.branch [
       | then-self-le1-via-then-self-le1 w ↦ let h = w.if-self-le1.true in inl (omega (arith, parts, h))
       | then-self-le1-via-else-self-le1+then-self-ge-MOST_SEATS w ↦ let h = w.if-self-ge-MOST_SEATS.true in inr (omega (arith, seats, most, h))
@@ -16,7 +16,7 @@ returns-then-self-le1-clause-used_up g c =
 
 pub invariant_of-self : goal.invariant_of-self
 invariant_of-self g c =
-    let i = c.self.invariant.2 in
+    let i = c.self.invariant.1 in
     let counted = i.counted in
     let added = c.add.ensures.total in
     let next = sum_next c.self.inside.made in
@@ -28,7 +28,6 @@ invariant_of-self g c =
     let parts = c.split_off-mine.ensures.parts_left in
     let amount = c.split_off-mine.ensures.amount_left in (
       c.self.invariant.0,
-      c.self.invariant.1,
       record {
         replays = i.replays;
         counted = omega (arith, counted, added, next);

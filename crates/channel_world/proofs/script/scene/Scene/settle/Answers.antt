@@ -1,16 +1,24 @@
--- From a settling in which no growth was refused.
-use Rattle.std.proofs.Common.{sym}
+-- From a settling in which no growth was refused, whose polls are written one after another.
+use Rattle.std.proofs.Common.{◌∙◌, ◌++◌, ap, arith, codes, length, subst, sym}
+use Rattle.std.proofs.lemmas.List.{take_all}
+use Rattle.std.specs.Fmt.{decimal}
+use Rattle.channel_world.specs.Settled.{polls_in, AreAmple}
 use Rattle.channel_world.specs.Staged.{scene_of}
 use Rattle.channel_world.specs.View.{at_rest}
-use Rattle.channel_world.proofs.SettleText.{scene_settles}
+use Rattle.channel_world.proofs.SettleText.{scene_settles, written}
+use Rattle.channel_world_language.specs.Text.{parted}
 use Rattle.channel_world.proofs.script.scene.Scene.settle.Goals as goal
 
 pub returns-clause-line : goal.returns-clause-line
 returns-clause-line c =
     let e = c.in-Ok.ensures in
-    let polls = c.in-Ok.polls in
+    let settled = c.in-Ok.settled in
     let few = e.few in
-    let said = c.in_ok-add_settling.ensures in
-    rw (said.text, c.clear.ensures.items, c.as_slice.ensures.value)
-    (scene_settles (scene_of c.args.self.now) (at_rest c.settle.new.self) polls.items (rw (sym polls.ok.0) few) e.polls
-    (rw (sym c.as_slice.ensures.value) said.whole))
+    let polls = c.as_slice-polls.result.now in
+    let table = c.args.self.now.table in
+    let all = take_all c.loop-k.k polls (omega arith) in
+    let text = c.loop-k.invariant.text ∙ (ap (λ ps. codes "polls " ++ decimal (length polls) ++ parted table (polls_in ps)) all ∙ written table polls) in
+    let whole = subst (λ ps. AreAmple ps) all c.loop-k.invariant.whole in
+    rw (text, c.as_slice-polls.ensures.value)
+    (scene_settles (scene_of c.args.self.now) (at_rest c.settle.new.self) settled.items (rw (sym settled.ok.0) few) e.polls
+    (rw (sym c.as_slice-polls.ensures.value) whole))

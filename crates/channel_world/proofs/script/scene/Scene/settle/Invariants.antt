@@ -1,0 +1,11 @@
+use Rattle.std.proofs.Common.{◌≡◌, ◌++◌, take, length, codes}
+use Rattle.std.specs.Fmt.{decimal}
+use Rattle.channel_world.specs.Settled.{polls_in, AreAmple}
+use Rattle.channel_world_language.specs.Text.{parted}
+use Rattle.channel_world.proofs.script.scene.Scene.settle.Given as goal
+
+abbrev pub invariant-loop-k : goal.invariant-loop-k
+invariant-loop-k l = record {
+  text : l.line.items ≡ codes "polls " ++ decimal (length l.polls) ++ parted l.self.table (polls_in (take l.k l.polls));
+  whole : AreAmple (take l.k l.polls);
+}
