@@ -9,7 +9,7 @@ use Rattle.channel_world_runs.specs.declared.calls.CallUnderWay.{CallUnderWay}
 use Rattle.channel_world_runs.specs.declared.names.HandleEntry.{HandleEntry}
 use Rattle.channel_world_runs.specs.declared.names.OperationEntry.{OperationEntry}
 use Rattle.channel_world_runs.specs.declared.names.PollState.{PollState}
-use Rattle.channel_world_runs.specs.declared.names.PollState.TheVariants.{Rests, Waits, IsPolled}
+use Rattle.channel_world_runs.specs.declared.names.PollState.TheVariants.{Waits}
 use Rattle.channel_world_runs.specs.declared.name_table.NameTable.{NameTable}
 
 -- whether one that stands so is pending on this line, woken or not

@@ -1,5 +1,5 @@
 -- What was asked for is there.
-use Rattle.std.proofs.Common.{arith, ◌≡◌, Some, subst, sym}
+use Rattle.std.proofs.Common.{arith, ◌≡◌, Some, subst}
 use Rattle.std.specs.Prelude.{Result, Ok, Err, IfOk, OnOk}
 use Rattle.std.specs.Result.{result_ok}
 use Rattle.channel_world.proofs.settle.take_room.Goals as goal
