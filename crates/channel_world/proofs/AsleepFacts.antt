@@ -5,10 +5,9 @@ use Rattle.channel_world_model.specs.Awake.{AwakeIn}
 use Rattle.channel_world_model.specs.Laws.{free_places}
 use Rattle.channel_world_model.specs.Settling.{NobodyGoesOn}
 use Rattle.channel_world_model.specs.State.{State}
-use Rattle.channel_world_model.specs.declared.name.Waiter.{Waiter}
 use Rattle.channel_world_model.proofs.Settle.{at_rest as settled_rest}
 use Rattle.channel_world_runs.specs.Apart.{AreApart}
-use Rattle.channel_world_runs.specs.WorldState.{calls_in, messages_in, name_state_of, IsQuiet, Stands, TellsQuiet}
+use Rattle.channel_world_runs.specs.WorldState.{messages_in, name_state_of, IsQuiet, Stands, TellsQuiet}
 use Rattle.channel_world_runs.specs.declared.world_state.WorldState.{WorldState}
 use Rattle.channel_world_runs.specs.declared.calls.CallUnderWay.{CallUnderWay}
 use Rattle.channel_world_runs.proofs.Interface.{none_under_way}

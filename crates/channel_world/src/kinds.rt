@@ -1,54 +1,35 @@
 //! Those who are pending, and those of them who were woken, line by line; and what calls under way have taken.
 
-ghost use Rattle.std.specs.Prelude.{◌≡◌, ◌<◌, ◌^◌, IfSome, IsSome};
-ghost use Rattle.channel_world.specs.Kinds.{operation_stance, stands_on, stream_stance, takings_of};
+ghost use Rattle.std.specs.Prelude.{◌≡◌};
+ghost use Rattle.channel_world.specs.Kinds.{is_asked_for, operation_stance, stands_on, stream_stance};
 
 use super::world::World;
 use channel_calls::stage::WaitList;
 use channel_world_model::name::HandleKind;
-use channel_world_runs::calls::CallUnderWay;
 use channel_world_runs::names::{HandleEntry, OperationEntry, PollState};
+
+/// Whether one is pending; and was woken, where only the woken are asked for.
+fn is_asked_for(only_woken: bool, poll_state: PollState) -> bool
+    ensures { result ≡ is_asked_for only_woken poll_state }
+{
+    matches!(poll_state, PollState::Waits { is_woken, .. } if is_woken || !only_woken)
+}
 
 /// Whether an operation is pending on this line; and was woken, where only the woken are asked for.
 fn stands_on<T>(line: WaitList, only_woken: bool, operation: &Option<OperationEntry<T>>) -> bool
     ensures { result ≡ stands_on only_woken line (operation_stance operation.now) }
 {
-    match operation {
-        Some(entry) => match entry.poll_state {
-            PollState::Waits { key: _, is_woken } => {
-                (is_woken || !only_woken) && entry.operation.is_on(line)
-            }
-            PollState::Rests | PollState::IsPolled { .. } => false,
-        },
-        None => false,
-    }
+    matches!(operation, Some(entry)
+        if is_asked_for(only_woken, entry.poll_state) && entry.operation.is_on(line))
 }
 
 /// Whether a receiver's stream is pending on this line; and was woken, where only the woken are asked for.
 fn streams_on(line: WaitList, only_woken: bool, handle_entry: &Option<HandleEntry>) -> bool
     ensures { result ≡ stands_on only_woken line (stream_stance handle_entry.now) }
 {
-    match handle_entry {
-        Some(handle_entry) => match (handle_entry.handle.kind, handle_entry.poll_state) {
-            (HandleKind::Receiver, PollState::Waits { key: _, is_woken }) => {
-                (is_woken || !only_woken) && matches!(line, WaitList::Streams)
-            }
-            _ => false,
-        },
-        None => false,
-    }
-}
-
-/// How many messages these calls have taken. None where there is no such number.
-fn taken_by<T>(calls: &Vec<CallUnderWay<T>>) -> Option<u64>
-    ensures told { IfSome result (λ n. n ≡ takings_of calls.now.items) }
-    ensures known { takings_of calls.now.items < 2 ^ 64 → IsSome result }
-{
-    let mut taken = 0u64;
-    for k in 0..calls.len() {
-        taken = taken.checked_add(calls[k].activity.taken)?;
-    }
-    Some(taken)
+    matches!((line, handle_entry), (WaitList::Streams, Some(entry))
+        if matches!(entry.handle.kind, HandleKind::Receiver)
+            && is_asked_for(only_woken, entry.poll_state))
 }
 
 impl<T: Drop> World<T> {
@@ -94,6 +75,11 @@ impl<T: Drop> World<T> {
         ensures told { IfSome result (λ n. n ≡ taken_in self.now) }
         ensures known { taken_in self.now < 2 ^ 64 → IsSome result }
     {
-        taken_by(&self.world_state.calls)
+        let calls = &self.world_state.calls;
+        let mut taken = 0u64;
+        for k in 0..calls.len() {
+            taken = taken.checked_add(calls[k].activity.taken)?;
+        }
+        Some(taken)
     }
 }

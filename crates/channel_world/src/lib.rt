@@ -17,7 +17,6 @@ pub mod laws;
 pub mod name;
 mod party;
 pub mod recorded;
-mod room;
 mod run;
 pub mod script;
 pub mod settle;

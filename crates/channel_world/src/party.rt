@@ -14,10 +14,8 @@ fn stopped<T: Drop>(trace: Vec<Entry<T>>, why: WorldRefusal) -> Run<T>
     ensures stopped { result.stopped ≡ Some (record { place = vec_len trace; why = why }) }
 {
     let place = trace.len();
-    Run {
-        trace,
-        stopped: Some(Stopped { place, why }),
-    }
+    let stopped = Some(Stopped { place, why });
+    Run { trace, stopped }
 }
 
 /// Takes room for one more step and for its entry, if there is any.
@@ -61,22 +59,15 @@ impl<T: Drop> World<T> {
     {
         self.keeps();
         steps.push_back_reserved(Step::Step { party });
-        let Run {
-            trace: mut made,
-            stopped,
-        } = self.make_steps(steps);
+        let mut run = self.make_steps(steps);
         steps.clear();
-        if let Some(Stopped { place: _, why }) = stopped {
-            return Err(why);
+        if let Some(stopped) = run.stopped {
+            return Err(stopped.why);
         }
-        match made.pop() {
-            Some(entry) => {
-                let answered = entry.reply.is_some();
-                trace.push_reserved(entry);
-                Ok(answered)
-            }
-            None => unreachable!(),
-        }
+        let entry = run.trace.pop().unwrap();
+        let answered = entry.reply.is_some();
+        trace.push_reserved(entry);
+        Ok(answered)
     }
 
     /// Runs steps of one party, so many at most, up to the one in which its call answers; for whoever doesn't want to count the

@@ -22,30 +22,20 @@ pub struct Settled<T> {
     pub reply: Reply<T>,
 }
 
-/// Room for all that a settling answers.
-#[derive(Drop)]
-struct Room<T> {
-    /// Those who are polled, in order, as far as they are known.
-    names: Vec<Waiter>,
-    /// The polls that were made.
-    polls: Vec<Settled<T>>,
-}
-
-/// Room for so many polls more than these names, and for what they answer. None where it was refused.
-fn take_room<T: Drop>(mut names: Vec<Waiter>, most: usize, alloc: Global) -> Option<Room<T>>
-    ensures names { IfSome result (λ r. r.names.items ≡ names.items) }
-    ensures polls { IfSome result (λ r. r.polls.items ≡ []) }
-    ensures room { IfSome result (λ r. most ≤ vec_capacity r.names) }
-    ensures answers { IfSome result (λ r. vec_capacity r.polls ≡ most) }
+/// These names with room for so many more, and room for as many answers. None where it was refused.
+fn take_room<T: Drop>(
+    mut names: Vec<Waiter>,
+    most: usize,
+    alloc: Global,
+) -> Option<(Vec<Waiter>, Vec<Settled<T>>)>
+    ensures names { IfSome result (λ r. r.0.items ≡ names.items) }
+    ensures polls { IfSome result (λ r. r.1.items ≡ []) }
+    ensures room { IfSome result (λ r. most ≤ vec_capacity r.0) }
+    ensures answers { IfSome result (λ r. vec_capacity r.1 ≡ most) }
 {
-    match names.reserve(most) {
-        Ok(()) => {}
-        Err(_) => return None,
-    }
-    match Vec::with_capacity(alloc, most) {
-        Ok(polls) => Some(Room { names, polls }),
-        Err(_) => None,
-    }
+    names.reserve(most).ok()?;
+    let polls = Vec::with_capacity(alloc, most).ok()?;
+    Some((names, polls))
 }
 
 impl<T: Drop> World<T> {
@@ -53,32 +43,11 @@ impl<T: Drop> World<T> {
     ghost use Rattle.channel_steps.specs.solo.Ample.{lacks_memory};
     ghost use Rattle.channel_world_runs.specs.Positions.{accepted_by, brings};
     ghost use Rattle.channel_world_model.specs.Answer.{Answer};
-    ghost use Rattle.channel_world_model.specs.Laws.{count_of, is_line, line_at};
     ghost use Rattle.channel_world_model.specs.Lines.{is_among};
     ghost use Rattle.channel_world_model.specs.Refused.{Answers};
     ghost use Rattle.channel_world_model.specs.Settling.{poll_of};
     ghost use Rattle.channel_world.specs.Settled.{Polls, PollHasPosition, HasPositionsToSettle, most_accepted, most_polls, pending_on};
     ghost use Rattle.channel_world.specs.View.{names_in, at_rest, has_one_place, accepted_by_now, IsQuiet, LeadsOn};
-
-    /// Whether what has this name belongs to this line.
-    fn is_on(&self, line: WaitList, name: Waiter) -> bool
-        ensures { result ≡ is_line line (line_at (at_rest self.now).names name) }
-    {
-        self.world_state.name_table.is_on(line, name)
-    }
-
-    /// How many of these names belong to this line. None where there is no such number.
-    fn count_on(&self, line: WaitList, names: &Vec<Waiter>) -> Option<usize>
-        ensures { IfSome result (λ n. n ≡ count_of (line_at (at_rest self.now).names) line names.now.items) }
-    {
-        let mut count = 0usize;
-        for k in 0..names.len() {
-            if self.is_on(line, names[k]) {
-                count = count.checked_add(1)?;
-            }
-        }
-        Some(count)
-    }
 
     /// How many are pending on this line, where these are woken. None where there is no such number.
     fn pending_on(&self, line: WaitList, woken: &Vec<Waiter>) -> Option<usize>
@@ -88,7 +57,8 @@ impl<T: Drop> World<T> {
     {
         a_channel_at_rest_is_a_world::<T>();
         self.keeps_names();
-        let told = self.count_on(line, woken)?;
+        let names = &self.world_state.name_table;
+        let told = woken.iter().filter(|who| names.is_on(line, **who)).count();
         self.world_state.channel.waiting(line).checked_add(told)
     }
 
@@ -101,12 +71,9 @@ impl<T: Drop> World<T> {
         let sends = self.pending_on(WaitList::Sends, woken)?;
         let receives = self.pending_on(WaitList::Receives, woken)?;
         let streams = self.pending_on(WaitList::Streams, woken)?;
-        let each = streams.checked_add(2)?;
-        let by_sends = sends.checked_mul(each)?;
-        let by_receives = receives.checked_mul(2)?;
-        let others = by_receives.checked_add(streams)?;
-        let later = by_sends.checked_add(others)?;
-        later.checked_add(woken.len())
+        let by_sends = sends.checked_mul(streams.checked_add(2)?)?;
+        let others = receives.checked_mul(2)?.checked_add(streams)?;
+        by_sends.checked_add(others)?.checked_add(woken.len())
     }
 
     /// How many messages settling accepts at most, where these are woken. None where there is no such number.
@@ -127,10 +94,9 @@ impl<T: Drop> World<T> {
         };
         let receives = self.pending_on(WaitList::Receives, woken)?;
         let streams = self.pending_on(WaitList::Streams, woken)?;
-        let takers = receives.checked_add(streams)?;
         let free = (capacity as u64).saturating_sub(self.messages()) as usize;
-        let places = free.checked_add(takers)?;
-        Some(if sends < places { sends } else { places })
+        let places = free.checked_add(receives)?.checked_add(streams)?;
+        Some(sends.min(places))
     }
 
     /// Whether the queue has positions for the messages that a settling accepts, where these are woken. Where nobody is woken nobody is
@@ -141,37 +107,29 @@ impl<T: Drop> World<T> {
         ensures enough { IsTrue result → HasPositionsToSettle self.now }
         ensures nobody { woken.now.items ≡ [] → IsTrue result }
     {
-        if woken.is_empty() {
-            return true;
-        }
-        match self.most_accepted(woken) {
-            Some(count) => self.has_positions(count),
-            None => false,
-        }
+        let most = self.most_accepted(woken);
+        woken.is_empty() || matches!(most, Some(count) if self.has_positions(count))
     }
 
     /// Those who are pending and were woken, in the order of their waking. A walk over all names that are polled or pending.
     fn woken_names(&self) -> Result<Vec<Waiter>, AllocError>
         ensures { IfOk result (λ names. names.items ≡ (at_rest self.now).waiting.woken) }
     {
-        self.world_state
-            .order
-            .woken(&self.world_state.name_table, self.world_state.alloc)
+        let state = &self.world_state;
+        state.order.woken(&state.name_table, state.alloc)
     }
 
-    /// Room for all that settling answers. None where it was refused, or where somebody is woken and the queue has no positions for the
-    /// messages that come in.
-    fn room_to_settle(&self) -> Option<Room<T>>
+    /// Those who are woken, and room for all that settling answers. None where it was refused, or where somebody is woken and the queue has
+    /// no positions for the messages that come in.
+    fn room_to_settle(&self) -> Option<(Vec<Waiter>, Vec<Settled<T>>)>
         requires quiet { IsQuiet self.now }
-        ensures names { IfSome result (λ r. r.names.items ≡ (at_rest self.now).waiting.woken) }
-        ensures polls { IfSome result (λ r. r.polls.items ≡ []) }
-        ensures room { IfSome result (λ r. most_polls (at_rest self.now) ≤ vec_capacity r.names) }
-        ensures answers { IfSome result (λ r. vec_capacity r.polls ≡ most_polls (at_rest self.now)) }
+        ensures names { IfSome result (λ r. r.0.items ≡ (at_rest self.now).waiting.woken) }
+        ensures polls { IfSome result (λ r. r.1.items ≡ []) }
+        ensures room { IfSome result (λ r. most_polls (at_rest self.now) ≤ vec_capacity r.0) }
+        ensures answers { IfSome result (λ r. vec_capacity r.1 ≡ most_polls (at_rest self.now)) }
         ensures places { OnSome result (HasPositionsToSettle self.now) }
     {
-        let Ok(names) = self.woken_names() else {
-            return None;
-        };
+        let names = self.woken_names().ok()?;
         let most = self.most_polls(&names)?;
         if self.has_positions_to_settle(&names) {
             take_room(names, most, self.alloc())
@@ -253,13 +211,9 @@ impl<T: Drop> World<T> {
     {
         a_channel_at_rest_is_a_world::<T>();
         self.keeps_names();
-        let Some(room) = self.room_to_settle() else {
+        let Some((mut names, mut polls)) = self.room_to_settle() else {
             return Err(NoMemory);
         };
-        let Room {
-            mut names,
-            mut polls,
-        } = room;
         while polls.len() < names.len() {
             let name = names[polls.len()];
             let Polled { reply, names: more } = self.poll_woken(name, names);

@@ -2,6 +2,7 @@
 use super::call::{Call, Done, WorldRefusal};
 use super::step::{Run, Step};
 use channel_calls::error::OpenError;
+use channel_calls::stage::WaitList;
 use channel_world_runs::rest_laws::a_call_made_alone_is_the_models;
 use channel_world_runs::world_state::WorldState;
 use concurrent_queue::cells::QueueForm;
@@ -243,11 +244,30 @@ impl<T: Drop> World<T> {
 }
 
 impl<T: Drop> World<T> {
-    ghost use Rattle.std.specs.Prelude.{◌≡◌, None, IfOk, IfErr, OnErr};
+    ghost use Rattle.std.specs.Prelude.{◌≡◌, ◌≤◌, None, IfOk, IfErr, IfSome, OnErr};
     ghost use Rattle.channel_world_model.specs.Refusal.{refusal};
     ghost use Rattle.channel_world_model.specs.Refused.{Answers};
     ghost use Rattle.channel_world_runs.specs.Reaches.{reply_of};
     ghost use Rattle.channel_world.specs.View.{at_rest, IsQuiet, LeadsOn};
+    ghost use Rattle.channel_world.specs.World.{most_woken};
+
+    /// How many names the call may wake, at most; None where there is no such number.
+    pub(crate) fn room_for(&self, call: &Call<T>) -> Option<usize>
+        ensures { IfSome result (λ n. most_woken call.now (at_rest self.now).waiting ≤ n) }
+    {
+        let channel = &self.world_state.channel;
+        let sends = channel.waiting(WaitList::Sends);
+        let streams = channel.waiting(WaitList::Streams);
+        match call {
+            Call::Close { .. } | Call::Drop { .. } => {
+                let messengers = sends.checked_add(channel.waiting(WaitList::Receives))?;
+                let listening = streams.checked_add(channel.waiting(WaitList::Closings))?;
+                messengers.checked_add(listening)
+            }
+            Call::RecvMany { .. } => Some(sends),
+            _ => streams.checked_add(2),
+        }
+    }
 
     /// Makes a call that is not refused, alone; or hands it back where its answer got no room, with nothing changed.
     pub(crate) fn answer(&mut self, call: Call<T>) -> Result<Done<T>, Call<T>>

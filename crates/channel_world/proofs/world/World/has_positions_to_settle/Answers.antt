@@ -1,5 +1,5 @@
 -- From the number of pending sends; where nobody is woken there is nobody for whom a position is asked.
-use Rattle.std.proofs.Common.{arith, ◌≡◌, List, length, ap, sym, ◌∙◌, vec_len}
+use Rattle.std.proofs.Common.{arith, rules, ◌≡◌, List, length, ap, sym, ◌∙◌, vec_len}
 use Rattle.std.proofs.lemmas.Bool.{eqb-true}
 use Rattle.channel_world_model.specs.declared.name.Waiter.{Waiter}
 use Rattle.channel_world.specs.World.{at_rest}
@@ -16,4 +16,4 @@ returns-then-is_empty-clause-enough g c =
 
 pub returns-in-Some-clause-enough : goal.returns-in-Some-clause-enough
 returns-in-Some-clause-enough g c =
-    λ ok name there. let so = c.in-Some.ensures in fewer_positions (world_state_of c.args.self.now) _ _ (omega (arith, so)) (c.has_positions.ensures.enough ok)
+    λ ok name there. let so = c.in-Some.ensures in fewer_positions (world_state_of c.args.self.now) _ _ (omega (arith, so)) (c.has_positions.ensures.enough (search rules))

@@ -20,7 +20,7 @@ loop-names-init g c =
     let awake = awake_at_rest now c.keeps_names.ensures.stands c.requires.quiet c.a_channel_at_rest_is_a_world.ensures.as_in_the_world in
     let r = c.in-Some.ensures in
     record {
-      goes = rw r.polls (goes_first (at_rest now) c.in-Some.room.names.items awake r.names);
+      goes = rw r.polls (goes_first (at_rest now) _ awake r.names);
       quiet = c.requires.quiet;
       ample = rw r.polls refl;
       leads = rw r.polls (leads_nowhere now);

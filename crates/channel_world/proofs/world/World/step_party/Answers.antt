@@ -1,4 +1,5 @@
 use Rattle.std.proofs.Common.{arith, ◌≡◌, List, [], ◌∷◌, ◌++◌, ◌∙◌, length, vec_len, None, Some, refl, sym, ap, subst}
+use Rattle.std.specs.Option.{option_to_list}
 use Rattle.channel_world_runs.specs.WorldState.{name_state_of, Stands}
 use Rattle.channel_world_runs.specs.Run.{StopsAt}
 use Rattle.channel_world_runs.specs.Runs.{RanTo}
@@ -11,7 +12,7 @@ use Rattle.channel_world.proofs.world.World.step_party.Goals as goal
 
 pub returns-in-Some-clause-refused : goal.returns-in-Some-clause-refused
 returns-in-Some-clause-refused g c =
-    let run = c.make_steps-made in
+    let run = c.make_steps-run in
     let left = run.new.steps.items in
     let trace = run.result.trace.items in
     let x : Step g.row.T.Denot = step.Step c.args.party in
@@ -20,15 +21,15 @@ returns-in-Some-clause-refused g c =
     c.push_back_reserved.ensures.items ∙ ap (λ (l : List (Step g.row.T.Denot)). l ++ x ∷ []) c.requires.empty in
     let ran : RanTo (x ∷ []) left (world_state_of c.args.self.now) trace (world_state_of run.new.self) =
     subst (λ (l : List (Step g.row.T.Denot)). RanTo l left (world_state_of c.args.self.now) trace (world_state_of run.new.self)) pushed run.ensures.ran in
-    let stops : StopsAt (name_state_of (world_state_of run.new.self)) left (length trace) (Some c.in-Some.field-0) =
-    subst (λ n. StopsAt (name_state_of (world_state_of run.new.self)) left n (Some c.in-Some.field-0)) run.result.trace.ok.0
+    let stops : StopsAt (name_state_of (world_state_of run.new.self)) left (length trace) (Some c.in-Some.stopped) =
+    subst (λ n. StopsAt (name_state_of (world_state_of run.new.self)) left n (Some c.in-Some.stopped)) run.result.trace.ok.0
     (subst (λ o. StopsAt (name_state_of (world_state_of run.new.self)) left (vec_len run.result.trace) o) c.in-Some.is run.ensures.stopped) in
-    let none = none_made c.args.party left (world_state_of c.args.self.now) trace c.in-Some.field-0 (world_state_of run.new.self) before ran stops in
+    let none = none_made c.args.party left (world_state_of c.args.self.now) trace c.in-Some.stopped (world_state_of run.new.self) before ran stops in
     record { unwritten = refl; ran = none.ran; reason = none.reason }
 
 pub returns-clause-made : goal.returns-clause-made
 returns-clause-made g c =
-    let run = c.make_steps-made in
+    let run = c.make_steps-run in
     let left = run.new.steps.items in
     let trace = run.result.trace.items in
     let x : Step g.row.T.Denot = step.Step c.args.party in
@@ -40,8 +41,8 @@ returns-clause-made g c =
     let used : left ≡ [] = subst (λ o. StopsAt (name_state_of (world_state_of run.new.self)) left (vec_len run.result.trace) o) c.in_default.is
     run.ensures.stopped in
     let one = one_made c.args.party left (world_state_of c.args.self.now) trace (world_state_of run.new.self) before ran used in
-    let entry : Entry g.row.T.Denot = c.in-Some-pop.entry in
-    let popped : one.entry ∷ [] ≡ c.pop.new.self.items ++ entry ∷ [] = sym one.entries ∙ c.in-Some-pop.ensures.items in
+    let entry : Entry g.row.T.Denot = c.unwrap-entry.result in
+    let popped : one.entry ∷ [] ≡ c.pop.new.self.items ++ entry ∷ [] = sym one.entries ∙ (c.pop.ensures.items ∙ ap (λ o. c.pop.new.self.items ++ option_to_list o) c.unwrap-entry.ensures) in
     let same : entry ≡ one.entry = cc (first_of one.entry entry c.pop.new.self.items [] popped).1 in
     record {
       entry = entry;
@@ -51,9 +52,9 @@ returns-clause-made g c =
       goes_on = λ silent. one.goes_on (subst (λ (e : Entry g.row.T.Denot). e.reply ≡ None) same silent);
     }
 
-pub unreachable-requires : goal.unreachable-requires
-unreachable-requires g c =
-    let run = c.make_steps-made in
+pub unwrap-entry-requires : goal.unwrap-entry-requires
+unwrap-entry-requires g c =
+    let run = c.make_steps-run in
     let left = run.new.steps.items in
     let trace = run.result.trace.items in
     let x : Step g.row.T.Denot = step.Step c.args.party in
@@ -67,5 +68,4 @@ unreachable-requires g c =
     let one = one_made c.args.party left (world_state_of c.args.self.now) trace (world_state_of run.new.self) before ran used in
     let written : length trace ≡ 1 = ap (λ (t : List (Entry g.row.T.Denot)). length t) one.entries in
     let long : vec_len run.result.trace ≡ length trace = run.result.trace.ok.0 in
-    let empty = c.in-None.ensures.cases.0 in
-    omega (arith, empty, long, written)
+    c.pop.ensures.variant.1 (omega (arith, long, written))
