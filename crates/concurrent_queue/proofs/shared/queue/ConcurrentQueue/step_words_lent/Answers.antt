@@ -1,6 +1,5 @@
-use Rattle.std.proofs.Common.{◌∙◌, sym, subst}
+use Rattle.std.proofs.Common.{◌∙◌}
 use Rattle.concurrent_queue.specs.SharedQueue.{form_in}
-use Rattle.concurrent_queue.specs.Walked.{Walked, CallMakes}
 use Rattle.concurrent_queue.proofs.Traces.{lent_step, same_after_step}
 use Rattle.concurrent_queue.proofs.shared.queue.ConcurrentQueue.step_words_lent.Goals as goal
 
