@@ -41,9 +41,9 @@ TEXTS = [
     ("channel_world_tests", "script_rows", "LINES", "`run_script`, a whole script of each row (`scripts::rows`)", "scripts::rows::scripts"),
     ("channel_world_tests", "script_rows", "POLLS", "`run_script`, a whole script of each row (`scripts::rows`)", "scripts::rows::scripts"),
     ("channel_world_tests", "script_rows", "OTHERS", "`run_script`, a whole script of each row (`scripts::rows`)", "scripts::rows::scripts"),
-    ("history_checker", "history_rows", "ORDERS", "`judge` over logs of calls of one message each (`histories`)", "rows::orders"),
-    ("history_checker", "history_rows", "SEVERAL", "`judge`, and `History::fault`, over logs with receives of several (`histories`)", "rows::several"),
-    ("history_checker", "history_rows", "RESTS", "`Rest::is_right` (`histories`)", "rows::rests"),
+    ("channel_world_tests", "history_rows", "ORDERS", "`judge` over logs of calls of one message each (`histories`)", "rows::histories"),
+    ("channel_world_tests", "history_rows", "SEVERAL", "`judge`, and `History::fault`, over logs with receives of several (`histories`)", "rows::histories"),
+    ("channel_world_tests", "history_rows", "RESTS", "`Rest::is_right` (`histories`)", "rows::histories"),
 ]
 TEXT = re.compile(r'const (\w+): &str = "(\n[^"]*^row [^"]*)"', re.M)
 HEAD = """# Where the worked rows stand

@@ -1,5 +1,5 @@
 -- Who is pending on which line, and how many messages calls under way have taken: numbers that a world tells.
-use Rattle.std.specs.Prelude.{ℕ, ◌+◌, Bool, true, false, not, ◌||◌, List, [], ◌∷◌, Option, Some}
+use Rattle.std.specs.Prelude.{ℕ, ◌+◌, Bool, true, false, List, [], ◌∷◌, Option, Some}
 use Rattle.std.specs.List.{count_by}
 use Rattle.channel_calls.specs.declared.stage.WaitList.{WaitList}
 use Rattle.channel_world_model.specs.Laws.{same_line}
@@ -8,8 +8,6 @@ use Rattle.channel_world_runs.specs.Owners.{NameStatus, waits, status_by, operat
 use Rattle.channel_world_runs.specs.declared.calls.CallUnderWay.{CallUnderWay}
 use Rattle.channel_world_runs.specs.declared.names.HandleEntry.{HandleEntry}
 use Rattle.channel_world_runs.specs.declared.names.OperationEntry.{OperationEntry}
-use Rattle.channel_world_runs.specs.declared.names.PollState.{PollState}
-use Rattle.channel_world_runs.specs.declared.names.PollState.TheVariants.{Waits}
 use Rattle.channel_world_runs.specs.declared.name_table.NameTable.{NameTable}
 
 -- whether one that stands so is pending on this line, woken or not
@@ -21,11 +19,6 @@ is_pending_on line other = false
 abbrev pub stands_on : Bool → WaitList → NameStatus → Bool
 stands_on false line p = is_pending_on line p
 stands_on true line p = is_woken_on line p
-
--- whether one whose last poll ended so is pending; and was woken, where only the woken are asked for
-abbrev pub is_asked_for : Bool → PollState → Bool
-is_asked_for only_woken (Waits key is_woken) = is_woken || not only_woken
-is_asked_for only_woken other = false
 
 -- how a receiver's stream stands under a name that was taken
 abbrev pub stream_stance : Option HandleEntry → NameStatus

@@ -1,26 +1,19 @@
 //! Those who are pending, and those of them who were woken, line by line; and what calls under way have taken.
 
 ghost use Rattle.std.specs.Prelude.{◌≡◌};
-ghost use Rattle.channel_world.specs.Kinds.{is_asked_for, operation_stance, stands_on, stream_stance};
+ghost use Rattle.channel_world.specs.Kinds.{operation_stance, stands_on, stream_stance};
 
 use super::world::World;
 use channel_calls::stage::WaitList;
 use channel_world_model::name::HandleKind;
-use channel_world_runs::names::{HandleEntry, OperationEntry, PollState};
-
-/// Whether one is pending; and was woken, where only the woken are asked for.
-fn is_asked_for(only_woken: bool, poll_state: PollState) -> bool
-    ensures { result ≡ is_asked_for only_woken poll_state }
-{
-    matches!(poll_state, PollState::Waits { is_woken, .. } if is_woken || !only_woken)
-}
+use channel_world_runs::names::{HandleEntry, OperationEntry};
 
 /// Whether an operation is pending on this line; and was woken, where only the woken are asked for.
 fn stands_on<T>(line: WaitList, only_woken: bool, operation: &Option<OperationEntry<T>>) -> bool
     ensures { result ≡ stands_on only_woken line (operation_stance operation.now) }
 {
     matches!(operation, Some(entry)
-        if is_asked_for(only_woken, entry.poll_state) && entry.operation.is_on(line))
+        if entry.poll_state.is_counted(only_woken) && entry.operation.is_on(line))
 }
 
 /// Whether a receiver's stream is pending on this line; and was woken, where only the woken are asked for.
@@ -29,7 +22,7 @@ fn streams_on(line: WaitList, only_woken: bool, handle_entry: &Option<HandleEntr
 {
     matches!((line, handle_entry), (WaitList::Streams, Some(entry))
         if matches!(entry.handle.kind, HandleKind::Receiver)
-            && is_asked_for(only_woken, entry.poll_state))
+            && entry.poll_state.is_counted(only_woken))
 }
 
 impl<T: Drop> World<T> {

@@ -62,8 +62,8 @@ impl PollState {
         matches!(self, PollState::Waits { is_woken: true, .. })
     }
 
-    /// Whether it is pending; and was woken, where only the woken are asked for.
-    pub(crate) fn is_counted(self, only_woken: bool) -> bool
+    /// Whether it is pending; and was woken, where only the woken are asked for. Own to this project.
+    pub fn is_counted(self, only_woken: bool) -> bool
         ensures { result ≡ stands_counted only_woken self }
     {
         matches!(self, PollState::Waits { key: _, is_woken } if is_woken || !only_woken)

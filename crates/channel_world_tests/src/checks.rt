@@ -1,10 +1,9 @@
 //! What tests compare by. Proved once each; a test has no exit of its own at such a call, so it is cheap to prove.
 
-use crate::worlds::Worlds;
 use std::alloc::AllocGlobal;
 use std::fmt::Debug;
 use std::process::Abort;
-use worked_rows::play_rows;
+use worked_rows::{Player, play_rows};
 
 /// Ends the test where these differ, and shows both.
 pub fn expect_equal<A: Abort, T: PartialEq + Debug>(rt: &A, found: &T, wanted: &T) {
@@ -12,8 +11,13 @@ pub fn expect_equal<A: Abort, T: PartialEq + Debug>(rt: &A, found: &T, wanted: &
 }
 
 /// Plays these rows. Ends the test at the first call that answers another thing than its row says, and where there are not so many rows.
-pub fn expect_rows<A: Abort + AllocGlobal>(rt: &A, text: &str, worlds: &mut Worlds, rows: u64) {
-    let played = play_rows(rt.alloc(), text, worlds).expect(rt, "memory");
-    assert!(rt; played.differs.is_none(), "{:?}", played.differs);
-    assert_eq!(rt; played.rows, rows);
+pub fn expect_rows<A: Abort + AllocGlobal, P: Player>(
+    rt: &A,
+    text: &str,
+    player: &mut P,
+    rows: u64,
+) {
+    let played = play_rows(rt.alloc(), text, player).expect(rt, "memory");
+    let right = played.differs.is_none() && played.rows == rows;
+    assert!(rt; right, "of {rows} rows: {played:?}");
 }

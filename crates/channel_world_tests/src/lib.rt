@@ -16,6 +16,10 @@ mod crowds;
 #[cfg(test)]
 mod giving_up;
 #[cfg(test)]
+mod histories;
+#[cfg(test)]
+mod history_rows;
+#[cfg(test)]
 mod many;
 #[cfg(test)]
 mod many_rows;

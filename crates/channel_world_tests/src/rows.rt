@@ -1,11 +1,13 @@
-//! Plays the rows of [`call_rows`](crate::call_rows), [`many_rows`](crate::many_rows) and [`step_rows`](crate::step_rows).
+//! Plays the rows of [`call_rows`](crate::call_rows), [`many_rows`](crate::many_rows), [`step_rows`](crate::step_rows) and
+//! [`history_rows`](crate::history_rows).
 
 use crate::call_rows::{BOTH, RECEIVES, SENDS, SETTLINGS, TOLD, WAITS};
 use crate::checks::expect_rows;
+use crate::histories::Histories;
 use crate::many_rows::MANY;
 use crate::step_rows::{ROWS, SEVERAL};
 use crate::worlds::Worlds;
-use crate::{call_rows, step_rows};
+use crate::{call_rows, history_rows, step_rows};
 
 #[test]
 fn calls(rt: HostRuntime) {
@@ -29,5 +31,17 @@ fn steps_by_names(rt: HostRuntime) {
     let mut worlds = Worlds::new(rt.alloc());
     for (text, rows) in [(ROWS, 9), (step_rows::REFUSED, 3), (SEVERAL, 1)] {
         expect_rows(&rt, text, &mut worlds, rows);
+    }
+}
+
+#[test]
+fn histories(rt: HostRuntime) {
+    let mut histories = Histories::new(rt.alloc()).expect(&rt, "memory");
+    for (text, rows) in [
+        (history_rows::ORDERS, 10),
+        (history_rows::SEVERAL, 5),
+        (history_rows::RESTS, 2),
+    ] {
+        expect_rows(&rt, text, &mut histories, rows);
     }
 }

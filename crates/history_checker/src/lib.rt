@@ -8,21 +8,13 @@
 //! in, and nobody is told that the channel is empty. A receive of several has a moment for each message that it took, and other
 //! calls may come between them; where it took fewer than it might, it has one more, after the last, at which nothing was there.
 //!
-//! Its tests are rows ([`history_rows`]): what it must refuse, and what it must not.
+//! Its tests are rows, in `channel_world_tests` (`history_rows`): what it must refuse, and what it must not.
 #![tactic(auto)]
 
-#[cfg(test)]
-mod checks;
-#[cfg(test)]
-mod histories;
 pub mod history;
-#[cfg(test)]
-mod history_rows;
 pub mod log;
 pub mod order;
 pub mod plain;
 pub mod point;
 pub mod rest;
-#[cfg(test)]
-mod rows;
 mod told;

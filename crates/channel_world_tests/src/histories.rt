@@ -11,12 +11,12 @@
 //! | `see_shut WHO HOW MESSAGES` | the same of a closed channel |
 //! | `rest` | whether nobody sleeps who must not, and then nobody is seen any more |
 
-use crate::history::{Fault, History};
-use crate::log::Log;
-use crate::order::{Verdict, judge};
-use crate::plain::Plain;
-use crate::point::{Did, Point, Side, Sight};
-use crate::rest::{Look, Rest};
+use history_checker::history::{Fault, History};
+use history_checker::log::Log;
+use history_checker::order::{Verdict, judge};
+use history_checker::plain::Plain;
+use history_checker::point::{Did, Point, Side, Sight};
+use history_checker::rest::{Look, Rest};
 use std::alloc::{AllocError, Global};
 use std::mem;
 use worked_rows::{Player, Said, Words};
