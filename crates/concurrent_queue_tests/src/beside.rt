@@ -41,7 +41,7 @@ impl Other {
     fn new(kind: Kind, message: u64, steps: u32) -> Other {
         Other {
             call: QueueCall::new(kind.ask(message)),
-            is_refused: kind.is_refused(),
+            is_refused: kind.is_refused,
             message,
             steps,
             said: None,

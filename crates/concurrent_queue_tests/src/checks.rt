@@ -28,6 +28,6 @@ pub fn expect_rows<A: Abort + AllocGlobal, P: Player>(
     rows: u64,
 ) {
     let played = play_rows(rt.alloc(), text, player).expect(rt, "memory");
-    let right = played.differs.is_none() && played.rows == rows;
-    assert!(rt; right, "of {rows} rows: {played:?}");
+    expect_none(rt, &rows, &played.differs);
+    expect_equal(rt, &played.rows, &rows);
 }

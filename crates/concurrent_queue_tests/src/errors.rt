@@ -34,11 +34,15 @@ fn why_none(error: PopError) -> [bool; 2] {
 
 #[test]
 fn refusals_say_why(rt: HostRuntime) {
-    expect_equal(&rt, &why(PushError::Full(1)), &[true, false]);
-    expect_equal(&rt, &why(PushError::Closed(1)), &[false, true]);
-    expect_equal(&rt, &why(PushError::NoMemory(1)), &[false, false]);
-    expect_equal(&rt, &why_none(PopError::Empty), &[true, false]);
-    expect_equal(&rt, &why_none(PopError::Closed), &[false, true]);
+    let said = [
+        why(PushError::Full(1)),
+        why(PushError::Closed(1)),
+        why(PushError::NoMemory(1)),
+        why_none(PopError::Empty),
+        why_none(PopError::Closed),
+    ];
+    let (first, second) = ([true, false], [false, true]);
+    expect_equal(&rt, &said, &[first, second, [false; 2], first, second]);
 }
 
 /// The capacity of a queue without a bound and the length of a list with room for one, where one `?` serves both refusals.
@@ -87,20 +91,12 @@ fn says<E: Display + Debug>(alloc: Global, error: &E, text: &str) -> bool {
 }
 
 #[test]
-fn texts_of_a_push(rt: HostRuntime) {
+fn texts_of_refusals(rt: HostRuntime) {
     let alloc = rt.alloc();
     let said = [
         says(alloc, &PushError::Full(1u64), "Full Full(..)"),
         says(alloc, &PushError::Closed(1u64), "Closed Closed(..)"),
         says(alloc, &PushError::NoMemory(1u64), "NoMemory NoMemory(..)"),
-    ];
-    expect_equal(&rt, &said, &[true; 3]);
-}
-
-#[test]
-fn texts_of_a_displacing_push_and_of_a_pop(rt: HostRuntime) {
-    let alloc = rt.alloc();
-    let said = [
         says(alloc, &ForcePushError::Closed(1u64), "Closed Closed(..)"),
         says(
             alloc,
@@ -109,31 +105,26 @@ fn texts_of_a_displacing_push_and_of_a_pop(rt: HostRuntime) {
         ),
         says(alloc, &PopError::Empty, "Empty Empty"),
         says(alloc, &PopError::Closed, "Closed Closed"),
+        says(alloc, &NoMemory, "want of memory NoMemory"),
     ];
-    expect_equal(&rt, &said, &[true; 4]);
+    expect_equal(&rt, &said, &[true; 8]);
 }
 
-#[test]
-fn want_of_memory_says_so(rt: HostRuntime) {
-    expect_true(&rt, says(rt.alloc(), &NoMemory, "want of memory NoMemory"));
-}
-
-/// A pop that begins, and two steps of it.
-fn pop_of_two_steps(alloc: Global) -> Result<VecDeque<QueueStep<u64>>, AllocError> {
+/// The run of a pop that begins, and of two steps of it, over one slot.
+fn pop_alone(alloc: Global) -> QueueRun<u64> {
     let mut steps: VecDeque<QueueStep<u64>> = VecDeque::new(alloc);
-    steps.reserve(3)?;
     let _ = steps.push_back(QueueStep::Begin {
         party: 1,
         call: QueueAsk::Pop,
     });
     let _ = steps.push_back(QueueStep::Step { party: 1 });
     let _ = steps.push_back(QueueStep::Step { party: 1 });
-    Ok(steps)
+    run_queue_steps(alloc, QueueForm::Bounded(1), &mut steps)
 }
 
-/// The run of these steps over one slot: the pop finds nothing at its one step, and then nobody is at work.
-fn run_of_them(alloc: Global) -> Result<QueueRun<u64>, AllocError> {
-    let mut trace: Vec<QueueEntry<u64>> = Vec::with_capacity(alloc, 2)?;
+/// What that run is to be: the pop finds nothing at its one step, and then nobody is at work.
+fn run_of_them(alloc: Global) -> QueueRun<u64> {
+    let mut trace: Vec<QueueEntry<u64>> = Vec::new(alloc);
     let _ = trace.push(QueueEntry {
         mark: QueueMark::Nothing,
         reply: None,
@@ -142,13 +133,13 @@ fn run_of_them(alloc: Global) -> Result<QueueRun<u64>, AllocError> {
         mark: QueueMark::Nothing,
         reply: Some(QueueReply::Pop(Err(PopError::Empty))),
     });
-    Ok(QueueRun {
+    QueueRun {
         trace,
         stopped: Some(Stopped {
             place: 2,
             why: QueueRefusal::Idle,
         }),
-    })
+    }
 }
 
 /// Whether what is shown of this is this text.
@@ -182,36 +173,25 @@ fn forms_are_compared_and_shown(rt: HostRuntime) {
 
 /// Whether its second entry and what stopped it are shown so.
 fn is_shown(alloc: Global, run: &QueueRun<u64>) -> [bool; 2] {
-    let entry = match run.trace.get(1) {
-        Some(entry) => shows(
+    [
+        shows(
             alloc,
-            entry,
-            "QueueEntry { mark: Nothing, reply: Some(Pop(Err(Empty))) }",
+            &run.trace.get(1),
+            "Some(QueueEntry { mark: Nothing, reply: Some(Pop(Err(Empty))) })",
         ),
-        None => false,
-    };
-    let stopped = shows(alloc, &run.stopped, "Some(Stopped { place: 2, why: Idle })");
-    [entry, stopped]
+        shows(alloc, &run.stopped, "Some(Stopped { place: 2, why: Idle })"),
+    ]
 }
 
-/// The run of a pop over one slot.
-fn pop_alone(alloc: Global) -> Result<QueueRun<u64>, AllocError> {
-    let mut steps = pop_of_two_steps(alloc)?;
-    Ok(run_queue_steps(alloc, QueueForm::Bounded(1), &mut steps))
-}
-
-/// Whether it is as it is to be.
-fn is_right(alloc: Global, run: &QueueRun<u64>) -> bool {
-    match run_of_them(alloc) {
-        Ok(same) => *run == same,
-        Err(_) => false,
-    }
+/// Whether two runs are the same.
+fn are_same(run: QueueRun<u64>, other: QueueRun<u64>) -> bool {
+    run == other
 }
 
 #[test]
 fn runs_are_compared_and_shown(rt: HostRuntime) {
-    let run = pop_alone(rt.alloc()).expect(&rt, "memory");
-    let seen = (is_right(rt.alloc(), &run), is_shown(rt.alloc(), &run));
-    drop(run);
+    let run = pop_alone(rt.alloc());
+    let shown = is_shown(rt.alloc(), &run);
+    let seen = (are_same(run, run_of_them(rt.alloc())), shown);
     expect_equal(&rt, &seen, &(true, [true; 2]));
 }

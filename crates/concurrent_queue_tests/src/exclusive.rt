@@ -6,14 +6,13 @@ use std::rc::Rc;
 
 /// So many copies are pushed, and so many displace.
 fn put_copies(queue: &mut Exclusive<Rc<u64>>, counted: &Rc<u64>, pushes: u32, displacing: u32) {
-    for _ in 0..pushes {
+    for place in 0..pushes.wrapping_add(displacing) {
         if let Ok(copy) = counted.clone() {
-            drop(queue.push(copy));
-        }
-    }
-    for _ in 0..displacing {
-        if let Ok(copy) = counted.clone() {
-            drop(queue.force_push(copy));
+            if place < pushes {
+                drop(queue.push(copy));
+            } else {
+                drop(queue.force_push(copy));
+            }
         }
     }
 }

@@ -4,6 +4,7 @@ use concurrent_queue::cells::{Slot, Word};
 use concurrent_queue::error::NoMemory;
 use concurrent_queue::seen::{Sight, Trace};
 use std::alloc::Global;
+use std::cell::Cell;
 
 /// What was done to a cell.
 #[derive(Clone, Copy, PartialEq, Eq)]
@@ -40,11 +41,13 @@ pub(crate) enum To {
 /// the message that was taken, the number of a block; 0 where it answered nothing.
 pub(crate) type Line = (Did, To, u64);
 
-/// What was done, in order. Where there is no memory for a line, it says so.
-#[derive(Drop)]
-pub(crate) struct Log {
-    lines: Vec<Line>,
-    is_short: bool,
+/// What was done, in order; nothing once there was no memory for a line.
+pub(crate) type Lines = Cell<Option<Vec<Line>>>;
+
+/// A trace that writes these lines. Each copy of it writes behind them.
+#[derive(Clone, Copy)]
+pub(crate) struct Log<'a> {
+    pub(crate) lines: &'a Lines,
 }
 
 /// Which kind a word is.
@@ -62,46 +65,37 @@ fn kind_of(at: Word) -> To {
     }
 }
 
-impl Log {
-    pub(crate) fn new(alloc: Global) -> Log {
-        Log {
-            lines: Vec::new(alloc),
-            is_short: false,
-        }
-    }
+/// A log of nothing.
+pub(crate) fn blank(alloc: Global) -> Lines {
+    Cell::new(Some(Vec::new(alloc)))
+}
 
-    /// Its lines, if it has them all.
-    pub(crate) fn lines(&self) -> Option<&[Line]> {
-        if self.is_short {
-            None
-        } else {
-            Some(self.lines.as_slice())
-        }
-    }
-
-    fn note(&mut self, line: Line) {
-        if self.lines.push(line).is_err() {
-            self.is_short = true;
+impl Log<'_> {
+    fn note(self, line: Line) {
+        if let Some(mut lines) = self.lines.take() {
+            if lines.push(line).is_ok() {
+                self.lines.set(Some(lines));
+            }
         }
     }
 }
 
-impl Trace<u64> for Log {
+impl<'a> Trace<u64> for Log<'a> {
     ghost did = { λ _ _ _. Unit {0} };
 
     ghost brought = { λ _ _ _ _. Unit {0} };
 
-    fn loaded(&mut self, _sight: &Sight<Log>, at: Word, found: u64) {
+    fn loaded(&mut self, _sight: &Sight<Log<'a>>, at: Word, found: u64) {
         self.note((Did::Load, kind_of(at), found));
     }
 
-    fn stored(&mut self, _sight: &Sight<Log>, at: Word, _value: u64) {
+    fn stored(&mut self, _sight: &Sight<Log<'a>>, at: Word, _value: u64) {
         self.note((Did::Store, kind_of(at), 0));
     }
 
     fn exchanged(
         &mut self,
-        _sight: &Sight<Log>,
+        _sight: &Sight<Log<'a>>,
         at: Word,
         _expected: u64,
         _next: u64,
@@ -110,33 +104,33 @@ impl Trace<u64> for Log {
         self.note((Did::Exchange, kind_of(at), u64::from(answer.is_ok())));
     }
 
-    fn added(&mut self, _sight: &Sight<Log>, at: Word, _by: u64, found: u64) {
+    fn added(&mut self, _sight: &Sight<Log<'a>>, at: Word, _by: u64, found: u64) {
         self.note((Did::Add, kind_of(at), found));
     }
 
-    fn bits_set(&mut self, _sight: &Sight<Log>, at: Word, _bits: u64, found: u64) {
+    fn bits_set(&mut self, _sight: &Sight<Log<'a>>, at: Word, _bits: u64, found: u64) {
         self.note((Did::Or, kind_of(at), found));
     }
 
-    fn bits_kept(&mut self, _sight: &Sight<Log>, at: Word, _bits: u64, found: u64) {
+    fn bits_kept(&mut self, _sight: &Sight<Log<'a>>, at: Word, _bits: u64, found: u64) {
         self.note((Did::And, kind_of(at), found));
     }
 
-    fn bring(&mut self, _sight: &Sight<Log>, _at: Slot, _message: &u64) {}
+    fn bring(&mut self, _sight: &Sight<Log<'a>>, _at: Slot, _message: &u64) {}
 
-    fn put(&mut self, _sight: &Sight<Log>, _at: Slot, done: bool) {
+    fn put(&mut self, _sight: &Sight<Log<'a>>, _at: Slot, done: bool) {
         self.note((Did::Put, To::Slot, u64::from(done)));
     }
 
-    fn taken(&mut self, _sight: &Sight<Log>, _at: Slot, found: &Option<u64>) {
+    fn taken(&mut self, _sight: &Sight<Log<'a>>, _at: Slot, found: &Option<u64>) {
         self.note((Did::Take, To::Slot, found.unwrap_or(0)));
     }
 
-    fn spared(&mut self, _sight: &Sight<Log>, answer: Result<u64, NoMemory>) {
+    fn spared(&mut self, _sight: &Sight<Log<'a>>, answer: Result<u64, NoMemory>) {
         self.note((Did::Spare, To::Block, answer.unwrap_or(0)));
     }
 
-    fn retired(&mut self, _sight: &Sight<Log>, block: u64) {
+    fn retired(&mut self, _sight: &Sight<Log<'a>>, block: u64) {
         self.note((Did::Retire, To::Block, block));
     }
 }

@@ -37,13 +37,23 @@ pub(crate) struct Queues<R: Wait + Copy> {
 
 const NO_QUEUE: Said = Said::Word("no queue");
 
+/// The words to which a number belongs.
+static NUMBERED: [&str; 7] = [
+    "full",
+    "closed",
+    "no memory",
+    "displaced",
+    "popped",
+    "holds",
+    "room",
+];
+
 /// An answer as a line has it: its word, and its number where one belongs to it.
 pub(crate) fn in_words((word, number): Answer) -> Said {
-    match word {
-        "full" | "closed" | "no memory" | "displaced" | "popped" | "holds" | "room" => {
-            Said::Both(word, number)
-        }
-        _ => Said::Word(word),
+    if NUMBERED.contains(&word) {
+        Said::Both(word, number)
+    } else {
+        Said::Word(word)
     }
 }
 
@@ -54,17 +64,23 @@ fn capacity(capacity: Option<usize>) -> Said {
     }
 }
 
-/// A queue of one owner.
-fn opened_alone(alloc: Global, capacity: usize) -> Option<Queue> {
+/// A queue of one owner; none where there is no memory.
+fn opened_alone(alloc: Global, capacity: usize) -> Queue {
     if capacity == 0 {
-        return Some(Queue::Alone(Exclusive::unbounded(alloc)));
+        return Queue::Alone(Exclusive::unbounded(alloc));
     }
-    Some(Queue::Alone(Exclusive::bounded(alloc, capacity).ok()?))
+    match Exclusive::bounded(alloc, capacity) {
+        Ok(queue) => Queue::Alone(queue),
+        Err(_) => Queue::None,
+    }
 }
 
 /// A shared one.
-fn opened_shared(alloc: Global, capacity: usize) -> Option<Queue> {
-    Some(Queue::Shared(opened(alloc, capacity)?))
+fn opened_shared(alloc: Global, capacity: usize) -> Queue {
+    match opened(alloc, capacity) {
+        Some(queue) => Queue::Shared(queue),
+        None => Queue::None,
+    }
 }
 
 /// How many messages these are, if they are this one and so on.
@@ -127,15 +143,14 @@ impl<R: Wait + Copy> Queues<R> {
         }
     }
 
-    /// Puts a queue in the place of the one before, if it could be opened.
-    fn put(&mut self, opened: Option<Queue>) -> Said {
-        match opened {
-            Some(queue) => {
-                drop(std::mem::replace(&mut self.queue, queue));
-                Said::Ok
-            }
-            None => Said::Word("memory"),
-        }
+    /// Puts a queue in the place of the one before.
+    fn put(&mut self, opened: Queue) -> Said {
+        let said = match &opened {
+            Queue::None => Said::Word("memory"),
+            _ => Said::Ok,
+        };
+        drop(std::mem::replace(&mut self.queue, opened));
+        said
     }
 
     fn push(&mut self, message: u64) -> Answer {
@@ -221,7 +236,7 @@ impl<R: Wait + Copy> Queues<R> {
 
 impl<R: Wait + Copy> Player for Queues<R> {
     fn begin(&mut self) {
-        drop(std::mem::replace(&mut self.queue, Queue::None));
+        self.put(Queue::None);
     }
 
     fn play(&mut self, words: &mut Words<'_>, answer: &mut String) -> Result<(), AllocError> {

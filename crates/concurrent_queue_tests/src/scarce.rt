@@ -105,7 +105,7 @@ impl Cells<u64> for Scarce {
 }
 
 /// Cells with this capacity, 0 for those without a bound, for which so many blocks can be made.
-fn cells_with(alloc: Global, capacity: usize, left: u32) -> Result<Scarce, AllocError> {
+pub(crate) fn cells_with(alloc: Global, capacity: usize, left: u32) -> Result<Scarce, AllocError> {
     Ok(Scarce {
         cells: PlainCells::new(alloc, form_of(capacity))?,
         left,
@@ -114,7 +114,7 @@ fn cells_with(alloc: Global, capacity: usize, left: u32) -> Result<Scarce, Alloc
 }
 
 /// Makes the steps of a call: what it answers.
-fn asked(cells: &mut Scarce, ask: QueueAsk<u64>) -> Answer {
+pub(crate) fn asked(cells: &mut Scarce, ask: QueueAsk<u64>) -> Answer {
     let mut call = QueueCall::new(ask);
     let mut said = ("nothing", 0);
     for _ in 0..64 {

@@ -1,6 +1,7 @@
 //! What threads find in a shared queue.
 
 use crate::checks::expect_true;
+use crate::shared::logged::wrong_logs;
 use concurrent_queue::error::{PopError, PushError};
 use concurrent_queue::shared::queue::ConcurrentQueue;
 use std::alloc::{AllocError, Global};
@@ -29,43 +30,38 @@ pub(crate) fn opened<T: Drop>(alloc: Global, capacity: usize) -> Option<Concurre
     }
 }
 
-/// What two threads push.
+/// What threads do at once.
 #[derive(Clone, Copy)]
-enum Pushing {
-    /// Each so many messages, each until it is in. The later one closes the queue then.
+enum Working {
+    /// Two push so many messages each, the later one closes the queue then, and two pop.
     All,
-    /// What goes in until one of them closes the queue, after so many.
+    /// Two push what goes in until one of them closes the queue, after so many, and two pop.
     UntilClosed,
+    /// Each pushes and pops in turn, and looks at the logs.
+    Logged,
 }
 
-/// Pushes so many messages, beginning with this one, each until it is in.
-fn push_all<R: Wait>(rt: &R, queue: &ConcurrentQueue<u64>, first: u64) {
-    for offset in 0..EACH {
-        let mut message = first.wrapping_add(offset);
-        for _ in rt.forever() {
-            match queue.push(rt, message) {
-                Err(PushError::Full(back)) => message = back,
-                _ => break,
-            }
-            thread::yield_now();
-        }
-    }
-}
-
-/// Pushes until the queue is closed, and answers how many messages were accepted. One that pushes at most `limit` closes it.
-fn push_until_closed<R: Wait>(rt: &R, queue: &ConcurrentQueue<u64>, limit: u64) -> u64 {
+/// Pushes messages, beginning with this one, each until it is in, until so many are in or the queue is closed: how many are in.
+fn push_from<R: Wait>(rt: &R, queue: &ConcurrentQueue<u64>, first: u64, most: u64) -> u64 {
     let mut accepted = 0u64;
     for _ in rt.forever() {
-        match queue.push(rt, accepted) {
+        if accepted == most {
+            break;
+        }
+        match queue.push(rt, first.wrapping_add(accepted)) {
             Ok(()) => accepted = accepted.wrapping_add(1),
             Err(PushError::Closed(_)) => break,
             Err(_) => thread::yield_now(),
         }
-        if accepted == limit {
-            queue.close();
-        }
     }
     accepted
+}
+
+/// Pushes so many messages, closes the queue, and pushes until it finds it closed: how many are in.
+fn push_and_close<R: Wait>(rt: &R, queue: &ConcurrentQueue<u64>) -> u64 {
+    let accepted = push_from(rt, queue, 0, BEFORE);
+    queue.close();
+    accepted.wrapping_add(push_from(rt, queue, 0, u64::MAX))
 }
 
 /// Pops until the queue is closed and empty.
@@ -83,27 +79,44 @@ fn pop_all<R: Wait>(rt: &R, alloc: Global, queue: &ConcurrentQueue<u64>) -> Vec<
     messages
 }
 
-/// What one of four threads does: how many messages it pushed, as the first two do, or those that it popped.
+/// What one of the threads does: how many messages it pushed, or how many logs were wrong, or the messages that it popped.
 fn work<R: Wait>(
     rt: &R,
     alloc: Global,
     queue: &ConcurrentQueue<u64>,
-    (pushing, thread): (Pushing, usize),
+    (working, thread): (Working, usize),
     ended: &AtomicUsize,
 ) -> (u64, Vec<u64>) {
-    let pushed = match (pushing, thread) {
-        (Pushing::All, 0 | 1) => {
-            push_all(rt, queue, EACH.wrapping_mul(thread as u64));
+    let count = match (working, thread) {
+        (Working::All, 0 | 1) => {
+            let accepted = push_from(rt, queue, EACH.wrapping_mul(thread as u64), EACH);
             if ended.fetch_add(1, Ordering::SeqCst) == 1 {
                 queue.close();
             }
-            EACH
+            accepted
         }
-        (Pushing::UntilClosed, 0) => push_until_closed(rt, queue, BEFORE),
-        (Pushing::UntilClosed, 1) => push_until_closed(rt, queue, u64::MAX),
+        (Working::UntilClosed, 0) => push_and_close(rt, queue),
+        (Working::UntilClosed, 1) => push_from(rt, queue, 0, u64::MAX),
+        (Working::Logged, _) => wrong_logs(rt, alloc, queue),
         _ => return (0, pop_all(rt, alloc, queue)),
     };
-    (pushed, Vec::new(alloc))
+    (count, Vec::new(alloc))
+}
+
+/// What so many threads do at once.
+fn at_once<R: Threads + Wait + Sync>(
+    rt: &R,
+    alloc: Global,
+    queue: &ConcurrentQueue<u64>,
+    (working, threads): (Working, usize),
+) -> Result<Vec<(u64, Vec<u64>)>, AllocError> {
+    let ended = AtomicUsize::new(0);
+    thread::map_indices(
+        rt,
+        alloc,
+        threads,
+        &|thread| { work(rt, alloc, queue, (working, thread), &ended) },
+    )
 }
 
 /// Whether the messages of each pushing thread stand in order, and none twice.
@@ -137,16 +150,16 @@ fn are_all(one: &[u64], other: &[u64]) -> bool {
 }
 
 /// Whether two threads that pop got just what two others pushed, as far as that is known.
-fn got_all(pushing: Pushing, done: &[(u64, Vec<u64>)]) -> bool {
+fn got_all(working: Working, done: &[(u64, Vec<u64>)]) -> bool {
     let [first, second, third, fourth] = done else {
         return false;
     };
     let (one, other) = (third.1.as_slice(), fourth.1.as_slice());
     let popped = one.len().saturating_add(other.len()) as u64;
     popped == first.0.wrapping_add(second.0)
-        && match pushing {
-            Pushing::All => are_all(one, other),
-            Pushing::UntilClosed => first.0 == BEFORE,
+        && match working {
+            Working::UntilClosed => first.0 == BEFORE,
+            _ => are_all(one, other),
         }
 }
 
@@ -155,54 +168,13 @@ fn four_threads<R: Threads + Wait + Sync>(
     rt: &R,
     alloc: Global,
     queue: &ConcurrentQueue<u64>,
-    pushing: Pushing,
+    working: Working,
 ) -> bool {
-    let ended = AtomicUsize::new(0);
-    let done = thread::map_indices(
-        rt,
-        alloc,
-        4,
-        &|thread| { work(rt, alloc, queue, (pushing, thread), &ended) },
-    );
-    let got = match &done {
-        Ok(done) => got_all(pushing, done.as_slice()),
+    let got = match &at_once(rt, alloc, queue, (working, 4)) {
+        Ok(done) => got_all(working, done.as_slice()),
         Err(AllocError) => false,
     };
-    drop(done);
     got && queue.pop(rt) == Err(PopError::Closed) && queue.push(rt, 7) == Err(PushError::Closed(7))
-}
-
-/// The same in a queue with so many places, or without a bound where that is 0.
-fn passes<R: Threads + Wait + Sync>(
-    rt: &R,
-    alloc: Global,
-    capacity: usize,
-    pushing: Pushing,
-) -> bool {
-    let Some(queue) = opened(alloc, capacity) else {
-        return false;
-    };
-    four_threads(rt, alloc, &queue, pushing)
-}
-
-#[test]
-fn each_message_is_found_once_and_in_order(rt: HostRuntime) {
-    for capacity in 1..5 {
-        expect_true(&rt, passes(&rt, rt.alloc(), capacity, Pushing::All));
-    }
-}
-
-#[test]
-fn the_same_in_an_unbounded_queue(rt: HostRuntime) {
-    expect_true(&rt, passes(&rt, rt.alloc(), 0, Pushing::All));
-}
-
-/// In queues with one place, with two, with three and without a bound.
-#[test]
-fn a_closed_queue_gives_the_rest_and_then_closed(rt: HostRuntime) {
-    for capacity in 0..4 {
-        expect_true(&rt, passes(&rt, rt.alloc(), capacity, Pushing::UntilClosed));
-    }
 }
 
 fn crosses<X: Send + Sync>(_queue: &X) -> bool {
@@ -214,11 +186,35 @@ fn queue_crosses<T: Drop + Send>(queue: &ConcurrentQueue<T>) -> bool {
     crosses(queue)
 }
 
-#[test]
-fn queues_cross_threads(rt: HostRuntime) {
-    let crosses = match &opened::<u64>(rt.alloc(), 0) {
-        Some(queue) => queue_crosses(queue),
-        None => false,
+/// The same in a queue with so many places, or without a bound where that is 0.
+fn passes<R: Threads + Wait + Sync>(
+    rt: &R,
+    alloc: Global,
+    capacity: usize,
+    working: Working,
+) -> bool {
+    let Some(queue) = opened(alloc, capacity) else {
+        return false;
     };
-    expect_true(&rt, crosses);
+    queue_crosses(&queue) && four_threads(rt, alloc, &queue, working)
+}
+
+#[test]
+fn each_message_is_found_once_and_in_order(rt: HostRuntime) {
+    for capacity in 1..5 {
+        expect_true(&rt, passes(&rt, rt.alloc(), capacity, Working::All));
+    }
+}
+
+#[test]
+fn the_same_in_an_unbounded_queue(rt: HostRuntime) {
+    expect_true(&rt, passes(&rt, rt.alloc(), 0, Working::All));
+}
+
+/// In queues with one place, with two, with three and without a bound.
+#[test]
+fn a_closed_queue_gives_the_rest_and_then_closed(rt: HostRuntime) {
+    for capacity in 0..4 {
+        expect_true(&rt, passes(&rt, rt.alloc(), capacity, Working::UntilClosed));
+    }
 }

@@ -1,34 +1,16 @@
 //! Each call of each form beside each two others, at each of its operations.
 
-use crate::beside::plain::{Kind, Plain};
+use crate::beside::plain::{CHANGES, KINDS, Kind, Plain};
 use crate::beside::{ALL, Beside, Events, Other};
 use crate::checks::expect_none;
 use crate::said::{Said, replied};
-use crate::scarce::Scarce;
-use concurrent_queue::cells::QueueForm;
-use concurrent_queue::plain::PlainCells;
+use crate::scarce::{Scarce, asked, cells_with};
+use crate::turns::form_of;
+use concurrent_queue::call::QueueAsk;
 use concurrent_queue::queue_call::{QueueCall, whole};
 use std::alloc::{AllocError, Global};
 use std::process::Abort;
 use std::sync::Wait;
-
-/// The calls.
-const KINDS: [Kind; 11] = [
-    Kind::Push,
-    Kind::ForcePush,
-    Kind::PushRefused,
-    Kind::ForceRefused,
-    Kind::Pop,
-    Kind::Close,
-    Kind::IsClosed,
-    Kind::IsEmpty,
-    Kind::IsFull,
-    Kind::Len,
-    Kind::Capacity,
-];
-
-/// Those that change a queue.
-const CHANGES: [Kind; 4] = [Kind::Push, Kind::ForcePush, Kind::Pop, Kind::Close];
 
 /// More blocks than these tests need.
 const BLOCKS: u32 = 8;
@@ -36,7 +18,8 @@ const BLOCKS: u32 = 8;
 /// A queue, and what is in it when the calls begin.
 #[derive(Clone, Copy)]
 struct Start {
-    form: QueueForm,
+    /// 0 for a queue without a bound.
+    capacity: usize,
     bound: usize,
     passed: u64,
     messages: u64,
@@ -60,7 +43,7 @@ type Wrong = ([&'static str; 3], [u32; 2], [Said; 3]);
 impl Case {
     /// That this came of it is explained by no list.
     fn wrong(self, outcome: &Outcome) -> Wrong {
-        let names = [self.kind.name(), self.first.name(), self.second.name()];
+        let names = [self.kind.name, self.first.name, self.second.name];
         let [first, second] = outcome.others;
         (
             names,
@@ -81,46 +64,22 @@ struct Outcome {
     came_whole: bool,
 }
 
-/// What a call answers that steps alone.
-fn alone(cells: &mut Scarce, kind: Kind, message: u64) -> Said {
-    let mut call = QueueCall::new(kind.ask(message));
-    let mut said = ("nothing", 0);
-    for _ in 0..ALL {
-        if let Some(reply) = call.step(cells) {
-            said = replied(&reply);
-            break;
-        }
-    }
-    said
-}
-
 impl Start {
     /// The cells of the queue, and the list that they stand for. So many messages have passed through it before.
     fn begin(self, alloc: Global) -> Result<(Scarce, Plain), AllocError> {
-        let cells = match self.form {
-            QueueForm::Unbounded => PlainCells::new(alloc, QueueForm::Unbounded)?,
-            QueueForm::Bounded(bound) if bound > 0 => {
-                PlainCells::new(alloc, QueueForm::Bounded(bound))?
-            }
-            QueueForm::Bounded(_) => return Err(AllocError),
-        };
-        let mut cells = Scarce {
-            cells,
-            left: BLOCKS,
-            idle: 0,
-        };
+        let mut cells = cells_with(alloc, self.capacity, BLOCKS)?;
         let mut plain = Plain::new(self.bound);
         for message in 0..self.passed {
-            alone(&mut cells, Kind::Push, message);
-            alone(&mut cells, Kind::Pop, 0);
+            asked(&mut cells, QueueAsk::Push(message));
+            asked(&mut cells, QueueAsk::Pop);
         }
         for message in 1..self.messages.saturating_add(1) {
-            alone(&mut cells, Kind::Push, message);
+            asked(&mut cells, QueueAsk::Push(message));
             plain.append(message);
         }
         if self.closed {
-            alone(&mut cells, Kind::Close, 0);
-            plain.close();
+            asked(&mut cells, QueueAsk::Close);
+            plain.closed = true;
         }
         Ok((cells, plain))
     }
@@ -130,7 +89,7 @@ impl Start {
 fn left_in(cells: &mut Scarce, bound: usize) -> Plain {
     let mut plain = Plain::new(bound);
     for _ in 0..8 {
-        match alone(cells, Kind::Pop, 0) {
+        match asked(cells, QueueAsk::Pop) {
             ("popped", message) => plain.append(message),
             _ => break,
         }
@@ -141,8 +100,8 @@ fn left_in(cells: &mut Scarce, bound: usize) -> Plain {
 /// Makes the calls.
 fn make<R: Wait>(rt: &R, start: Start, cells: Scarce, case: Case) -> Outcome {
     let mut beside = Beside {
-        form: start.form,
-        is_refused: case.kind.is_refused(),
+        form: form_of(start.capacity),
+        is_refused: case.kind.is_refused,
         cells,
         made: 0,
         turn: case.turn,
@@ -155,11 +114,9 @@ fn make<R: Wait>(rt: &R, start: Start, cells: Scarce, case: Case) -> Outcome {
     let said = replied(&whole::complete(rt, call, &mut beside));
     beside.let_on(ALL, ALL);
     beside.let_on(ALL, ALL);
-    let closed = alone(&mut beside.cells, Kind::Close, 0) == ("was closed", 0);
+    let closed = asked(&mut beside.cells, QueueAsk::Close) == ("was closed", 0);
     let mut left = left_in(&mut beside.cells, start.bound);
-    if closed {
-        left.close();
-    }
+    left.closed = closed;
     let others = [
         beside.first.said.unwrap_or(("nothing", 0)),
         beside.second.said.unwrap_or(("nothing", 0)),
@@ -279,10 +236,10 @@ fn wrong_beside<R: Wait>(
 
 /// The same of each call beside each two others.
 fn wrong_in<R: Wait>(rt: &R, alloc: Global, start: Start) -> Result<Option<Wrong>, AllocError> {
-    for kind in KINDS {
-        for first in KINDS {
-            for second in CHANGES {
-                let wrong = wrong_beside(rt, alloc, start, [kind, first, second])?;
+    for kind in &KINDS {
+        for first in &KINDS {
+            for second in &CHANGES {
+                let wrong = wrong_beside(rt, alloc, start, [*kind, *first, *second])?;
                 if wrong.is_some() {
                     return Ok(wrong);
                 }
@@ -292,18 +249,18 @@ fn wrong_in<R: Wait>(rt: &R, alloc: Global, start: Start) -> Result<Option<Wrong
     Ok(None)
 }
 
-/// Each call beside each two others, on a queue of this form with so many messages, open and closed.
+/// Each call beside each two others, on a queue of this capacity with so many messages, open and closed.
 fn check<R: Wait + Abort>(
     rt: &R,
     alloc: Global,
-    form: QueueForm,
+    capacity: usize,
     bound: usize,
     passed: u64,
     messages: u64,
 ) {
     for closed in [false, true] {
         let start = Start {
-            form,
+            capacity,
             bound,
             passed,
             messages,
@@ -317,20 +274,20 @@ fn check<R: Wait + Abort>(
 #[test]
 fn one_slot_beside_others(rt: HostRuntime) {
     for messages in 0..2 {
-        check(&rt, rt.alloc(), QueueForm::Bounded(1), 1, 0, messages);
+        check(&rt, rt.alloc(), 1, 1, 0, messages);
     }
 }
 
 #[test]
 fn a_ring_beside_others(rt: HostRuntime) {
     for messages in 0..3 {
-        check(&rt, rt.alloc(), QueueForm::Bounded(2), 2, 1, messages);
+        check(&rt, rt.alloc(), 2, 2, 1, messages);
     }
 }
 
 #[test]
 fn blocks_beside_others(rt: HostRuntime) {
     for (passed, messages) in [(0, 0), (0, 1), (29, 1)] {
-        check(&rt, rt.alloc(), QueueForm::Unbounded, 9, passed, messages);
+        check(&rt, rt.alloc(), 0, 9, passed, messages);
     }
 }

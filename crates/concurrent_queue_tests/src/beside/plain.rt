@@ -5,13 +5,9 @@ use concurrent_queue::call::{QueueAsk, QueueMark};
 
 /// What a call asks.
 #[derive(Clone, Copy)]
-pub(crate) enum Kind {
+pub(crate) enum Asks {
     Push,
     ForcePush,
-    /// A push that gets no block, where it needs one.
-    PushRefused,
-    /// A displacing push that gets none.
-    ForceRefused,
     Pop,
     Close,
     IsClosed,
@@ -21,44 +17,110 @@ pub(crate) enum Kind {
     Capacity,
 }
 
+/// A kind of call: what it is called, what it asks, and whether no block can be made for it.
+#[derive(Clone, Copy)]
+pub(crate) struct Kind {
+    pub(crate) name: &'static str,
+    pub(crate) asks: Asks,
+    pub(crate) is_refused: bool,
+}
+
+/// The calls. Two of them get no block, where they need one.
+pub(crate) static KINDS: [Kind; 11] = [
+    Kind {
+        name: "push",
+        asks: Asks::Push,
+        is_refused: false,
+    },
+    Kind {
+        name: "force",
+        asks: Asks::ForcePush,
+        is_refused: false,
+    },
+    Kind {
+        name: "push without memory",
+        asks: Asks::Push,
+        is_refused: true,
+    },
+    Kind {
+        name: "force without memory",
+        asks: Asks::ForcePush,
+        is_refused: true,
+    },
+    Kind {
+        name: "pop",
+        asks: Asks::Pop,
+        is_refused: false,
+    },
+    Kind {
+        name: "close",
+        asks: Asks::Close,
+        is_refused: false,
+    },
+    Kind {
+        name: "is_closed",
+        asks: Asks::IsClosed,
+        is_refused: false,
+    },
+    Kind {
+        name: "is_empty",
+        asks: Asks::IsEmpty,
+        is_refused: false,
+    },
+    Kind {
+        name: "is_full",
+        asks: Asks::IsFull,
+        is_refused: false,
+    },
+    Kind {
+        name: "len",
+        asks: Asks::Len,
+        is_refused: false,
+    },
+    Kind {
+        name: "capacity",
+        asks: Asks::Capacity,
+        is_refused: false,
+    },
+];
+
+/// Those that change a queue.
+pub(crate) static CHANGES: [Kind; 4] = [
+    Kind {
+        name: "push",
+        asks: Asks::Push,
+        is_refused: false,
+    },
+    Kind {
+        name: "force",
+        asks: Asks::ForcePush,
+        is_refused: false,
+    },
+    Kind {
+        name: "pop",
+        asks: Asks::Pop,
+        is_refused: false,
+    },
+    Kind {
+        name: "close",
+        asks: Asks::Close,
+        is_refused: false,
+    },
+];
+
 impl Kind {
-    /// What the call is called.
-    pub(crate) fn name(self) -> &'static str {
-        match self {
-            Kind::Push => "push",
-            Kind::ForcePush => "force",
-            Kind::PushRefused => "push without memory",
-            Kind::ForceRefused => "force without memory",
-            Kind::Pop => "pop",
-            Kind::Close => "close",
-            Kind::IsClosed => "is_closed",
-            Kind::IsEmpty => "is_empty",
-            Kind::IsFull => "is_full",
-            Kind::Len => "len",
-            Kind::Capacity => "capacity",
-        }
-    }
-
-    /// Whether no block can be made for it.
-    pub(crate) fn is_refused(self) -> bool {
-        match self {
-            Kind::PushRefused | Kind::ForceRefused => true,
-            _ => false,
-        }
-    }
-
     /// The question, with this message where it has one.
     pub(crate) fn ask(self, message: u64) -> QueueAsk<u64> {
-        match self {
-            Kind::Push | Kind::PushRefused => QueueAsk::Push(message),
-            Kind::ForcePush | Kind::ForceRefused => QueueAsk::ForcePush(message),
-            Kind::Pop => QueueAsk::Pop,
-            Kind::Close => QueueAsk::Close,
-            Kind::IsClosed => QueueAsk::IsClosed,
-            Kind::IsEmpty => QueueAsk::IsEmpty,
-            Kind::IsFull => QueueAsk::IsFull,
-            Kind::Len => QueueAsk::Len,
-            Kind::Capacity => QueueAsk::Capacity,
+        match self.asks {
+            Asks::Push => QueueAsk::Push(message),
+            Asks::ForcePush => QueueAsk::ForcePush(message),
+            Asks::Pop => QueueAsk::Pop,
+            Asks::Close => QueueAsk::Close,
+            Asks::IsClosed => QueueAsk::IsClosed,
+            Asks::IsEmpty => QueueAsk::IsEmpty,
+            Asks::IsFull => QueueAsk::IsFull,
+            Asks::Len => QueueAsk::Len,
+            Asks::Capacity => QueueAsk::Capacity,
         }
     }
 }
@@ -79,7 +141,7 @@ const ROOM: usize = 8;
 pub(crate) struct Plain {
     messages: [u64; ROOM],
     count: usize,
-    closed: bool,
+    pub(crate) closed: bool,
     bound: usize,
 }
 
@@ -99,10 +161,6 @@ impl Plain {
             *place = message;
             self.count = self.count.wrapping_add(1);
         }
-    }
-
-    pub(crate) fn close(&mut self) {
-        self.closed = true;
     }
 
     /// Takes the oldest message; 0 where there is none.
@@ -134,7 +192,7 @@ impl Plain {
                 taken = self.take();
                 self.append(event.message);
             }
-            QueueMark::Close => self.close(),
+            QueueMark::Close => self.closed = true,
         }
         taken
     }
@@ -173,6 +231,15 @@ impl Plain {
         }
     }
 
+    /// What a closing says, at one moment.
+    fn close(&mut self) -> Said {
+        if std::mem::replace(&mut self.closed, true) {
+            ("was closed", 0)
+        } else {
+            ("closed it", 0)
+        }
+    }
+
     /// How many messages there is room for.
     fn room(&self) -> Said {
         if self.bound < ROOM {
@@ -198,27 +265,20 @@ impl Plain {
     /// What a call says at one moment, and whether its message is still to come; found was this. The list has no blocks, so it can't say
     /// whether one was needed.
     pub(crate) fn answer(&mut self, kind: Kind, message: u64, found: Said) -> (Said, bool) {
-        match kind {
-            Kind::PushRefused | Kind::ForceRefused if found.0 == "no memory" => {
-                (self.refuse(message), false)
-            }
-            Kind::Push | Kind::PushRefused => (self.push(message), false),
-            Kind::ForcePush | Kind::ForceRefused => self.make_room(message),
-            Kind::Pop => (self.pop(), false),
-            Kind::Close => {
-                let said = if self.closed {
-                    "was closed"
-                } else {
-                    "closed it"
-                };
-                self.close();
-                ((said, 0), false)
-            }
-            Kind::IsClosed => (Plain::flag(self.closed), false),
-            Kind::IsEmpty => (Plain::flag(self.count == 0), false),
-            Kind::IsFull => (Plain::flag(self.is_full()), false),
-            Kind::Len => (("holds", self.count as u64), false),
-            Kind::Capacity => (self.room(), false),
+        if kind.is_refused && found.0 == "no memory" {
+            return (self.refuse(message), false);
         }
+        let said = match kind.asks {
+            Asks::Push => self.push(message),
+            Asks::ForcePush => return self.make_room(message),
+            Asks::Pop => self.pop(),
+            Asks::Close => self.close(),
+            Asks::IsClosed => Plain::flag(self.closed),
+            Asks::IsEmpty => Plain::flag(self.count == 0),
+            Asks::IsFull => Plain::flag(self.is_full()),
+            Asks::Len => ("holds", self.count as u64),
+            Asks::Capacity => self.room(),
+        };
+        (said, false)
     }
 }

@@ -6,7 +6,7 @@ use crate::by_steps::capacity_by_steps;
 use crate::checks::expect_equal;
 use crate::said::{Said, replied};
 use crate::shared::opened;
-use concurrent_queue::call::QueueReply;
+use crate::shared::standing::answer_within;
 use concurrent_queue::error::PopError;
 use concurrent_queue::queue_call::QueueCall;
 use concurrent_queue::shared::queue::ConcurrentQueue;
@@ -30,10 +30,9 @@ fn walked_by_turns<R: Wait>(
 
 #[test]
 fn a_walk_goes_on_after_none(rt: HostRuntime) {
-    let given = match &opened(rt.alloc(), 3) {
-        Some(queue) => walked_by_turns(&rt, queue).ok(),
-        None => None,
-    };
+    let queue = opened(rt.alloc(), 3).expect(&rt, "memory");
+    let given = walked_by_turns(&rt, &queue).ok();
+    drop(queue);
     expect_equal(&rt, &given, &Some([None, Some(7), None, Some(8)]));
 }
 
@@ -74,28 +73,22 @@ fn what_is_left_is_dropped_once(rt: HostRuntime) {
     );
 }
 
-/// What a step of a call over a shared queue answers.
-fn answer_of(reply: Option<QueueReply<u64>>) -> Said {
-    match &reply {
-        Some(reply) => replied(reply),
-        None => ("", 0),
-    }
-}
-
 /// What the three steps of a push answer.
 fn pushed_by_steps<R: Wait>(rt: &R, queue: &ConcurrentQueue<u64>) -> [Said; 3] {
     let mut push = QueueCall::push(7u64);
     [
-        answer_of(queue.step(rt, &mut push)),
-        answer_of(queue.step(rt, &mut push)),
-        answer_of(queue.step(rt, &mut push)),
+        answer_within(rt, queue, &mut push, 1),
+        answer_within(rt, queue, &mut push, 1),
+        answer_within(rt, queue, &mut push, 1),
     ]
 }
 
 /// What the step of a closing answers.
 fn closed_by_steps(queue: &ConcurrentQueue<u64>) -> Said {
-    let mut close = QueueCall::close();
-    answer_of(queue.step_words(&mut close))
+    match &queue.step_words(&mut QueueCall::close()) {
+        Some(reply) => replied(reply),
+        None => ("", 0),
+    }
 }
 
 /// The capacity of a queue with so many places, asked step by step. 0 where there is no queue.

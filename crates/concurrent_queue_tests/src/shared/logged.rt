@@ -1,20 +1,22 @@
 //! What calls of a shared queue do to its cells, as a trace of the caller's sees it.
 
 use crate::checks::{expect_equal, expect_true};
-use crate::log::{Did, Line, Log, To};
+use crate::log::{Did, Line, Log, To, blank};
 use crate::said::{Said, popped, pushed, replied};
-use crate::shared::opened;
+use crate::shared::{Working, at_once, opened};
 use concurrent_queue::call::QueueAsk;
 use concurrent_queue::queue_call::QueueCall;
 use concurrent_queue::shared::queue::ConcurrentQueue;
 use std::alloc::{AllocError, Global};
 use std::sync::Wait;
-use std::thread;
 use std::thread::Threads;
 
-/// Whether these are the lines of a log.
-fn has_lines(log: &Log, lines: &[Line]) -> bool {
-    log.lines() == Some(lines)
+/// Whether these are the lines of a log, which begins anew.
+fn has_lines(log: Log<'_>, alloc: Global, wanted: &[Line]) -> bool {
+    match log.lines.replace(Some(Vec::new(alloc))) {
+        Some(lines) => lines.as_slice() == wanted,
+        None => false,
+    }
 }
 
 /// The lines of a push of 5 into one slot, of a pop of it, and of a pop of none.
@@ -62,17 +64,15 @@ fn logs_are<R: Wait>(
     queue: &ConcurrentQueue<u64>,
     wanted: &[&[Line]; 3],
 ) -> bool {
-    let (pushed_it, push) = queue.push_seen(rt, 5, Log::new(alloc));
-    let pushed_so = has_lines(&push, wanted[0]) && pushed(&pushed_it) == ("pushed", 0);
-    drop(push);
-    let (popped_it, pop) = queue.pop_seen(rt, Log::new(alloc));
-    let popped_so = has_lines(&pop, wanted[1]) && popped(&popped_it) == ("popped", 5);
-    drop(pop);
-    let call = QueueCall::new(QueueAsk::Pop);
-    let (reply, empty) = queue.complete_seen(rt, call, Log::new(alloc));
-    let none = has_lines(&empty, wanted[2]) && replied(&reply) == ("empty", 0);
-    drop(empty);
-    pushed_so && popped_so && none
+    let lines = blank(alloc);
+    let log = Log { lines: &lines };
+    let (push, log) = queue.push_seen(rt, 5, log);
+    let pushed_so = has_lines(log, alloc, wanted[0]) && pushed(&push) == ("pushed", 0);
+    let (pop, log) = queue.pop_seen(rt, log);
+    let popped_so = has_lines(log, alloc, wanted[1]) && popped(&pop) == ("popped", 5);
+    let (none, log) = queue.complete_seen(rt, QueueCall::new(QueueAsk::Pop), log);
+    let none_so = has_lines(log, alloc, wanted[2]) && replied(&none) == ("empty", 0);
+    pushed_so && popped_so && none_so
 }
 
 /// The same of a queue with so many places.
@@ -128,10 +128,7 @@ fn is_of(line: Option<&Line>, operation: Operation) -> bool {
 
 /// Whether a log is of one call of a ring that answered so: it begins with the first operation of its machine, an answered
 /// call ends with the last one, and one place was won where a message came or went, and none where none did.
-fn is_of_one_call(log: &Log, said: Said) -> bool {
-    let Some(lines) = log.lines() else {
-        return true;
-    };
+fn is_of_one_call(lines: &[Line], said: Said) -> bool {
     let Some((first, last, places)) = of_a_call(said.0) else {
         return false;
     };
@@ -140,25 +137,28 @@ fn is_of_one_call(log: &Log, said: Said) -> bool {
     ends && count(lines, Did::Exchange) == places && went == places
 }
 
+/// How many logs these are that are not of one call that answered so, 0 or 1. The log begins anew. One without memory isn't looked at.
+fn wrong(log: Log<'_>, alloc: Global, said: Said) -> u64 {
+    match log.lines.replace(Some(Vec::new(alloc))) {
+        Some(lines) => u64::from(!is_of_one_call(lines.as_slice(), said)),
+        None => 0,
+    }
+}
+
 /// How many calls each of two threads makes.
 const CALLS: u64 = 2_000;
 
 /// Pushes and pops in turn: how many logs are not of one call.
-fn wrong_logs<R: Wait>(rt: &R, alloc: Global, queue: &ConcurrentQueue<u64>) -> u64 {
-    let mut wrong = 0u64;
+pub(crate) fn wrong_logs<R: Wait>(rt: &R, alloc: Global, queue: &ConcurrentQueue<u64>) -> u64 {
+    let lines = blank(alloc);
+    let mut found = 0u64;
     for message in 1..CALLS {
-        let (answer, log) = queue.push_seen(rt, message, Log::new(alloc));
-        if !is_of_one_call(&log, pushed(&answer)) {
-            wrong = wrong.wrapping_add(1);
-        }
-        drop(log);
-        let (answer, log) = queue.pop_seen(rt, Log::new(alloc));
-        if !is_of_one_call(&log, popped(&answer)) {
-            wrong = wrong.wrapping_add(1);
-        }
-        drop(log);
+        let (answer, log) = queue.push_seen(rt, message, Log { lines: &lines });
+        found = found.wrapping_add(wrong(log, alloc, pushed(&answer)));
+        let (answer, log) = queue.pop_seen(rt, log);
+        found = found.wrapping_add(wrong(log, alloc, popped(&answer)));
     }
-    wrong
+    found
 }
 
 /// Two threads at once on a ring of two places: whether each log by itself is one of a call.
@@ -167,17 +167,19 @@ fn two_at_once<R: Threads + Wait + Sync>(
     alloc: Global,
     queue: &ConcurrentQueue<u64>,
 ) -> bool {
-    match thread::map_indices(rt, alloc, 2, &|_| wrong_logs(rt, alloc, queue)) {
-        Ok(wrong) => wrong.as_slice() == [0, 0].as_slice(),
+    match &at_once(rt, alloc, queue, (Working::Logged, 2)) {
+        Ok(done) => match done.as_slice() {
+            [one, other] => one.0 == 0 && other.0 == 0,
+            _ => false,
+        },
         Err(AllocError) => false,
     }
 }
 
 #[test]
 fn logs_of_calls_at_once(rt: HostRuntime) {
-    let right = match &opened(rt.alloc(), 2) {
-        Some(queue) => two_at_once(&rt, rt.alloc(), queue),
-        None => false,
-    };
+    let queue = opened(rt.alloc(), 2).expect(&rt, "memory");
+    let right = two_at_once(&rt, rt.alloc(), &queue);
+    drop(queue);
     expect_true(&rt, right);
 }

@@ -9,7 +9,7 @@ use std::alloc::Global;
 use std::sync::Wait;
 
 /// What a call answers that makes so many steps at most; nothing where it is still under way after them.
-fn answer_within<R: Wait>(
+pub(crate) fn answer_within<R: Wait>(
     rt: &R,
     queue: &ConcurrentQueue<u64>,
     call: &mut QueueCall<u64>,
