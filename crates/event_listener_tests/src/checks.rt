@@ -15,6 +15,11 @@ pub fn expect_true<A: Abort>(rt: &A, it: bool) {
     assert!(rt; it);
 }
 
+/// Ends the test where something is found, and shows where and what.
+pub fn expect_none<A: Abort, S: Debug, T: Debug>(rt: &A, place: &S, found: &Option<T>) {
+    assert!(rt; found.is_none(), "{place:?}: {found:?}");
+}
+
 /// Plays these rows. Ends the test at the first call that answers another thing than its row says, and where there are not so many rows.
 pub fn expect_rows<A: Abort + AllocGlobal, P: Player>(
     rt: &A,
@@ -23,6 +28,6 @@ pub fn expect_rows<A: Abort + AllocGlobal, P: Player>(
     rows: u64,
 ) {
     let played = play_rows(rt.alloc(), text, player).expect(rt, "memory");
-    let right = played.differs.is_none() && played.rows == rows;
-    assert!(rt; right, "of {rows} rows: {played:?}");
+    expect_none(rt, &rows, &played.differs);
+    expect_equal(rt, &played.rows, &rows);
 }

@@ -2,23 +2,13 @@
 ghost use Rattle.std.specs.Prelude.{◌≡◌, ◌+◌, ◌<◌, ◌≤◌, length};
 
 use crate::checks::expect_equal;
+use crate::notices::Nobody;
 use event_listener::key::Key;
 use event_listener::recorded::{RecordedCall, RecordedEvent};
-use event_listener::wakes::Wakes;
 use std::alloc::AllocGlobal;
 use std::marker::Brand;
 use std::sync::Wait;
 use std::sync::ledger::{Blank, Ledger, Share};
-
-/// A sink that lets tasks go.
-#[derive(Drop)]
-struct Nobody;
-
-impl Wakes<u8> for Nobody {
-    ghost wakes = { λ s t u. Unit {0} };
-
-    fn wake(&mut self, _task: u8) {}
-}
 
 /// A listener gets a task, and leaves: how many of these calls were accepted.
 fn register_and_leave<L: Ledger, R: Wait>(

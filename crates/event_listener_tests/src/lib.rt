@@ -17,6 +17,8 @@ mod id;
 #[cfg(test)]
 mod integers;
 #[cfg(test)]
+mod jobs;
+#[cfg(test)]
 mod list;
 #[cfg(test)]
 mod list_rows;

@@ -71,6 +71,16 @@ impl Wakes<u32> for Names {
     }
 }
 
+/// A sink that lets tasks go.
+#[derive(Drop)]
+pub(crate) struct Nobody;
+
+impl Wakes<u8> for Nobody {
+    ghost wakes = { λ s t u. Unit {0} };
+
+    fn wake(&mut self, _task: u8) {}
+}
+
 /// Writes numbers, one behind another.
 pub(crate) fn write_numbers(numbers: &[u32], answer: &mut String) -> Result<(), AllocError> {
     for number in numbers {

@@ -3,6 +3,7 @@
 ghost use Rattle.std.specs.Prelude.{◌≡◌};
 
 use crate::checks::expect_equal;
+use crate::notices::Nobody;
 use event_listener::error::{ListenError, NoMemory, NotifyError, UnknownListener};
 use event_listener::id::IdsUsedUp;
 use event_listener::key::Key;
@@ -10,7 +11,6 @@ use event_listener::list::List;
 use event_listener::listener::{PollFault, WaitError};
 use event_listener::recorded::{RecordedCall, RecordedEvent, RegisterError};
 use event_listener::run::{ListCall, ListReply, ListRun, Target};
-use event_listener::wakes::Wakes;
 use std::alloc::{AllocGlobal, Global};
 use std::collections::VecDeque;
 use std::fmt;
@@ -88,16 +88,6 @@ fn waits_that_did_not_begin_say_why(rt: HostRuntime) {
 fn first_key(rt: &(impl AllocGlobal + Abort)) -> Key {
     let mut list: List<u8, u8> = List::new(rt.alloc());
     list.insert().expect(rt, "memory")
-}
-
-/// A sink that lets tasks go.
-#[derive(Drop)]
-struct Nobody;
-
-impl Wakes<u8> for Nobody {
-    ghost wakes = { λ s t u. Unit {0} };
-
-    fn wake(&mut self, _task: u8) {}
 }
 
 #[test]
