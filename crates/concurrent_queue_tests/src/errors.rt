@@ -1,6 +1,6 @@
 //! What errors say and hand back.
 
-use crate::checks::{expect_equal, expect_true};
+use crate::checks::expect_equal;
 use concurrent_queue::error::{ForcePushError, NoMemory, PopError, PushError};
 use concurrent_queue::{
     ConcurrentQueue, QueueAsk, QueueEntry, QueueForm, QueueMark, QueueRefusal, QueueReply,
@@ -151,7 +151,7 @@ fn shows<T: Debug>(alloc: Global, value: &T, text: &str) -> bool {
 }
 
 #[test]
-fn steps_are_compared_and_shown(rt: HostRuntime) {
+fn steps_and_forms_are_compared_and_shown(rt: HostRuntime) {
     let begin: QueueStep<u64> = QueueStep::Begin {
         party: 1,
         call: QueueAsk::Pop,
@@ -161,14 +161,12 @@ fn steps_are_compared_and_shown(rt: HostRuntime) {
     drop(step);
     let shown = shows(rt.alloc(), &begin, "Begin { party: 1, call: Pop }");
     drop(begin);
-    expect_equal(&rt, &(compared, shown), &(true, true));
-}
-
-#[test]
-fn forms_are_compared_and_shown(rt: HostRuntime) {
     let form = QueueForm::Bounded(1);
-    expect_true(&rt, form != QueueForm::Unbounded);
-    expect_true(&rt, shows(rt.alloc(), &form, "Bounded(1)"));
+    let forms = [
+        form != QueueForm::Unbounded,
+        shows(rt.alloc(), &form, "Bounded(1)"),
+    ];
+    expect_equal(&rt, &([compared, shown], forms), &([true; 2], [true; 2]));
 }
 
 /// Whether its second entry and what stopped it are shown so.

@@ -95,6 +95,24 @@ fn in_order(given: &[u64], first: u64) -> Said {
     Said::count(given.len())
 }
 
+/// A push, a displacing push or a pop of a queue of one owner.
+fn alone_call(queue: &mut Exclusive<u64>, verb: &str, message: u64) -> Answer {
+    match verb {
+        "push" => pushed(&queue.push(message)),
+        "force" => forced(&queue.force_push(message)),
+        _ => popped(&queue.pop()),
+    }
+}
+
+/// The same of a shared one.
+fn shared_call<R: Wait>(rt: &R, queue: &ConcurrentQueue<u64>, verb: &str, message: u64) -> Answer {
+    match verb {
+        "push" => pushed(&queue.push(rt, message)),
+        "force" => forced(&queue.force_push(rt, message)),
+        _ => popped(&queue.pop(rt)),
+    }
+}
+
 /// What a question says.
 fn alone_answers(
     alloc: Global,
@@ -153,26 +171,11 @@ impl<R: Wait + Copy> Queues<R> {
         said
     }
 
-    fn push(&mut self, message: u64) -> Answer {
+    /// A push, a displacing push or a pop.
+    fn one(&mut self, verb: &str, message: u64) -> Answer {
         match &mut self.queue {
-            Queue::Alone(queue) => pushed(&queue.push(message)),
-            Queue::Shared(queue) => pushed(&queue.push(&self.rt, message)),
-            Queue::None => ("no queue", 0),
-        }
-    }
-
-    fn force(&mut self, message: u64) -> Answer {
-        match &mut self.queue {
-            Queue::Alone(queue) => forced(&queue.force_push(message)),
-            Queue::Shared(queue) => forced(&queue.force_push(&self.rt, message)),
-            Queue::None => ("no queue", 0),
-        }
-    }
-
-    fn pop(&mut self) -> Answer {
-        match &mut self.queue {
-            Queue::Alone(queue) => popped(&queue.pop()),
-            Queue::Shared(queue) => popped(&queue.pop(&self.rt)),
+            Queue::Alone(queue) => alone_call(queue, verb, message),
+            Queue::Shared(queue) => shared_call(&self.rt, queue, verb, message),
             Queue::None => ("no queue", 0),
         }
     }
@@ -182,13 +185,11 @@ impl<R: Wait + Copy> Queues<R> {
         let mut right = 0u64;
         for message in first..end {
             let is_right = match verb {
-                "pushes" => self.push(message) == ("pushed", 0),
-                "forces" => self.force(message) == ("forced", 0),
-                _ => self.pop() == ("popped", message),
+                "pushes" => self.one("push", message) == ("pushed", 0),
+                "forces" => self.one("force", message) == ("forced", 0),
+                _ => self.one("pop", 0) == ("popped", message),
             };
-            if is_right {
-                right = right.wrapping_add(1);
-            }
+            right = right.wrapping_add(u64::from(is_right));
         }
         right
     }
@@ -226,9 +227,8 @@ impl<R: Wait + Copy> Queues<R> {
         match words.word() {
             "alone" => self.put(opened_alone(self.alloc, words.size())),
             "shared" => self.put(opened_shared(self.alloc, words.size())),
-            "push" => in_words(self.push(words.number())),
-            "force" => in_words(self.force(words.number())),
-            "pop" => in_words(self.pop()),
+            verb @ ("push" | "force") => in_words(self.one(verb, words.number())),
+            "pop" => in_words(self.one("pop", 0)),
             verb => self.call_many(verb, words),
         }
     }

@@ -184,37 +184,33 @@ impl Outcome {
 
 /// What no list explains, of a call beside two others that come before this operation of it: the second one after one step of
 /// the first, after two, and so on up to its end. `None` where each is explained; and whether the call had such an operation.
-fn wrong_at<R: Wait>(
+fn wrong_at<R: Wait + Abort>(
     rt: &R,
     alloc: Global,
     start: Start,
     mut case: Case,
-) -> Result<(Option<Wrong>, bool), AllocError> {
+) -> (Option<Wrong>, bool) {
     for steps in 1..ALL {
         case.steps = steps;
-        let (cells, plain) = start.begin(alloc)?;
+        let (cells, plain) = start.begin(alloc).expect(rt, "memory");
         let outcome = make(rt, start, cells, case);
         if !outcome.is_explained(case.kind, plain) {
-            return Ok((Some(case.wrong(&outcome)), true));
+            return (Some(case.wrong(&outcome)), true);
         }
-        if !outcome.came {
-            return Ok((None, false));
-        }
-        if outcome.came_whole {
-            break;
+        if !outcome.came || outcome.came_whole {
+            return (None, outcome.came);
         }
     }
-    Ok((None, true))
+    (None, true)
 }
 
 /// The same at each of its operations.
-fn wrong_beside<R: Wait>(
+fn wrong_beside<R: Wait + Abort>(
     rt: &R,
     alloc: Global,
     start: Start,
-    kinds: [Kind; 3],
-) -> Result<Option<Wrong>, AllocError> {
-    let [kind, first, second] = kinds;
+    [kind, first, second]: [Kind; 3],
+) -> Option<Wrong> {
     for turn in 1..ALL {
         let case = Case {
             kind,
@@ -223,30 +219,27 @@ fn wrong_beside<R: Wait>(
             turn,
             steps: 1,
         };
-        let (wrong, came) = wrong_at(rt, alloc, start, case)?;
-        if wrong.is_some() {
-            return Ok(wrong);
-        }
-        if !came {
-            break;
+        let (wrong, came) = wrong_at(rt, alloc, start, case);
+        if wrong.is_some() || !came {
+            return wrong;
         }
     }
-    Ok(None)
+    None
 }
 
 /// The same of each call beside each two others.
-fn wrong_in<R: Wait>(rt: &R, alloc: Global, start: Start) -> Result<Option<Wrong>, AllocError> {
+fn wrong_in<R: Wait + Abort>(rt: &R, alloc: Global, start: Start) -> Option<Wrong> {
     for kind in &KINDS {
         for first in &KINDS {
             for second in &CHANGES {
-                let wrong = wrong_beside(rt, alloc, start, [*kind, *first, *second])?;
+                let wrong = wrong_beside(rt, alloc, start, [*kind, *first, *second]);
                 if wrong.is_some() {
-                    return Ok(wrong);
+                    return wrong;
                 }
             }
         }
     }
-    Ok(None)
+    None
 }
 
 /// Each call beside each two others, on a queue of this capacity with so many messages, open and closed.
@@ -266,7 +259,7 @@ fn check<R: Wait + Abort>(
             messages,
             closed,
         };
-        let wrong = wrong_in(rt, alloc, start).expect(rt, "memory");
+        let wrong = wrong_in(rt, alloc, start);
         expect_none(rt, &(bound, passed, messages, closed), &wrong);
     }
 }

@@ -99,20 +99,20 @@ fn places(alloc: Global, capacity: usize) -> Option<usize> {
     capacity_by_steps(&queue)
 }
 
+/// The capacities of queues with one place, with three, and without a bound.
+fn all_places(alloc: Global) -> [Option<usize>; 3] {
+    [places(alloc, 1), places(alloc, 3), places(alloc, 0)]
+}
+
 #[test]
 fn calls_go_by_steps(rt: HostRuntime) {
     let queue = opened(rt.alloc(), 1).expect(&rt, "memory");
     let pushing = pushed_by_steps(&rt, &queue);
     let closing = (closed_by_steps(&queue), queue.is_closed());
     drop(queue);
-    let alloc = rt.alloc();
-    let places = [places(alloc, 1), places(alloc, 3), places(alloc, 0)];
     expect_equal(&rt, &pushing, &[("", 0), ("", 0), ("pushed", 0)]);
-    expect_equal(
-        &rt,
-        &(closing, places),
-        &((("closed it", 0), true), [Some(1), Some(3), None]),
-    );
+    expect_equal(&rt, &closing, &(("closed it", 0), true));
+    expect_equal(&rt, &all_places(rt.alloc()), &[Some(1), Some(3), None]);
 }
 
 /// A message that keeps a fact.

@@ -11,10 +11,10 @@ use std::alloc::{AllocError, Global};
 use std::sync::Wait;
 use std::thread::Threads;
 
-/// Whether these are the lines of a log, which begins anew.
-fn has_lines(log: Log<'_>, alloc: Global, wanted: &[Line]) -> bool {
+/// Whether a call answered so, and these are the lines of its log, which begins anew.
+fn is_logged(log: Log<'_>, alloc: Global, wanted: &[Line], [said, answer]: [Said; 2]) -> bool {
     match log.lines.replace(Some(Vec::new(alloc))) {
-        Some(lines) => lines.as_slice() == wanted,
+        Some(lines) => said == answer && lines.as_slice() == wanted,
         None => false,
     }
 }
@@ -66,13 +66,13 @@ fn logs_are<R: Wait>(
 ) -> bool {
     let lines = blank(alloc);
     let log = Log { lines: &lines };
-    let (push, log) = queue.push_seen(rt, 5, log);
-    let pushed_so = has_lines(log, alloc, wanted[0]) && pushed(&push) == ("pushed", 0);
-    let (pop, log) = queue.pop_seen(rt, log);
-    let popped_so = has_lines(log, alloc, wanted[1]) && popped(&pop) == ("popped", 5);
-    let (none, log) = queue.complete_seen(rt, QueueCall::new(QueueAsk::Pop), log);
-    let none_so = has_lines(log, alloc, wanted[2]) && replied(&none) == ("empty", 0);
-    pushed_so && popped_so && none_so
+    let (answer, log) = queue.push_seen(rt, 5, log);
+    let push = is_logged(log, alloc, wanted[0], [pushed(&answer), ("pushed", 0)]);
+    let (answer, log) = queue.pop_seen(rt, log);
+    let pop = is_logged(log, alloc, wanted[1], [popped(&answer), ("popped", 5)]);
+    let (reply, log) = queue.complete_seen(rt, QueueCall::new(QueueAsk::Pop), log);
+    let none = is_logged(log, alloc, wanted[2], [replied(&reply), ("empty", 0)]);
+    push && pop && none
 }
 
 /// The same of a queue with so many places.

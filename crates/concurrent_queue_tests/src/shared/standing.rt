@@ -68,41 +68,37 @@ fn as_it_is(capacity: Option<usize>, is_in: bool) -> [Said; 6] {
     ]
 }
 
-/// What came of a closing and of all questions beside a push.
-#[derive(Clone, Copy)]
-enum Came {
-    /// They answered, and the push and a pop after them, as they should.
-    Right,
-    /// They didn't.
-    Wrong,
-    /// The push had answered before.
-    Late,
+/// Whether a closing and all questions answered as they should beside a push of 7, and the push and a pop after them as the
+/// questions said.
+fn is_right(asked: [Said; 6], capacity: Option<usize>, [pushed, popped]: [Said; 2]) -> bool {
+    let is_in = pushed == ("pushed", 0);
+    let rest = if is_in {
+        popped == ("popped", 7)
+    } else {
+        pushed == ("closed", 7) && popped == ("shut", 0)
+    };
+    rest && asked == as_it_is(capacity, is_in)
 }
 
-/// Whether the closing and the questions answer beside a push of 7 that has made so many steps, and the push and a pop after them
-/// as the questions said.
-fn answer_beside<R: Wait>(rt: &R, queue: &ConcurrentQueue<u64>, steps: u32) -> Came {
+/// Whether the closing and the questions answer so beside a push that has made so many steps. None where the push had answered
+/// before.
+fn answer_beside<R: Wait>(rt: &R, queue: &ConcurrentQueue<u64>, steps: u32) -> Option<bool> {
     let mut push = QueueCall::push(7u64);
     let begun = answer_within(rt, queue, &mut push, steps);
     let asked = closed_and_asked(rt, queue);
-    let pushed = answer_within(rt, queue, &mut push, 64);
+    let after = [
+        answer_within(rt, queue, &mut push, 64),
+        popped(&queue.pop(rt)),
+    ];
     drop(push);
-    let is_in = pushed == ("pushed", 0);
-    let left = if is_in { ("popped", 7) } else { ("shut", 0) };
-    let is_right = asked == as_it_is(queue.capacity(), is_in) && (is_in || pushed == ("closed", 7));
-    if begun != ("", 0) {
-        Came::Late
-    } else if is_right && popped(&queue.pop(rt)) == left {
-        Came::Right
-    } else {
-        Came::Wrong
-    }
+    let right = is_right(asked, queue.capacity(), after);
+    (begun == ("", 0)).then_some(right)
 }
 
 /// The same in a new queue with so many places, or without a bound where that is 0.
-fn at_place<R: Wait>(rt: &R, alloc: Global, capacity: usize, steps: u32) -> Came {
+fn at_place<R: Wait>(rt: &R, alloc: Global, capacity: usize, steps: u32) -> Option<bool> {
     let Some(queue) = opened(alloc, capacity) else {
-        return Came::Wrong;
+        return Some(false);
     };
     answer_beside(rt, &queue, steps)
 }
@@ -111,9 +107,9 @@ fn at_place<R: Wait>(rt: &R, alloc: Global, capacity: usize, steps: u32) -> Came
 fn places_passed<R: Wait>(rt: &R, alloc: Global, capacity: usize) -> u32 {
     for steps in 0..64u32 {
         match at_place(rt, alloc, capacity, steps) {
-            Came::Right => {}
-            Came::Wrong => return 0,
-            Came::Late => return steps,
+            Some(true) => {}
+            Some(false) => return 0,
+            None => return steps,
         }
     }
     0

@@ -2,7 +2,7 @@
 
 use crate::checks::expect_equal;
 use crate::log::{Line, Lines, Log, blank};
-use crate::said::{popped, pushed};
+use crate::said::{Said, popped, pushed};
 use concurrent_queue::shared::queue::ConcurrentQueue;
 use std::alloc::Global;
 use std::sync::Wait;
@@ -18,29 +18,29 @@ fn count(lines: &Lines) -> usize {
     count
 }
 
-/// A push of 5 into one slot, a pop of it, a pop of none and a close: how many operations were seen after each.
-fn seen_of_each<R: Wait>(rt: &R, alloc: Global) -> [usize; 4] {
+/// What a call answered, and how many operations were seen up to its end.
+type Seen = (Said, usize);
+
+/// What came of a push of 5 into one slot, of a pop of it and of a pop of none; then of a close, whether it was the first.
+fn seen_of_each<R: Wait>(rt: &R, alloc: Global) -> Option<([Seen; 3], (bool, usize))> {
     let lines = blank(alloc);
-    let Ok(queue) = ConcurrentQueue::bounded_watched(alloc, 1, Log { lines: &lines }) else {
-        return [0; 4];
-    };
-    let push = pushed(&queue.push(rt, 5)) == ("pushed", 0);
-    let of_a_push = count(&lines);
-    let pop = popped(&queue.pop(rt)) == ("popped", 5);
-    let of_a_pop = count(&lines);
-    let none = popped(&queue.pop(rt)) == ("empty", 0);
-    let of_none = count(&lines);
-    let close = queue.close();
-    let of_a_close = count(&lines);
+    let queue = ConcurrentQueue::bounded_watched(alloc, 1, Log { lines: &lines }).ok()?;
+    let calls = [
+        (pushed(&queue.push(rt, 5)), count(&lines)),
+        (popped(&queue.pop(rt)), count(&lines)),
+        (popped(&queue.pop(rt)), count(&lines)),
+    ];
+    let close = (queue.close(), count(&lines));
     drop(queue);
-    if push && pop && none && close {
-        [of_a_push, of_a_pop, of_none, of_a_close]
-    } else {
-        [0; 4]
-    }
+    Some((calls, close))
 }
 
 #[test]
 fn a_watch_is_shown_each_call(rt: HostRuntime) {
-    expect_equal(&rt, &seen_of_each(&rt, rt.alloc()), &[3, 6, 7, 8]);
+    let calls = [(("pushed", 0), 3), (("popped", 5), 6), (("empty", 0), 7)];
+    expect_equal(
+        &rt,
+        &seen_of_each(&rt, rt.alloc()),
+        &Some((calls, (true, 8))),
+    );
 }
