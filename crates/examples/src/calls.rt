@@ -96,58 +96,45 @@ fn clones<R: Wait + Copy>(ends: Ends<R>) -> Option<bool> {
     Some(open && receiver.is_closed() && weak.upgrade().ok()?.is_none())
 }
 
-/// Those that open a channel.
-fn openings<R: Wait + Copy>(rt: R, alloc: Global, ids: &mut EventIds) -> Option<[bool; 2]> {
-    Some([opens(rt, alloc, ids)?, opens_unbounded(rt, alloc, ids)?])
-}
-
-/// Those that wait for nobody.
-fn tries<R: Wait + Copy>(rt: R, alloc: Global, ids: &mut EventIds) -> Option<[bool; 4]> {
-    Some([
-        tries_to_send(&bounded(rt, alloc, 1, ids).ok()?)?,
-        displaces(&bounded(rt, alloc, 1, ids).ok()?)?,
-        tries_to_receive(&bounded(rt, alloc, 1, ids).ok()?)?,
-        receives_several(&unbounded(rt, alloc, ids).ok()?)?,
-    ])
-}
-
-/// Those that end a channel, or one of its handles.
-fn endings<R: Wait + Copy>(rt: R, alloc: Global, ids: &mut EventIds) -> Option<[bool; 2]> {
-    Some([
-        closes(&bounded(rt, alloc, 1, ids).ok()?)?,
-        clones(bounded(rt, alloc, 1, ids).ok()?)?,
-    ])
-}
-
-/// Those that are run to their end.
-fn runs<R>(rt: R, alloc: Global, ids: &mut EventIds) -> Option<[bool; 2]>
+/// Whether the one with this number is right, on a channel of one place.
+fn answers<R>(rt: R, ends: &Ends<R>, number: u32) -> Option<bool>
 where
     R: Wait + Copy + RandomSource + AllocGlobal,
 {
-    Some([
-        sends(rt, &bounded(rt, alloc, 1, ids).ok()?)?,
-        receives(rt, &bounded(rt, alloc, 1, ids).ok()?)?,
-    ])
-}
-
-fn count(answers: &[bool]) -> u64 {
-    let mut right = 0u64;
-    for answer in answers {
-        if *answer {
-            right = right.wrapping_add(1);
-        }
+    match number {
+        0 => tries_to_send(ends),
+        1 => displaces(ends),
+        2 => sends(rt, ends),
+        3 => tries_to_receive(ends),
+        4 => receives(rt, ends),
+        _ => closes(ends),
     }
-    right
 }
 
-/// How many of them answer as they are told to.
+/// How many of the six that take a channel of one place are right, each on a channel of its own.
+fn right_on_one_place<R>(rt: R, alloc: Global, ids: &mut EventIds) -> Option<u64>
+where
+    R: Wait + Copy + RandomSource + AllocGlobal,
+{
+    let mut right = 0u64;
+    for number in 0..6 {
+        let ends = bounded(rt, alloc, 1, ids).ok()?;
+        let answer = answers(rt, &ends, number)?;
+        right = right.wrapping_add(u64::from(answer));
+    }
+    Some(right)
+}
+
+/// How many of all answer as they are told to.
 pub(crate) fn right<R>(rt: R, alloc: Global, ids: &mut EventIds) -> Option<u64>
 where
     R: Wait + Copy + RandomSource + AllocGlobal,
 {
-    let right = count(&openings(rt, alloc, ids)?)
-        .wrapping_add(count(&tries(rt, alloc, ids)?))
-        .wrapping_add(count(&endings(rt, alloc, ids)?))
-        .wrapping_add(count(&runs(rt, alloc, ids)?));
-    Some(right)
+    let right = right_on_one_place(rt, alloc, ids)?
+        .wrapping_add(u64::from(opens(rt, alloc, ids)?))
+        .wrapping_add(u64::from(opens_unbounded(rt, alloc, ids)?))
+        .wrapping_add(u64::from(clones(bounded(rt, alloc, 1, ids).ok()?)?));
+    let ends = unbounded(rt, alloc, ids).ok()?;
+    let several = receives_several(&ends)?;
+    Some(right.wrapping_add(u64::from(several)))
 }

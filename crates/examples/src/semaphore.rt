@@ -53,14 +53,19 @@ impl Semaphore {
     }
 }
 
-/// Three clients ask for a permit, and each that has one gives it back.
-fn run<R: Print>(rt: &R, semaphore: &mut Semaphore) -> io::Result<()> {
+/// Three clients ask for a permit.
+fn ask<R: Print>(rt: &R, semaphore: &mut Semaphore) -> io::Result<()> {
     for client in 1..4 {
         match semaphore.acquire(client) {
             Ok(has) => println!(rt; "a semaphore: client {client} has a permit: {has}")?,
             Err(error) => println!(rt; "a semaphore: {error}")?,
         }
     }
+    Ok(())
+}
+
+/// Each that has a permit gives it back.
+fn give_back<R: Print>(rt: &R, semaphore: &mut Semaphore) -> io::Result<()> {
     for _ in 0..3 {
         if let Some(client) = semaphore.release() {
             println!(rt; "a semaphore: next is client {client}")?;
@@ -75,5 +80,6 @@ pub fn show<R: Print>(rt: &R, alloc: Global) -> io::Result<()> {
         free: 1,
         waiting: List::new(alloc),
     };
-    run(rt, &mut semaphore)
+    ask(rt, &mut semaphore)?;
+    give_back(rt, &mut semaphore)
 }

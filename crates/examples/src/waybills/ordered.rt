@@ -1,8 +1,8 @@
 //! Numbered messages of two senders, through a queue or a channel of which nothing is believed, to one receiver and to two: what each
 //! receiver got of a sender is in that sender's order, and the only one got a beginning of what that sender sent.
 
-ghost use Rattle.std.specs.Prelude.{◌≡◌, ◌<◌, List, [], ◌∷◌, true, IfOk, IfSome};
-ghost use Rattle.waybill.specs.Accounts.{fresh, account};
+ghost use Rattle.std.specs.Prelude.{◌≡◌, ◌<◌, ◌-◌, List, [], ◌∷◌, true, IfOk, IfSome};
+ghost use Rattle.waybill.specs.Accounts.{all_parts, fresh, account};
 ghost use Rattle.waybill.specs.Order.{numbered, IsRising, IsGapless, AreBeginnings, AreInOrder};
 ghost use Rattle.waybill.specs.Sides.{sends, takes};
 ghost use Rattle.waybill.specs.declared.numbered.Numbered.{Numbered};
@@ -27,9 +27,9 @@ fn send_both<
     rt: R,
     office: &Office<Numbered<u32>, B>,
     line: &L,
-    passes: (Pass<Numbered<u32>, B>, Pass<Numbered<u32>, B>),
+    passes: Passes<B>,
     all: (&[u32], &[u32]),
-) -> (Pass<Numbered<u32>, B>, Pass<Numbered<u32>, B>)
+) -> Passes<B>
     requires { (passes.0 ≡ fresh 1) × (passes.1 ≡ fresh 1) }
     ensures first { result.0 ≡ account 1 (numbered 0 0 all.entry.0.now) [] [] }
     ensures second { result.1 ≡ account 1 (numbered 1 0 all.entry.1.now) [] [] }
@@ -52,7 +52,51 @@ fn send_both<
     sent
 }
 
-/// Two senders and the only receiver, over a line.
+/// The passes of both senders.
+type Passes<B> = (Pass<Numbered<u32>, B>, Pass<Numbered<u32>, B>);
+
+/// A receiver's pass, and what it received.
+type Account<B> = (Pass<Numbered<u32>, B>, Vec<Numbered<u32>>);
+
+type Received<B> = Result<Account<B>, Stopped<Message<B>>>;
+
+/// Two senders and the only receiver at once: the senders' passes, and what the receiver has. `None` where that one stopped early.
+fn exchange_sole<
+    B: Room + Send + Sync,
+    L: Line<Message<B>> + Sync,
+    R: Threads + Wait + Copy + Send + Sync,
+>(
+    rt: R,
+    alloc: Global,
+    office: &Office<Numbered<u32>, B>,
+    line: &L,
+    whole: &mut Pass<Numbered<u32>, B>,
+    all: (&[u32], &[u32]),
+) -> Option<(Passes<B>, Account<B>)>
+    requires { whole.old ≡ fresh all_parts }
+    ensures whole { IfSome result (λ r. whole.new ≡ fresh (all_parts - 3)) }
+    ensures first { IfSome result (λ r. r.0.0 ≡ account 1 (numbered 0 0 all.entry.0.now) [] []) }
+    ensures second { IfSome result (λ r. r.0.1 ≡ account 1 (numbered 1 0 all.entry.1.now) [] []) }
+    ensures received { IfSome result (λ r. r.1.0 ≡ account 1 [] r.1.1.items []) }
+    ensures gapless { IfSome result (λ r. IsGapless r.1.1.items) }
+{
+    let sink = Sink::sole(alloc, office.another(whole), 2).ok()?;
+    let passes = (office.another(whole), office.another(whole));
+    let (sent, received) = thread::join(
+        &rt,
+        move ||
+            requires { (passes.0 ≡ fresh 1) × (passes.1 ≡ fresh 1) }
+            ensures { (result.0 ≡ account 1 (numbered 0 0 all.entry.0.now) [] []) × (result.1 ≡ account 1 (numbered 1 0 all.entry.1.now) [] []) }
+        { send_both::<B, L, R>(rt, office, line, passes, all) },
+        move ||
+            requires { sink ≡ takes true 2 [] }
+            ensures { IfOk result (λ r. (r.0 ≡ account 1 [] r.1.items []) × IsGapless r.1.items) }
+        { sink.receive_all(&rt, alloc, office, line) },
+    );
+    Some((sent, received.ok()?))
+}
+
+/// What the only receiver got of two senders, over a line.
 fn sole_over<
     B: Room + Send + Sync,
     L: Line<Message<B>> + Sync,
@@ -69,21 +113,10 @@ fn sole_over<
     ensures { IfSome result (λ got. AreBeginnings got.items (first.now ∷ second.now ∷ [])) }
 {
     let (office, mut whole) = opened.enter::<B>();
-    let passes = (office.another(&mut whole), office.another(&mut whole));
-    let sink = Sink::sole(alloc, office.another(&mut whole), 2).ok()?;
-    let here = &office;
-    let ((one, other), received) = thread::join(
-        &rt,
-        move ||
-            requires { (passes.0 ≡ fresh 1) × (passes.1 ≡ fresh 1) }
-            ensures { (result.0 ≡ account 1 (numbered 0 0 first.entry.now) [] []) × (result.1 ≡ account 1 (numbered 1 0 second.entry.now) [] []) }
-        { send_both::<B, L, R>(rt, here, line, passes, (first, second)) },
-        move ||
-            requires { sink ≡ takes true 2 [] }
-            ensures { IfOk result (λ r. (r.0 ≡ account 1 [] r.1.items []) × IsGapless r.1.items) }
-        { sink.receive_all(&rt, alloc, here, line) },
-    );
-    let (pass, got) = received.ok()?;
+    let all = (first, second);
+    let ((one, other), (pass, got)) = exchange_sole::<B, L, R>(
+        rt, alloc, &office, line, &mut whole, all,
+    )?;
     office.absorb(&mut whole, one);
     office.absorb(&mut whole, other);
     office.absorb(&mut whole, pass);
@@ -127,8 +160,6 @@ pub fn sole<R: Threads + Wait + Copy + Send + Sync>(
     sole_in::<Brand, R>(rt, alloc, ids, kind, opened, first, second)
 }
 
-type Received<B> = Result<(Pass<Numbered<u32>, B>, Vec<Numbered<u32>>), Stopped<Message<B>>>;
-
 /// Both receivers at once.
 fn receive_both<
     B: Room + Send + Sync,
@@ -139,13 +170,13 @@ fn receive_both<
     alloc: Global,
     office: &Office<Numbered<u32>, B>,
     line: &L,
-    one: Sink<u32, B>,
-    other: Sink<u32, B>,
+    sinks: (Sink<u32, B>, Sink<u32, B>),
 ) -> (Received<B>, Received<B>)
-    requires { (one.received ≡ []) × (other.received ≡ []) }
+    requires { (sinks.0.received ≡ []) × (sinks.1.received ≡ []) }
     ensures first { IfOk result.0 (λ r. (r.0 ≡ account 1 [] r.1.items []) × IsRising r.1.items) }
     ensures second { IfOk result.1 (λ r. (r.0 ≡ account 1 [] r.1.items []) × IsRising r.1.items) }
 {
+    let (one, other) = sinks;
     thread::join(
         &rt,
         move ||
@@ -159,7 +190,45 @@ fn receive_both<
     )
 }
 
-/// Two senders and two receivers, over a line.
+/// Two senders and two receivers at once: the senders' passes, and what each receiver has. `None` where one stopped early.
+fn exchange_shared<
+    B: Room + Send + Sync,
+    L: Line<Message<B>> + Sync,
+    R: Threads + Wait + Copy + Send + Sync,
+>(
+    rt: R,
+    alloc: Global,
+    office: &Office<Numbered<u32>, B>,
+    line: &L,
+    whole: &mut Pass<Numbered<u32>, B>,
+    all: (&[u32], &[u32]),
+) -> Option<(Passes<B>, (Account<B>, Account<B>))>
+    requires { whole.old ≡ fresh all_parts }
+    ensures whole { IfSome result (λ r. whole.new ≡ fresh (all_parts - 4)) }
+    ensures first { IfSome result (λ r. r.0.0 ≡ account 1 (numbered 0 0 all.entry.0.now) [] []) }
+    ensures second { IfSome result (λ r. r.0.1 ≡ account 1 (numbered 1 0 all.entry.1.now) [] []) }
+    ensures one { IfSome result (λ r. (r.1.0.0 ≡ account 1 [] r.1.0.1.items []) × IsRising r.1.0.1.items) }
+    ensures other { IfSome result (λ r. (r.1.1.0 ≡ account 1 [] r.1.1.1.items []) × IsRising r.1.1.1.items) }
+{
+    let sink = Sink::shared(alloc, office.another(whole), 2).ok()?;
+    let sink_too = Sink::shared(alloc, office.another(whole), 2).ok()?;
+    let passes = (office.another(whole), office.another(whole));
+    let sinks = (sink, sink_too);
+    let (sent, (one, other)) = thread::join(
+        &rt,
+        move ||
+            requires { (passes.0 ≡ fresh 1) × (passes.1 ≡ fresh 1) }
+            ensures { (result.0 ≡ account 1 (numbered 0 0 all.entry.0.now) [] []) × (result.1 ≡ account 1 (numbered 1 0 all.entry.1.now) [] []) }
+        { send_both::<B, L, R>(rt, office, line, passes, all) },
+        move ||
+            requires { (sinks.0.received ≡ []) × (sinks.1.received ≡ []) }
+            ensures { IfOk result.0 (λ r. (r.0 ≡ account 1 [] r.1.items []) × IsRising r.1.items) × IfOk result.1 (λ r. (r.0 ≡ account 1 [] r.1.items []) × IsRising r.1.items) }
+        { receive_both::<B, L, R>(rt, alloc, office, line, sinks) },
+    );
+    Some((sent, (one.ok()?, other.ok()?)))
+}
+
+/// What each of two receivers got of two senders, over a line.
 fn shared_over<
     B: Room + Send + Sync,
     L: Line<Message<B>> + Sync,
@@ -177,23 +246,10 @@ fn shared_over<
     ensures other { IfSome result (λ got. AreInOrder got.1.items (first.now ∷ second.now ∷ [])) }
 {
     let (office, mut whole) = opened.enter::<B>();
-    let passes = (office.another(&mut whole), office.another(&mut whole));
-    let sink = Sink::shared(alloc, office.another(&mut whole), 2).ok()?;
-    let sink_too = Sink::shared(alloc, office.another(&mut whole), 2).ok()?;
-    let here = &office;
-    let ((one, other), (received, received_too)) = thread::join(
-        &rt,
-        move ||
-            requires { (passes.0 ≡ fresh 1) × (passes.1 ≡ fresh 1) }
-            ensures { (result.0 ≡ account 1 (numbered 0 0 first.entry.now) [] []) × (result.1 ≡ account 1 (numbered 1 0 second.entry.now) [] []) }
-        { send_both::<B, L, R>(rt, here, line, passes, (first, second)) },
-        move ||
-            requires { (sink.received ≡ []) × (sink_too.received ≡ []) }
-            ensures { IfOk result.0 (λ r. (r.0 ≡ account 1 [] r.1.items []) × IsRising r.1.items) × IfOk result.1 (λ r. (r.0 ≡ account 1 [] r.1.items []) × IsRising r.1.items) }
-        { receive_both::<B, L, R>(rt, alloc, here, line, sink, sink_too) },
-    );
-    let (pass, got) = received.ok()?;
-    let (pass_too, got_too) = received_too.ok()?;
+    let all = (first, second);
+    let ((one, other), ((pass, got), (pass_too, got_too))) = exchange_shared::<B, L, R>(
+        rt, alloc, &office, line, &mut whole, all,
+    )?;
     office.absorb(&mut whole, one);
     office.absorb(&mut whole, other);
     office.absorb(&mut whole, pass);

@@ -1,8 +1,8 @@
 //! A pipeline of two channels: one thread gives jobs, another makes something of each, a third gathers. What it gathers is what is
 //! to be made of the jobs.
 
-ghost use Rattle.std.specs.Prelude.{◌≡◌, [], length, IfSome, IsPermutation};
-ghost use Rattle.waybill.specs.Accounts.{IsPartOf};
+ghost use Rattle.std.specs.Prelude.{◌≡◌, ◌-◌, [], length, IfSome, IsPermutation};
+ghost use Rattle.waybill.specs.Accounts.{all_parts, fresh, account, IsPartOf};
 ghost use Rattle.examples.specs.Pool.{squares};
 
 use crate::waybills::pool::{Worker, gather, give, work};
@@ -13,7 +13,7 @@ use std::marker::Brand;
 use std::sync::Wait;
 use std::thread;
 use std::thread::Threads;
-use waybill::{Inbox, Office, Opened, Parcel, Room};
+use waybill::{Inbox, Office, Opened, Parcel, Pass, Room};
 
 /// The two threads that come after the first.
 fn work_and_gather<
@@ -57,6 +57,31 @@ fn all_done<B: Room + Send + Sync, C: Room + Send + Sync, R: Threads + Wait + Co
     Some(back)
 }
 
+/// Packs all jobs and has them go through. `None` where there is no memory.
+fn done_in_turn<
+    B: Room + Send + Sync,
+    C: Room + Send + Sync,
+    R: Threads + Wait + Copy + Send + Sync,
+>(
+    rt: R,
+    alloc: Global,
+    ids: &mut EventIds,
+    offices: (&Office<u32, B>, &Office<u64, C>),
+    every_job: &mut Pass<u32, B>,
+    every_result: &mut Pass<u64, C>,
+    all: &[u32],
+) -> Option<(Worker<B, C>, Inbox<u64, C>)>
+    requires { (every_job.old ≡ fresh all_parts) × (every_result.old ≡ fresh all_parts) }
+    ensures jobs { IfSome result (λ r. every_job.new ≡ account (all_parts - 1) all.now [] []) }
+    ensures results { IfSome result (λ r. every_result.new ≡ fresh (all_parts - 2)) }
+{
+    let (jobs, results) = offices;
+    let parcels = jobs.pack_each(alloc, every_job, all).ok()?;
+    let worker = Worker::new(jobs.another(every_job), results.another(every_result));
+    let inbox = Inbox::new(alloc, results.another(every_result));
+    all_done(rt, alloc, ids, offices, parcels, worker, inbox)
+}
+
 fn pipeline_in<
     B: Room + Send + Sync,
     C: Room + Send + Sync,
@@ -75,16 +100,16 @@ fn pipeline_in<
 {
     let (jobs, mut every_job) = jobs.enter::<B>();
     let (results, mut every_result) = results.enter::<C>();
-    let Ok(parcels) = jobs.pack_each(alloc, &mut every_job, all) else {
-        return None;
-    };
-    let worker = Worker::new(
-        jobs.another(&mut every_job),
-        results.another(&mut every_result),
-    );
-    let inbox = Inbox::new(alloc, results.another(&mut every_result));
     let offices = (&jobs, &results);
-    let (worker, inbox) = all_done(rt, alloc, ids, offices, parcels, worker, inbox)?;
+    let (worker, inbox) = done_in_turn(
+        rt,
+        alloc,
+        ids,
+        offices,
+        &mut every_job,
+        &mut every_result,
+        all,
+    )?;
     let (took, gave) = worker.into_passes();
     let (gathered, got) = inbox.into_parts();
     jobs.absorb(&mut every_job, took);

@@ -1,7 +1,7 @@
 //! A pool of workers: jobs come by one channel, results go by another. The results are, in some order, one for each job.
 
-ghost use Rattle.std.specs.Prelude.{◌≡◌, ℕ, ◌*◌, ◌<◌, [], length, map, IfSome, IsPermutation};
-ghost use Rattle.waybill.specs.Accounts.{fresh, account, IsPartOf};
+ghost use Rattle.std.specs.Prelude.{◌≡◌, ℕ, ◌-◌, ◌*◌, ◌<◌, [], length, map, IfSome, IsPermutation};
+ghost use Rattle.waybill.specs.Accounts.{all_parts, fresh, account, IsPartOf};
 ghost use Rattle.examples.specs.Pool.{squares};
 
 use async_channel::{Receiver, Sender, unbounded};
@@ -174,6 +174,33 @@ fn all_done<B: Room + Send + Sync, C: Room + Send + Sync, R: Threads + Wait + Co
     Some((workers, gather(results, done_receiver, inbox)))
 }
 
+/// Packs all jobs and has two workers do them. `None` where there is no memory.
+fn done_by_two<
+    B: Room + Send + Sync,
+    C: Room + Send + Sync,
+    R: Threads + Wait + Copy + Send + Sync,
+>(
+    rt: R,
+    alloc: Global,
+    ids: &mut EventIds,
+    offices: (&Office<u32, B>, &Office<u64, C>),
+    every_job: &mut Pass<u32, B>,
+    every_result: &mut Pass<u64, C>,
+    all: &[u32],
+) -> Option<((Worker<B, C>, Worker<B, C>), Inbox<u64, C>)>
+    requires { (every_job.old ≡ fresh all_parts) × (every_result.old ≡ fresh all_parts) }
+    ensures jobs { IfSome result (λ r. every_job.new ≡ account (all_parts - 2) all.now [] []) }
+    ensures results { IfSome result (λ r. every_result.new ≡ fresh (all_parts - 3)) }
+{
+    let (jobs, results) = offices;
+    let parcels = jobs.pack_each(alloc, every_job, all).ok()?;
+    let worker = Worker::new(jobs.another(every_job), results.another(every_result));
+    let worker_too = Worker::new(jobs.another(every_job), results.another(every_result));
+    let inbox = Inbox::new(alloc, results.another(every_result));
+    let workers = (worker, worker_too);
+    all_done(rt, alloc, ids, offices, parcels, workers, inbox)
+}
+
 fn pool_in<B: Room + Send + Sync, C: Room + Send + Sync, R: Threads + Wait + Copy + Send + Sync>(
     rt: R,
     alloc: Global,
@@ -188,21 +215,16 @@ fn pool_in<B: Room + Send + Sync, C: Room + Send + Sync, R: Threads + Wait + Cop
 {
     let (jobs, mut every_job) = jobs.enter::<B>();
     let (results, mut every_result) = results.enter::<C>();
-    let Ok(parcels) = jobs.pack_each(alloc, &mut every_job, all) else {
-        return None;
-    };
-    let worker = Worker::new(
-        jobs.another(&mut every_job),
-        results.another(&mut every_result),
-    );
-    let worker_too = Worker::new(
-        jobs.another(&mut every_job),
-        results.another(&mut every_result),
-    );
-    let inbox = Inbox::new(alloc, results.another(&mut every_result));
     let offices = (&jobs, &results);
-    let workers = (worker, worker_too);
-    let ((worker, worker_too), inbox) = all_done(rt, alloc, ids, offices, parcels, workers, inbox)?;
+    let ((worker, worker_too), inbox) = done_by_two(
+        rt,
+        alloc,
+        ids,
+        offices,
+        &mut every_job,
+        &mut every_result,
+        all,
+    )?;
     let (took, gave) = worker.into_passes();
     let (took_too, gave_too) = worker_too.into_passes();
     let (gathered, got) = inbox.into_parts();

@@ -1,7 +1,7 @@
 //! What came is what was sent, as sums: two threads send, two receive and keep no message, only how many came and their sum.
 
-ghost use Rattle.std.specs.Prelude.{◌≡◌, ◌+◌, ◌++◌, [], length, sum, IfSome};
-ghost use Rattle.waybill.specs.Accounts.{fresh, account};
+ghost use Rattle.std.specs.Prelude.{◌≡◌, ◌+◌, ◌-◌, ◌++◌, [], length, sum, IfSome};
+ghost use Rattle.waybill.specs.Accounts.{all_parts, fresh, account};
 
 use crate::waybills::line::{Handles, Kind, Queue};
 use event_listener::id::EventIds;
@@ -141,6 +141,30 @@ fn exchanged<
     tallies
 }
 
+/// Packs the messages of both senders and has them go through the line: what each receiver counted. `None` where there is no memory.
+fn pass_on<
+    B: Room + Send + Sync,
+    L: Line<Parcel<u32, B>> + Sync,
+    R: Threads + Wait + Copy + Send + Sync,
+>(
+    rt: R,
+    alloc: Global,
+    office: &Office<u32, B>,
+    line: &L,
+    whole: &mut Pass<u32, B>,
+    first: &[u32],
+    second: &[u32],
+) -> Option<(Tally<B>, Tally<B>)>
+    requires { whole.old ≡ fresh all_parts }
+    ensures { IfSome result (λ r. whole.new ≡ account (all_parts - 2) (first.now ++ second.now) [] []) }
+{
+    let parcels = office.pack_each(alloc, whole, first).ok()?;
+    let parcels_too = office.pack_each(alloc, whole, second).ok()?;
+    let one = Tally::new(office.another(whole));
+    let other = Tally::new(office.another(whole));
+    Some(exchanged::<B, L, R>(rt, office, line, parcels, parcels_too, (one, other)))
+}
+
 /// The sums of both receivers, over a line.
 fn sums_over<
     B: Room + Send + Sync,
@@ -158,15 +182,7 @@ fn sums_over<
     ensures { IfSome result (λ r. r.0.count + r.1.count ≡ length first.now + length second.now → r.0.total + r.1.total ≡ sum first.now + sum second.now) }
 {
     let (office, mut whole) = opened.enter::<B>();
-    let Ok(parcels) = office.pack_each(alloc, &mut whole, first) else {
-        return None;
-    };
-    let Ok(parcels_too) = office.pack_each(alloc, &mut whole, second) else {
-        return None;
-    };
-    let one = Tally::new(office.another(&mut whole));
-    let other = Tally::new(office.another(&mut whole));
-    let (one, other) = exchanged::<B, L, R>(rt, &office, line, parcels, parcels_too, (one, other));
+    let (one, other) = pass_on::<B, L, R>(rt, alloc, &office, line, &mut whole, first, second)?;
     let (pass, sums) = one.into_parts();
     let (pass_too, sums_too) = other.into_parts();
     office.absorb(&mut whole, pass);
