@@ -75,5 +75,5 @@ pub use handles::weak::{WeakReceiver, WeakSender};
 pub use open::no_trace::NoTrace;
 pub use open::{bounded, bounded_watched, unbounded, unbounded_watched};
 pub use runtime::Runtime;
-pub use seen::{Sight, Trace};
+pub use seen::{Shown, Sight, Trace};
 pub use traced::Traced;

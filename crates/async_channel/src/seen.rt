@@ -1,11 +1,11 @@
 //! Cells of a channel of which a caller's trace sees each deed, with its answer.
 
-ghost use Rattle.std.specs.Prelude.{◌≡◌, List, Option};
+ghost use Rattle.std.specs.Prelude.{◌≡◌, Option};
 ghost use Rattle.event_listener.specs.declared.key.Key.{Key as Name};
 ghost use Rattle.event_listener.specs.declared.waking.Task.{Task as Waiter};
 ghost use Rattle.async_channel.specs.Handles.{channel_of, form_of, no_parts};
 ghost use Rattle.async_channel.specs.Saw.{Saw, DidBeside};
-ghost use Rattle.channel_calls.specs.Deeds.{Deed, inserted, registered, taken_off, one_told, more_told, all_told, counted, lowered, raised};
+ghost use Rattle.channel_calls.specs.Deeds.{Deed};
 
 use crate::cells::{Beds, Places, SharedCells, SharedWords, Words};
 use crate::shared::Shared;
@@ -21,6 +21,7 @@ use event_listener::key::Key;
 use event_listener::wakes::Wakes;
 use event_listener::waking::Task;
 use futures::task::Source;
+use std::alloc::AllocError;
 use std::marker::PhantomData;
 use std::sync::Wait;
 
@@ -31,16 +32,60 @@ pub struct Sight<S> {
     of: PhantomData<S>,
 }
 
+/// What a trace is shown of a channel, each after it was done and with what it answered. A telling and a removal are shown without whom
+/// they woke: those stay with the sink. Own to this project.
+#[derive(Copy)]
+pub enum Shown<'a> {
+    /// A call begins on the channel with this seal: all that is seen up to the next beginning is done to that channel.
+    Enters(&'a Source),
+    /// A listener was added, or refused.
+    Inserted(WaitList, Result<Key, ListenError>),
+    /// This task is brought to a listener. What came of it is shown next, by `Registered`.
+    Offers(WaitList, Key, &'a Task),
+    /// The task that was brought to the listener is kept, or came back.
+    Registered(WaitList, Key, &'a Option<Task>),
+    /// A listener was taken off.
+    TakenOff(WaitList, Key),
+    /// One more of those who wait was told.
+    OneTold(WaitList),
+    /// So many more of those who wait were told.
+    MoreTold(WaitList, usize),
+    /// All who wait were told.
+    AllTold(WaitList),
+    /// So many handles of this kind were counted.
+    Counted(Side, usize),
+    /// The count of handles of this kind was lowered, and was this before.
+    Lowered(Side, usize),
+    /// The count of handles of this kind was raised where it was this, or was not.
+    Raised(Side, usize, bool),
+    /// A task of the thread's own was asked for, and given or refused.
+    Parked(&'a Option<Task>),
+    /// The thread slept.
+    Slept,
+}
+
+// By hand, since a derived copy of so many variants is long to prove.
+impl Clone for Shown<'_> {
+    ghost is_clone = { λ x y. y ≡ x };
+
+    ghost is_infallible = { λ _. Unit {0} };
+
+    #[inline(always)]
+    fn clone(&self) -> Result<Self, AllocError> {
+        Ok(*self)
+    }
+}
+
 /// What sees the deeds on the cells of a channel, each after it was done and with what it answered; and that a call which blocks
 /// its thread asked for a task of its own, and slept. Of the steps of a queue's call it sees the queue's own operations, as the trace
-/// of a queue does. Each method says of itself that this was seen, and nothing else: so a trace of which nothing is known but this trait
-/// can be led from one value to another by these very deeds alone.
+/// of a queue does. Its method says that this was seen, and nothing else: so a trace of which nothing is known but this trait can be led
+/// from one value to another by these very deeds alone.
 ///
-/// Each method is lent a [`Sight`] of this very trace, which only the cells that do these deeds have. A telling and a removal are seen
-/// without whom they woke: those stay with the sink. Own to this project.
+/// The method is lent a [`Sight`] of this very trace, which only the cells that do these deeds have. Own to this project.
 pub trait Trace<T>: queue::Trace<T> {
     ghost use Rattle.std.specs.Prelude.{ℕ};
     ghost use Rattle.channel_calls.specs.declared.stage.WaitList.{WaitList as Waits};
+    ghost use Rattle.async_channel.specs.Shown.{Sees};
 
     /// Whether a call was seen to begin, between the two, on the channel with this seal.
     ghost entered: { ℕ → Self → Self → Type 0 };
@@ -57,57 +102,9 @@ pub trait Trace<T>: queue::Trace<T> {
     /// Whether the thread was seen to sleep between the two.
     ghost slept: { Self → Self → Type 0 };
 
-    /// A call begins on the channel with this seal: all that is seen up to the next beginning is done to that channel.
-    fn enters(&mut self, sight: &Sight<Self>, seal: &Source)
-        ensures { entered seal.now.id self.old self.new };
-
-    /// A listener was added, or refused.
-    fn inserted(&mut self, sight: &Sight<Self>, line: WaitList, answer: Result<Key, ListenError>)
-        ensures { shown (inserted line answer) self.old self.new };
-
-    /// This task is brought to a listener. What came of it is said next, by `registered`.
-    fn offers(&mut self, sight: &Sight<Self>, line: WaitList, key: Key, task: &Task)
-        ensures { offering line key task.now self.old self.new };
-
-    /// The task that was brought to the listener is kept, or came back.
-    fn registered(&mut self, sight: &Sight<Self>, line: WaitList, key: Key, answer: &Option<Task>)
-        ensures { (before : Self) (task : Waiter) → offering line key task before self.old → shown (registered line key task answer.now) before self.new };
-
-    /// A listener was taken off.
-    fn taken_off(&mut self, sight: &Sight<Self>, line: WaitList, key: Key)
-        ensures { (names : List Waiter) → shown (taken_off line key names) self.old self.new };
-
-    /// One more of those who wait was told.
-    fn one_told(&mut self, sight: &Sight<Self>, line: WaitList)
-        ensures { (names : List Waiter) → shown (one_told line names) self.old self.new };
-
-    /// So many more of those who wait were told.
-    fn more_told(&mut self, sight: &Sight<Self>, line: WaitList, count: usize)
-        ensures { (names : List Waiter) → shown (more_told line count names) self.old self.new };
-
-    /// All who wait were told.
-    fn all_told(&mut self, sight: &Sight<Self>, line: WaitList)
-        ensures { (names : List Waiter) → shown (all_told line names) self.old self.new };
-
-    /// So many handles of this kind were counted.
-    fn counted(&mut self, sight: &Sight<Self>, side: Side, found: usize)
-        ensures { shown (counted side found) self.old self.new };
-
-    /// The count of handles of this kind was lowered, and was this before.
-    fn lowered(&mut self, sight: &Sight<Self>, side: Side, found: usize)
-        ensures { shown (lowered side found) self.old self.new };
-
-    /// The count of handles of this kind was raised where it was `from`, or was not.
-    fn raised(&mut self, sight: &Sight<Self>, side: Side, from: usize, done: bool)
-        ensures { shown (raised side from done) self.old self.new };
-
-    /// A task of the thread's own was asked for, and given or refused.
-    fn parks(&mut self, sight: &Sight<Self>, answer: &Option<Task>)
-        ensures { parked answer.now self.old self.new };
-
-    /// The thread slept.
-    fn sleeps(&mut self, sight: &Sight<Self>)
-        ensures { slept self.old self.new };
+    /// This was seen.
+    fn saw(&mut self, sight: &Sight<Self>, it: Shown<'_>)
+        ensures { Sees entered shown offering parked slept it.entry self.old self.new };
 }
 
 /// Cells that the threads of a channel share, and a trace that sees each deed on them. Made here alone.
@@ -129,7 +126,7 @@ impl<'a, T: Drop, R: Wait, B: Drop, S: Trace<T>> Seen<SharedCells<'a, T, R, B>, 
         ensures trace { S.entered (channel_of shared.now).seal trace result.trace }
     {
         let mut trace = trace;
-        trace.enters(&Sight { of: PhantomData }, &shared.seal);
+        trace.saw(&Sight { of: PhantomData }, Shown::Enters(&shared.seal));
         let cells = SharedCells { shared, rt, bed };
         Seen { cells, trace }
     }
@@ -143,7 +140,7 @@ impl<'a, T: Drop, S: Trace<T>> Seen<SharedWords<'a, T>, S> {
         ensures trace { S.entered (channel_of shared.now).seal trace result.trace }
     {
         let mut trace = trace;
-        trace.enters(&Sight { of: PhantomData }, &shared.seal);
+        trace.saw(&Sight { of: PhantomData }, Shown::Enters(&shared.seal));
         let cells = SharedWords { shared };
         Seen { cells, trace }
     }
@@ -181,64 +178,69 @@ impl<T, C: Places<T>, S: Trace<T>> ChannelCells<T, Task> for Seen<C, S> {
     fn insert(&mut self, line: WaitList) -> Result<Key, ListenError> {
         let answer = self.cells.insert(line);
         self.trace
-            .inserted(&Sight { of: PhantomData }, line, answer);
+            .saw(&Sight { of: PhantomData }, Shown::Inserted(line, answer));
         answer
     }
 
     #[inline(always)]
     fn register(&mut self, line: WaitList, key: Key, task: Task) -> Option<Task> {
-        self.trace
-            .offers(&Sight { of: PhantomData }, line, key, &task);
+        self.trace.saw(&Sight { of: PhantomData }, Shown::Offers(line, key, &task));
         let answer = self.cells.register(line, key, task);
-        self.trace
-            .registered(&Sight { of: PhantomData }, line, key, &answer);
+        self.trace.saw(
+            &Sight { of: PhantomData },
+            Shown::Registered(line, key, &answer),
+        );
         answer
     }
 
     #[inline(always)]
     fn remove<K: Wakes<Task>>(&mut self, line: WaitList, key: Key, sink: &mut K) {
         self.cells.remove(line, key, sink);
-        self.trace.taken_off(&Sight { of: PhantomData }, line, key);
+        self.trace
+            .saw(&Sight { of: PhantomData }, Shown::TakenOff(line, key));
     }
 
     #[inline(always)]
     fn tell_one<K: Wakes<Task>>(&mut self, line: WaitList, sink: &mut K) {
         self.cells.tell_one(line, sink);
-        self.trace.one_told(&Sight { of: PhantomData }, line);
+        self.trace
+            .saw(&Sight { of: PhantomData }, Shown::OneTold(line));
     }
 
     #[inline(always)]
     fn tell_more<K: Wakes<Task>>(&mut self, line: WaitList, count: usize, sink: &mut K) {
         self.cells.tell_more(line, count, sink);
         self.trace
-            .more_told(&Sight { of: PhantomData }, line, count);
+            .saw(&Sight { of: PhantomData }, Shown::MoreTold(line, count));
     }
 
     #[inline(always)]
     fn tell_all<K: Wakes<Task>>(&mut self, line: WaitList, sink: &mut K) {
         self.cells.tell_all(line, sink);
-        self.trace.all_told(&Sight { of: PhantomData }, line);
+        self.trace
+            .saw(&Sight { of: PhantomData }, Shown::AllTold(line));
     }
 
     #[inline(always)]
     fn count(&mut self, side: Side) -> usize {
         let found = self.cells.count(side);
-        self.trace.counted(&Sight { of: PhantomData }, side, found);
+        self.trace
+            .saw(&Sight { of: PhantomData }, Shown::Counted(side, found));
         found
     }
 
     #[inline(always)]
     fn lower(&mut self, side: Side) -> usize {
         let found = self.cells.lower(side);
-        self.trace.lowered(&Sight { of: PhantomData }, side, found);
+        self.trace
+            .saw(&Sight { of: PhantomData }, Shown::Lowered(side, found));
         found
     }
 
     #[inline(always)]
     fn raise(&mut self, side: Side, from: usize) -> bool {
         let done = self.cells.raise(side, from);
-        self.trace
-            .raised(&Sight { of: PhantomData }, side, from, done);
+        self.trace.saw(&Sight { of: PhantomData }, Shown::Raised(side, from, done));
         done
     }
 }
@@ -251,14 +253,15 @@ impl<T, C: Beds<T>, S: Trace<T>> Sleeps<T, Task> for Seen<C, S> {
     #[inline(always)]
     fn park(&mut self) -> Option<Task> {
         let answer = self.cells.park();
-        self.trace.parks(&Sight { of: PhantomData }, &answer);
+        self.trace
+            .saw(&Sight { of: PhantomData }, Shown::Parked(&answer));
         answer
     }
 
     #[inline(always)]
     fn sleep(&mut self) {
         self.cells.sleep();
-        self.trace.sleeps(&Sight { of: PhantomData });
+        self.trace.saw(&Sight { of: PhantomData }, Shown::Slept);
     }
 }
 
@@ -275,7 +278,8 @@ impl<T, C: Words<T>, S: Trace<T>> ChannelWords<T, Task> for Seen<C, S> {
     #[inline(always)]
     fn count(&mut self, side: Side) -> usize {
         let found = self.cells.count(side);
-        self.trace.counted(&Sight { of: PhantomData }, side, found);
+        self.trace
+            .saw(&Sight { of: PhantomData }, Shown::Counted(side, found));
         found
     }
 }

@@ -1,14 +1,10 @@
 //! A channel that is watched: the calls of all its handles, on whatever thread, are told to one log.
 
 use crate::checks::expect_equal;
-use async_channel::{
-    EventIds, Key, ListenError, Receiver, Sender, Side, Sight, Task, Trace, WaitList,
-    bounded_watched,
-};
+use async_channel::{EventIds, Receiver, Sender, Shown, Sight, Trace, bounded_watched};
 use concurrent_queue::cells::{Slot, Word};
 use concurrent_queue::error::NoMemory;
 use concurrent_queue::seen as queue;
-use futures::task::Source;
 use std::sync::Wait;
 use std::sync::atomic::{AtomicUsize, Ordering};
 use std::thread;
@@ -100,62 +96,16 @@ impl Trace<u64> for Watcher<'_> {
 
     ghost slept = { λ _ _. Unit {0} };
 
-    fn enters(&mut self, _sight: &Sight<Self>, _seal: &Source) {
-        note(&self.tallies.beginnings);
+    fn saw(&mut self, _sight: &Sight<Self>, it: Shown<'_>) {
+        match it {
+            Shown::Enters(_) => note(&self.tallies.beginnings),
+            Shown::Counted(..) | Shown::Lowered(..) | Shown::Raised(..) => note(
+                &self.tallies.counts,
+            ),
+            Shown::Offers(..) | Shown::Parked(_) | Shown::Slept => {}
+            _ => note(&self.tallies.sections),
+        }
     }
-
-    fn inserted(
-        &mut self,
-        _sight: &Sight<Self>,
-        _line: WaitList,
-        _answer: Result<Key, ListenError>,
-    ) {
-        note(&self.tallies.sections);
-    }
-
-    fn offers(&mut self, _sight: &Sight<Self>, _line: WaitList, _key: Key, _task: &Task) {}
-
-    fn registered(
-        &mut self,
-        _sight: &Sight<Self>,
-        _line: WaitList,
-        _key: Key,
-        _answer: &Option<Task>,
-    ) {
-        note(&self.tallies.sections);
-    }
-
-    fn taken_off(&mut self, _sight: &Sight<Self>, _line: WaitList, _key: Key) {
-        note(&self.tallies.sections);
-    }
-
-    fn one_told(&mut self, _sight: &Sight<Self>, _line: WaitList) {
-        note(&self.tallies.sections);
-    }
-
-    fn more_told(&mut self, _sight: &Sight<Self>, _line: WaitList, _count: usize) {
-        note(&self.tallies.sections);
-    }
-
-    fn all_told(&mut self, _sight: &Sight<Self>, _line: WaitList) {
-        note(&self.tallies.sections);
-    }
-
-    fn counted(&mut self, _sight: &Sight<Self>, _side: Side, _found: usize) {
-        note(&self.tallies.counts);
-    }
-
-    fn lowered(&mut self, _sight: &Sight<Self>, _side: Side, _found: usize) {
-        note(&self.tallies.counts);
-    }
-
-    fn raised(&mut self, _sight: &Sight<Self>, _side: Side, _from: usize, _done: bool) {
-        note(&self.tallies.counts);
-    }
-
-    fn parks(&mut self, _sight: &Sight<Self>, _answer: &Option<Task>) {}
-
-    fn sleeps(&mut self, _sight: &Sight<Self>) {}
 }
 
 /// A send and a question at once, then a receive and a closing: what was sent was received, one sender was counted, and it was

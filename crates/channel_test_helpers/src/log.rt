@@ -15,13 +15,12 @@ ghost use Rattle.async_channel.specs.Saw.{SeenOn};
 ghost use Rattle.channel_test_helpers.specs.declared.log.Did.TheVariants as did;
 
 use async_channel::{
-    Key, ListenError, Receiver, RecvError, Refused, Sender, Side, Sight, Task, Trace, TryRecvError,
-    TrySendError, WaitList,
+    Receiver, RecvError, Refused, Sender, Shown, Side, Sight, Trace, TryRecvError, TrySendError,
+    WaitList,
 };
 use concurrent_queue::cells::{Slot, Word};
 use concurrent_queue::error::NoMemory;
 use concurrent_queue::seen as queue;
-use futures::task::Source;
 use std::alloc::Global;
 use std::sync::Wait;
 
@@ -165,63 +164,21 @@ impl Trace<u64> for Log {
 
     ghost slept = { λ a b. Notes did.Slept a b };
 
-    fn enters(&mut self, _sight: &Sight<Self>, _seal: &Source) {}
-
-    fn inserted(
-        &mut self,
-        _sight: &Sight<Self>,
-        line: WaitList,
-        _answer: Result<Key, ListenError>,
-    ) {
-        self.note(Did::Inserted(line));
-    }
-
-    fn offers(&mut self, _sight: &Sight<Self>, _line: WaitList, _key: Key, _task: &Task) {}
-
-    fn registered(
-        &mut self,
-        _sight: &Sight<Self>,
-        line: WaitList,
-        _key: Key,
-        _answer: &Option<Task>,
-    ) {
-        self.note(Did::Registered(line));
-    }
-
-    fn taken_off(&mut self, _sight: &Sight<Self>, line: WaitList, _key: Key) {
-        self.note(Did::TakenOff(line));
-    }
-
-    fn one_told(&mut self, _sight: &Sight<Self>, line: WaitList) {
-        self.note(Did::OneTold(line));
-    }
-
-    fn more_told(&mut self, _sight: &Sight<Self>, line: WaitList, count: usize) {
-        self.note(Did::MoreTold(line, count));
-    }
-
-    fn all_told(&mut self, _sight: &Sight<Self>, line: WaitList) {
-        self.note(Did::AllTold(line));
-    }
-
-    fn counted(&mut self, _sight: &Sight<Self>, side: Side, _found: usize) {
-        self.note(Did::Counted(side));
-    }
-
-    fn lowered(&mut self, _sight: &Sight<Self>, side: Side, _found: usize) {
-        self.note(Did::Lowered(side));
-    }
-
-    fn raised(&mut self, _sight: &Sight<Self>, side: Side, _from: usize, done: bool) {
-        self.note(Did::Raised(side, done));
-    }
-
-    fn parks(&mut self, _sight: &Sight<Self>, _answer: &Option<Task>) {
-        self.note(Did::Parked);
-    }
-
-    fn sleeps(&mut self, _sight: &Sight<Self>) {
-        self.note(Did::Slept);
+    fn saw(&mut self, _sight: &Sight<Self>, it: Shown<'_>) {
+        match it {
+            Shown::Enters(_) | Shown::Offers(..) => {}
+            Shown::Inserted(line, _) => self.note(Did::Inserted(line)),
+            Shown::Registered(line, ..) => self.note(Did::Registered(line)),
+            Shown::TakenOff(line, _) => self.note(Did::TakenOff(line)),
+            Shown::OneTold(line) => self.note(Did::OneTold(line)),
+            Shown::MoreTold(line, count) => self.note(Did::MoreTold(line, count)),
+            Shown::AllTold(line) => self.note(Did::AllTold(line)),
+            Shown::Counted(side, _) => self.note(Did::Counted(side)),
+            Shown::Lowered(side, _) => self.note(Did::Lowered(side)),
+            Shown::Raised(side, _, done) => self.note(Did::Raised(side, done)),
+            Shown::Parked(_) => self.note(Did::Parked),
+            Shown::Slept => self.note(Did::Slept),
+        }
     }
 }
 

@@ -1,14 +1,9 @@
 //! A trace that keeps nothing.
 
-use crate::seen::{Sight, Trace};
-use channel_calls::stage::{Side, WaitList};
+use crate::seen::{Shown, Sight, Trace};
 use concurrent_queue::cells::{Slot, Word};
 use concurrent_queue::error::NoMemory;
 use concurrent_queue::seen as queue;
-use event_listener::error::ListenError;
-use event_listener::key::Key;
-use event_listener::waking::Task;
-use futures::task::Source;
 
 /// The trace of a channel that nobody watches: it keeps nothing. It has no size, and seeing by it takes no instruction. Only the opening
 /// of a channel makes one. Own to this project.
@@ -82,52 +77,5 @@ impl<T> Trace<T> for NoTrace {
     ghost slept = { λ _ _. Unit {0} };
 
     #[inline(always)]
-    fn enters(&mut self, _sight: &Sight<NoTrace>, _seal: &Source) {}
-
-    #[inline(always)]
-    fn inserted(
-        &mut self,
-        _sight: &Sight<NoTrace>,
-        _line: WaitList,
-        _answer: Result<Key, ListenError>,
-    ) {}
-
-    #[inline(always)]
-    fn offers(&mut self, _sight: &Sight<NoTrace>, _line: WaitList, _key: Key, _task: &Task) {}
-
-    #[inline(always)]
-    fn registered(
-        &mut self,
-        _sight: &Sight<NoTrace>,
-        _line: WaitList,
-        _key: Key,
-        _answer: &Option<Task>,
-    ) {}
-
-    #[inline(always)]
-    fn taken_off(&mut self, _sight: &Sight<NoTrace>, _line: WaitList, _key: Key) {}
-
-    #[inline(always)]
-    fn one_told(&mut self, _sight: &Sight<NoTrace>, _line: WaitList) {}
-
-    #[inline(always)]
-    fn more_told(&mut self, _sight: &Sight<NoTrace>, _line: WaitList, _count: usize) {}
-
-    #[inline(always)]
-    fn all_told(&mut self, _sight: &Sight<NoTrace>, _line: WaitList) {}
-
-    #[inline(always)]
-    fn counted(&mut self, _sight: &Sight<NoTrace>, _side: Side, _found: usize) {}
-
-    #[inline(always)]
-    fn lowered(&mut self, _sight: &Sight<NoTrace>, _side: Side, _found: usize) {}
-
-    #[inline(always)]
-    fn raised(&mut self, _sight: &Sight<NoTrace>, _side: Side, _from: usize, _done: bool) {}
-
-    #[inline(always)]
-    fn parks(&mut self, _sight: &Sight<NoTrace>, _answer: &Option<Task>) {}
-
-    #[inline(always)]
-    fn sleeps(&mut self, _sight: &Sight<NoTrace>) {}
+    fn saw(&mut self, _sight: &Sight<NoTrace>, _it: Shown<'_>) {}
 }
