@@ -96,30 +96,48 @@ fn clones<R: Wait + Copy>(ends: Ends<R>) -> Option<bool> {
     Some(open && receiver.is_closed() && weak.upgrade().ok()?.is_none())
 }
 
-/// Whether the one with this number is right, on a channel of one place.
-fn answers<R>(rt: R, ends: &Ends<R>, number: u32) -> Option<bool>
+/// Those that take a channel of one place.
+#[derive(Drop)]
+enum OnOnePlace {
+    TriesToSend,
+    Displaces,
+    Sends,
+    TriesToReceive,
+    Receives,
+    Closes,
+}
+
+/// Whether this one answers as it is told to.
+fn is_right<R>(rt: R, ends: &Ends<R>, call: OnOnePlace) -> Option<bool>
 where
     R: Wait + Copy + RandomSource + AllocGlobal,
 {
-    match number {
-        0 => tries_to_send(ends),
-        1 => displaces(ends),
-        2 => sends(rt, ends),
-        3 => tries_to_receive(ends),
-        4 => receives(rt, ends),
-        _ => closes(ends),
+    match call {
+        OnOnePlace::TriesToSend => tries_to_send(ends),
+        OnOnePlace::Displaces => displaces(ends),
+        OnOnePlace::Sends => sends(rt, ends),
+        OnOnePlace::TriesToReceive => tries_to_receive(ends),
+        OnOnePlace::Receives => receives(rt, ends),
+        OnOnePlace::Closes => closes(ends),
     }
 }
 
-/// How many of the six that take a channel of one place are right, each on a channel of its own.
+/// How many of those are right, each on a channel of its own.
 fn right_on_one_place<R>(rt: R, alloc: Global, ids: &mut EventIds) -> Option<u64>
 where
     R: Wait + Copy + RandomSource + AllocGlobal,
 {
     let mut right = 0u64;
-    for number in 0..6 {
+    for call in [
+        OnOnePlace::TriesToSend,
+        OnOnePlace::Displaces,
+        OnOnePlace::Sends,
+        OnOnePlace::TriesToReceive,
+        OnOnePlace::Receives,
+        OnOnePlace::Closes,
+    ] {
         let ends = bounded(rt, alloc, 1, ids).ok()?;
-        let answer = answers(rt, &ends, number)?;
+        let answer = is_right(rt, &ends, call)?;
         right = right.wrapping_add(u64::from(answer));
     }
     Some(right)
