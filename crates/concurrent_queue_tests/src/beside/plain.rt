@@ -25,18 +25,37 @@ pub(crate) struct Kind {
     pub(crate) is_refused: bool,
 }
 
+const PUSH: Kind = Kind {
+    name: "push",
+    asks: Asks::Push,
+    is_refused: false,
+};
+
+const FORCE_PUSH: Kind = Kind {
+    name: "force",
+    asks: Asks::ForcePush,
+    is_refused: false,
+};
+
+const POP: Kind = Kind {
+    name: "pop",
+    asks: Asks::Pop,
+    is_refused: false,
+};
+
+const CLOSE: Kind = Kind {
+    name: "close",
+    asks: Asks::Close,
+    is_refused: false,
+};
+
+/// Those that change a queue.
+pub(crate) static CHANGES: [Kind; 4] = [PUSH, FORCE_PUSH, POP, CLOSE];
+
 /// The calls. Two of them get no block, where they need one.
 pub(crate) static KINDS: [Kind; 11] = [
-    Kind {
-        name: "push",
-        asks: Asks::Push,
-        is_refused: false,
-    },
-    Kind {
-        name: "force",
-        asks: Asks::ForcePush,
-        is_refused: false,
-    },
+    PUSH,
+    FORCE_PUSH,
     Kind {
         name: "push without memory",
         asks: Asks::Push,
@@ -47,16 +66,8 @@ pub(crate) static KINDS: [Kind; 11] = [
         asks: Asks::ForcePush,
         is_refused: true,
     },
-    Kind {
-        name: "pop",
-        asks: Asks::Pop,
-        is_refused: false,
-    },
-    Kind {
-        name: "close",
-        asks: Asks::Close,
-        is_refused: false,
-    },
+    POP,
+    CLOSE,
     Kind {
         name: "is_closed",
         asks: Asks::IsClosed,
@@ -80,30 +91,6 @@ pub(crate) static KINDS: [Kind; 11] = [
     Kind {
         name: "capacity",
         asks: Asks::Capacity,
-        is_refused: false,
-    },
-];
-
-/// Those that change a queue.
-pub(crate) static CHANGES: [Kind; 4] = [
-    Kind {
-        name: "push",
-        asks: Asks::Push,
-        is_refused: false,
-    },
-    Kind {
-        name: "force",
-        asks: Asks::ForcePush,
-        is_refused: false,
-    },
-    Kind {
-        name: "pop",
-        asks: Asks::Pop,
-        is_refused: false,
-    },
-    Kind {
-        name: "close",
-        asks: Asks::Close,
         is_refused: false,
     },
 ];
