@@ -6,14 +6,14 @@ ghost use Rattle.concurrent_queue.specs.SharedQueue.{IsWordsAlone};
 ghost use Rattle.concurrent_queue.specs.declared.cells.QueueForm.{QueueForm};
 ghost use Rattle.event_listener.specs.Notices.{Woken};
 ghost use Rattle.event_listener.specs.declared.waking.Task.{Task as Waiter};
-ghost use Rattle.channel_calls.specs.Deeds.{Deed, inserted, registered, taken_off, one_told, more_told, all_told, counted, lowered, raised};
+ghost use Rattle.channel_calls.specs.Deeds.{Deed, inserted, registered, taken_off, told, counted, lowered, raised};
 ghost use Rattle.async_channel.specs.Saw.{SawSteps};
 
 use crate::listeners::Listeners;
 use crate::seen::Trace;
 use crate::shared::Shared;
 use channel_calls::raised::Counters;
-use channel_calls::stage::{Side, WaitList};
+use channel_calls::stage::{Side, Telling, WaitList};
 use concurrent_queue::call::QueueReply;
 use concurrent_queue::queue_call::QueueCall;
 use event_listener::error::ListenError;
@@ -84,19 +84,9 @@ pub(crate) trait Places<T>: Drop {
         ensures deed { (names : Names Waiter) × did (taken_off line key names) self.old self.new × Woken K.wakes sink.old names sink.new }
         ensures form { form_of self.new ≡ form_of self.old };
 
-    /// Tells one more of those who wait.
-    fn tell_one<K: Wakes<Task>>(&mut self, line: WaitList, sink: &mut K)
-        ensures deed { (names : Names Waiter) × did (one_told line names) self.old self.new × Woken K.wakes sink.old names sink.new }
-        ensures form { form_of self.new ≡ form_of self.old };
-
-    /// Tells so many more of those who wait, in one section.
-    fn tell_more<K: Wakes<Task>>(&mut self, line: WaitList, count: usize, sink: &mut K)
-        ensures deed { (names : Names Waiter) × did (more_told line count names) self.old self.new × Woken K.wakes sink.old names sink.new }
-        ensures form { form_of self.new ≡ form_of self.old };
-
-    /// Tells all who wait.
-    fn tell_all<K: Wakes<Task>>(&mut self, line: WaitList, sink: &mut K)
-        ensures deed { (names : Names Waiter) × did (all_told line names) self.old self.new × Woken K.wakes sink.old names sink.new }
+    /// Tells these of those who wait, in one section.
+    fn tell<K: Wakes<Task>>(&mut self, line: WaitList, telling: Telling, sink: &mut K)
+        ensures deed { (names : Names Waiter) × did (told line telling names) self.old self.new × Woken K.wakes sink.old names sink.new }
         ensures form { form_of self.new ≡ form_of self.old };
 
     /// The number of handles of this kind.
@@ -201,18 +191,8 @@ impl<'a, T: Drop, R: Wait, B: Drop, L: Listeners> Places<T> for SharedCells<'a, 
     }
 
     #[inline(always)]
-    fn tell_one<S: Wakes<Task>>(&mut self, line: WaitList, sink: &mut S) {
-        self.shared.waiters(line).tell_one(self.rt, sink);
-    }
-
-    #[inline(always)]
-    fn tell_more<S: Wakes<Task>>(&mut self, line: WaitList, count: usize, sink: &mut S) {
-        self.shared.waiters(line).tell_more(self.rt, count, sink);
-    }
-
-    #[inline(always)]
-    fn tell_all<S: Wakes<Task>>(&mut self, line: WaitList, sink: &mut S) {
-        self.shared.waiters(line).tell_all(self.rt, sink);
+    fn tell<S: Wakes<Task>>(&mut self, line: WaitList, telling: Telling, sink: &mut S) {
+        self.shared.waiters(line).tell(self.rt, telling, sink);
     }
 
     fn count(&mut self, side: Side) -> usize {

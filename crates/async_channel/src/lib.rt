@@ -58,7 +58,7 @@ pub use channel_calls::mark::Mark;
 pub use channel_calls::plain::PlainChannel;
 pub use channel_calls::reply::Reply;
 pub use channel_calls::several::{Limit, Messages};
-pub use channel_calls::stage::{Returned, Side, WaitList};
+pub use channel_calls::stage::{Returned, Side, Telling, WaitList};
 pub use concurrent_queue::call::QueueReply;
 pub use concurrent_queue::queue_call::QueueCall;
 pub use event_listener::error::ListenError;

@@ -3,9 +3,10 @@
 ghost use Rattle.std.specs.Prelude.{List as Names};
 ghost use Rattle.event_listener.specs.Notices.{Woken};
 ghost use Rattle.event_listener.specs.declared.waking.Task.{Task as Waiter};
-ghost use Rattle.async_channel.specs.Sections.{Section, inserts, registers, removes, tells_one, tells_more, tells_all};
+ghost use Rattle.async_channel.specs.Sections.{Section, inserts, registers, removes, tells};
 
 use channel_calls::notices;
+use channel_calls::stage::Telling;
 use event_listener::error::ListenError;
 use event_listener::key::Key;
 use event_listener::list::List;
@@ -30,17 +31,9 @@ pub(crate) trait Listeners: Drop {
     fn remove<K: Wakes<Task>>(&mut self, key: Key, sink: &mut K)
         ensures { (names : Names Waiter) × did (removes key names) self.old self.new × Woken K.wakes sink.old names sink.new };
 
-    /// Tells one more of those who wait.
-    fn tell_one<K: Wakes<Task>>(&mut self, sink: &mut K)
-        ensures { (names : Names Waiter) × did (tells_one names) self.old self.new × Woken K.wakes sink.old names sink.new };
-
-    /// Tells so many more of those who wait.
-    fn tell_more<K: Wakes<Task>>(&mut self, count: usize, sink: &mut K)
-        ensures { (names : Names Waiter) × did (tells_more count names) self.old self.new × Woken K.wakes sink.old names sink.new };
-
-    /// Tells all who wait.
-    fn tell_all<K: Wakes<Task>>(&mut self, sink: &mut K)
-        ensures { (names : Names Waiter) × did (tells_all names) self.old self.new × Woken K.wakes sink.old names sink.new };
+    /// Tells these of those who wait.
+    fn tell<K: Wakes<Task>>(&mut self, telling: Telling, sink: &mut K)
+        ensures { (names : Names Waiter) × did (tells telling names) self.old self.new × Woken K.wakes sink.old names sink.new };
 }
 
 impl Listeners for List<(), Task> {
@@ -64,17 +57,7 @@ impl Listeners for List<(), Task> {
     }
 
     #[inline(always)]
-    fn tell_one<K: Wakes<Task>>(&mut self, sink: &mut K) {
-        notices::tell_one(self, sink);
-    }
-
-    #[inline(always)]
-    fn tell_more<K: Wakes<Task>>(&mut self, count: usize, sink: &mut K) {
-        notices::tell_more(self, count, sink);
-    }
-
-    #[inline(always)]
-    fn tell_all<K: Wakes<Task>>(&mut self, sink: &mut K) {
-        notices::tell_all(self, sink);
+    fn tell<K: Wakes<Task>>(&mut self, telling: Telling, sink: &mut K) {
+        notices::tell(self, telling, sink);
     }
 }

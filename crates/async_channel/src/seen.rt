@@ -11,7 +11,7 @@ use crate::cells::{Beds, Places, SharedCells, SharedWords, Words};
 use crate::shared::Shared;
 use channel_calls::cells::ChannelCells;
 use channel_calls::sleeps::Sleeps;
-use channel_calls::stage::{Side, WaitList};
+use channel_calls::stage::{Side, Telling, WaitList};
 use channel_calls::words::ChannelWords;
 use concurrent_queue::call::QueueReply;
 use concurrent_queue::queue_call::QueueCall;
@@ -46,12 +46,8 @@ pub enum Shown<'a> {
     Registered(WaitList, Key, &'a Option<Task>),
     /// A listener was taken off.
     TakenOff(WaitList, Key),
-    /// One more of those who wait was told.
-    OneTold(WaitList),
-    /// So many more of those who wait were told.
-    MoreTold(WaitList, usize),
-    /// All who wait were told.
-    AllTold(WaitList),
+    /// These of those who wait were told.
+    Told(WaitList, Telling),
     /// So many handles of this kind were counted.
     Counted(Side, usize),
     /// The count of handles of this kind was lowered, and was this before.
@@ -201,24 +197,10 @@ impl<T, C: Places<T>, S: Trace<T>> ChannelCells<T, Task> for Seen<C, S> {
     }
 
     #[inline(always)]
-    fn tell_one<K: Wakes<Task>>(&mut self, line: WaitList, sink: &mut K) {
-        self.cells.tell_one(line, sink);
+    fn tell<K: Wakes<Task>>(&mut self, line: WaitList, telling: Telling, sink: &mut K) {
+        self.cells.tell(line, telling, sink);
         self.trace
-            .saw(&Sight { of: PhantomData }, Shown::OneTold(line));
-    }
-
-    #[inline(always)]
-    fn tell_more<K: Wakes<Task>>(&mut self, line: WaitList, count: usize, sink: &mut K) {
-        self.cells.tell_more(line, count, sink);
-        self.trace
-            .saw(&Sight { of: PhantomData }, Shown::MoreTold(line, count));
-    }
-
-    #[inline(always)]
-    fn tell_all<K: Wakes<Task>>(&mut self, line: WaitList, sink: &mut K) {
-        self.cells.tell_all(line, sink);
-        self.trace
-            .saw(&Sight { of: PhantomData }, Shown::AllTold(line));
+            .saw(&Sight { of: PhantomData }, Shown::Told(line, telling));
     }
 
     #[inline(always)]

@@ -3,9 +3,10 @@
 ghost use Rattle.std.specs.Prelude.{List as Names};
 ghost use Rattle.event_listener.specs.Notices.{Woken};
 ghost use Rattle.event_listener.specs.declared.waking.Task.{Task as Waiter};
-ghost use Rattle.async_channel.specs.Sections.{OnSome, inserts, registers, removes, tells_one, tells_more, tells_all};
+ghost use Rattle.async_channel.specs.Sections.{OnSome, inserts, registers, removes, tells};
 
 use crate::listeners::Listeners;
+use channel_calls::stage::Telling;
 use event_listener::error::ListenError;
 use event_listener::key::Key;
 use event_listener::section::{Locked, Section};
@@ -68,29 +69,12 @@ impl<L: Listeners> Turn<'_, L> {
         section.enter(rt).value().remove(key, sink);
     }
 
-    /// Tells one more of those who wait.
+    /// Tells these of those who wait.
     #[inline(always)]
-    pub(crate) fn tell_one<R: Wait, S: Wakes<Task>>(self, rt: &R, sink: &mut S)
-        ensures { (names : Names Waiter) × OnSome L.did (tells_one names) × Woken S.wakes sink.old names sink.new }
+    pub(crate) fn tell<R: Wait, S: Wakes<Task>>(self, rt: &R, telling: Telling, sink: &mut S)
+        ensures { (names : Names Waiter) × OnSome L.did (tells telling names) × Woken S.wakes sink.old names sink.new }
     {
         let Turn { section } = self;
-        section.enter(rt).value().tell_one(sink);
-    }
-
-    /// Tells so many more of those who wait.
-    pub(crate) fn tell_more<R: Wait, S: Wakes<Task>>(self, rt: &R, count: usize, sink: &mut S)
-        ensures { (names : Names Waiter) × OnSome L.did (tells_more count names) × Woken S.wakes sink.old names sink.new }
-    {
-        let Turn { section } = self;
-        section.enter(rt).value().tell_more(count, sink);
-    }
-
-    /// Tells all who wait.
-    #[inline(always)]
-    pub(crate) fn tell_all<R: Wait, S: Wakes<Task>>(self, rt: &R, sink: &mut S)
-        ensures { (names : Names Waiter) × OnSome L.did (tells_all names) × Woken S.wakes sink.old names sink.new }
-    {
-        let Turn { section } = self;
-        section.enter(rt).value().tell_all(sink);
+        section.enter(rt).value().tell(telling, sink);
     }
 }

@@ -4,7 +4,7 @@
 use channel_calls::cells::ChannelCells;
 use channel_calls::notices;
 use channel_calls::sleeps::Sleeps;
-use channel_calls::stage::{Side, WaitList};
+use channel_calls::stage::{Side, Telling, WaitList};
 use concurrent_queue::call::QueueReply;
 use concurrent_queue::queue_call::QueueCall;
 use concurrent_queue::shared::queue::ConcurrentQueue;
@@ -68,7 +68,7 @@ impl<'a, R: Wait> Beside<'a, R> {
         ensures { self.new.queue ≡ self.old.queue }
     {
         let _ = self.queue.pop(self.rt);
-        notices::tell_one(&mut self.sends, &mut self.last);
+        notices::tell(&mut self.sends, Telling::One, &mut self.last);
     }
 
     /// A further send waits, which has its task.
@@ -120,24 +120,10 @@ impl<'a, R: Wait> ChannelCells<u64, u32> for Beside<'a, R> {
         };
     }
 
-    fn tell_one<S: Wakes<u32>>(&mut self, line: WaitList, sink: &mut S) {
+    fn tell<S: Wakes<u32>>(&mut self, line: WaitList, telling: Telling, sink: &mut S) {
         match line {
-            WaitList::Sends => notices::tell_one(&mut self.sends, sink),
-            _ => notices::tell_one(&mut self.others, sink),
-        }
-    }
-
-    fn tell_more<S: Wakes<u32>>(&mut self, line: WaitList, count: usize, sink: &mut S) {
-        match line {
-            WaitList::Sends => notices::tell_more(&mut self.sends, count, sink),
-            _ => notices::tell_more(&mut self.others, count, sink),
-        }
-    }
-
-    fn tell_all<S: Wakes<u32>>(&mut self, line: WaitList, sink: &mut S) {
-        match line {
-            WaitList::Sends => notices::tell_all(&mut self.sends, sink),
-            _ => notices::tell_all(&mut self.others, sink),
+            WaitList::Sends => notices::tell(&mut self.sends, telling, sink),
+            _ => notices::tell(&mut self.others, telling, sink),
         }
     }
 

@@ -6,7 +6,7 @@ ghost use Rattle.channel_calls.specs.Plain.{form_of, parts_of};
 use crate::woken::Woken;
 use channel_calls::cells::ChannelCells;
 use channel_calls::plain::PlainChannel;
-use channel_calls::stage::{Side, WaitList};
+use channel_calls::stage::{Side, Telling, WaitList};
 use concurrent_queue::call::QueueReply;
 use concurrent_queue::queue_call::QueueCall;
 use event_listener::error::ListenError;
@@ -73,16 +73,8 @@ impl ChannelCells<u64, u32> for Scarce {
         self.channel.remove(line, key, &mut self.woken)
     }
 
-    fn tell_one<S: Wakes<u32>>(&mut self, line: WaitList, _: &mut S) {
-        self.channel.tell_one(line, &mut self.woken)
-    }
-
-    fn tell_more<S: Wakes<u32>>(&mut self, line: WaitList, count: usize, _: &mut S) {
-        self.channel.tell_more(line, count, &mut self.woken)
-    }
-
-    fn tell_all<S: Wakes<u32>>(&mut self, line: WaitList, _: &mut S) {
-        self.channel.tell_all(line, &mut self.woken)
+    fn tell<S: Wakes<u32>>(&mut self, line: WaitList, telling: Telling, _: &mut S) {
+        self.channel.tell(line, telling, &mut self.woken)
     }
 
     fn count(&mut self, side: Side) -> usize {

@@ -1,7 +1,7 @@
 //! What calls of handles do to their channel, as a trace of the caller's sees it: alone, and beside another thread.
 
 use crate::checks::expect_equal;
-use async_channel::{Receiver, Refused, Sender, TryRecvError, TrySendError, WaitList};
+use async_channel::{Receiver, Refused, Sender, Telling, TryRecvError, TrySendError, WaitList};
 use channel_test_helpers::log::{
     Did, Log, close_logged, recv_blocking_logged, try_recv_logged, try_send_logged,
 };
@@ -14,27 +14,27 @@ use std::thread::Threads;
 /// Those who wait for a message are told.
 const SENT: [Did; 3] = [
     Did::Operated,
-    Did::OneTold(WaitList::Receives),
-    Did::AllTold(WaitList::Streams),
+    Did::Told(WaitList::Receives, Telling::One),
+    Did::Told(WaitList::Streams, Telling::All),
 ];
 
 /// One who waits for a place is told.
-const RECEIVED: [Did; 2] = [Did::Operated, Did::OneTold(WaitList::Sends)];
+const RECEIVED: [Did; 2] = [Did::Operated, Did::Told(WaitList::Sends, Telling::One)];
 
 /// So did a receive whose message came while it listened, before it was to sleep: its listener leaves.
 const RECEIVED_LISTENING: [Did; 3] = [
     Did::Operated,
-    Did::OneTold(WaitList::Sends),
+    Did::Told(WaitList::Sends, Telling::One),
     Did::TakenOff(WaitList::Receives),
 ];
 
 /// All who wait are told.
 const CLOSED: [Did; 5] = [
     Did::Operated,
-    Did::AllTold(WaitList::Sends),
-    Did::AllTold(WaitList::Receives),
-    Did::AllTold(WaitList::Streams),
-    Did::AllTold(WaitList::Closings),
+    Did::Told(WaitList::Sends, Telling::All),
+    Did::Told(WaitList::Receives, Telling::All),
+    Did::Told(WaitList::Streams, Telling::All),
+    Did::Told(WaitList::Closings, Telling::All),
 ];
 
 /// Nothing came of it but the answer.

@@ -2,8 +2,7 @@
 
 use crate::checks::expect_equal;
 use async_channel::{EventIds, Receiver, Sender, Shown, Sight, Trace, bounded_watched};
-use concurrent_queue::cells::{Slot, Word};
-use concurrent_queue::error::NoMemory;
+use concurrent_queue::cells::Slot;
 use concurrent_queue::seen as queue;
 use std::sync::Wait;
 use std::sync::atomic::{AtomicUsize, Ordering};
@@ -35,52 +34,13 @@ impl queue::Trace<u64> for Watcher<'_> {
 
     ghost brought = { λ _ _ _ _. Unit {0} };
 
-    fn loaded(&mut self, _sight: &queue::Sight<Self>, _at: Word, _found: u64) {
-        note(&self.tallies.operations);
-    }
-
-    fn stored(&mut self, _sight: &queue::Sight<Self>, _at: Word, _value: u64) {
-        note(&self.tallies.operations);
-    }
-
-    fn exchanged(
-        &mut self,
-        _sight: &queue::Sight<Self>,
-        _at: Word,
-        _expected: u64,
-        _next: u64,
-        _answer: Result<u64, u64>,
-    ) {
-        note(&self.tallies.operations);
-    }
-
-    fn added(&mut self, _sight: &queue::Sight<Self>, _at: Word, _by: u64, _found: u64) {
-        note(&self.tallies.operations);
-    }
-
-    fn bits_set(&mut self, _sight: &queue::Sight<Self>, _at: Word, _bits: u64, _found: u64) {
-        note(&self.tallies.operations);
-    }
-
-    fn bits_kept(&mut self, _sight: &queue::Sight<Self>, _at: Word, _bits: u64, _found: u64) {
+    fn operated(&mut self, _sight: &queue::Sight<Self>, _it: queue::Shown) {
         note(&self.tallies.operations);
     }
 
     fn bring(&mut self, _sight: &queue::Sight<Self>, _at: Slot, _message: &u64) {}
 
-    fn put(&mut self, _sight: &queue::Sight<Self>, _at: Slot, _done: bool) {
-        note(&self.tallies.operations);
-    }
-
     fn taken(&mut self, _sight: &queue::Sight<Self>, _at: Slot, _found: &Option<u64>) {
-        note(&self.tallies.operations);
-    }
-
-    fn spared(&mut self, _sight: &queue::Sight<Self>, _answer: Result<u64, NoMemory>) {
-        note(&self.tallies.operations);
-    }
-
-    fn retired(&mut self, _sight: &queue::Sight<Self>, _block: u64) {
         note(&self.tallies.operations);
     }
 }

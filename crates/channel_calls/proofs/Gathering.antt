@@ -8,7 +8,7 @@ use Rattle.concurrent_queue.specs.declared.call.QueueReply.TheVariants.{Pop}
 use Rattle.concurrent_queue.specs.declared.queue_call.QueueCall.{QueueCall}
 use Rattle.channel_calls.specs.Answered.{several_next, hands_out}
 use Rattle.channel_calls.specs.Asks.{first}
-use Rattle.channel_calls.specs.Deeds.{Deed, stepped, more_told}
+use Rattle.channel_calls.specs.Deeds.{Deed, stepped, told}
 use Rattle.channel_calls.specs.Filling.{popped_as}
 use Rattle.channel_calls.specs.Marks.{mark_of_queue}
 use Rattle.channel_calls.specs.Several.{Gathered, gathering}
@@ -21,6 +21,7 @@ use Rattle.channel_calls.specs.declared.error.TryRecvError.TheVariants as try_re
 use Rattle.channel_calls.specs.declared.mark.Mark.TheVariants.{Nothing}
 use Rattle.channel_calls.specs.declared.reply.Reply.TheVariants as reply
 use Rattle.channel_calls.specs.declared.stage.Purpose.TheVariants as purpose
+use Rattle.channel_calls.specs.declared.stage.Telling.TheVariants.{More}
 use Rattle.channel_calls.specs.declared.stage.WaitList.TheVariants.{Sends}
 use Rattle.channel_calls.specs.declared.stage.Stage.{Stage}
 use Rattle.channel_calls.specs.declared.stage.Stage.TheVariants.{Trying, Working, Finished}
@@ -99,14 +100,14 @@ module _ {T W X : Type 0} (did : Deed T W → X → X → Type 0) where
 
     module _ (more : ℕ) (gathers : Gathers room s call taken more t) (y : QueueReply T) (deed : did (stepped call after (Some y)) t u) where
       -- the answer is the last one: what was taken is handed out
-      pub hands : (vs : List T) → several_next y (with_these taken more) ≡ hands_out {W = W} vs → (names : List W) (w : X) → did (more_told Sends (length vs) names) u w
+      pub hands : (vs : List T) → several_next y (with_these taken more) ≡ hands_out {W = W} vs → (names : List W) (w : X) → did (told Sends (More (length vs)) names) u w
           → WalkedTo did (first (ask.RecvMany room)) s (reply.RecvMany (Ok vs)) w
-      hands vs e names w told =
+      hands vs e names w heard =
           let g = with_these taken more in
           let tells : Stage (QueueCall T) T W = Working (TellSends (length vs) (says (reply.RecvMany (Ok vs)))) in
           let turn : Takes (several_next y g) tells None = subst (λ (z : NextStep T W). Takes z tells None) (sym e) (refl, refl) in
           let leads = leads_on did gathers.0 s (Working (TakeRoom room)) t (Trying call (purpose.RecvMany g)) (mark_of_queue (mark_of after)) u tells gathers.1 (after, Some y, deed, refl, turn) in
-          (nothing_kept, (Working (TakeRoom room), (refl, refl), (suc gathers.0, u, tells, Nothing, Finished nothing_kept, leads, (names, told, (refl, (refl, refl))), refl)))
+          (nothing_kept, (Working (TakeRoom room), (refl, refl), (suc gathers.0, u, tells, Nothing, Finished nothing_kept, leads, (names, heard, (refl, (refl, refl))), refl)))
 
       -- or nothing was taken
       pub finds_none : (e : TryRecvError) → several_next y (with_these taken more) ≡ refusal {W = W} e → WalkedTo did (first (ask.RecvMany room)) s (reply.RecvMany (Err (Plain e))) u

@@ -7,6 +7,7 @@ use Rattle.event_listener.specs.Notices.{Woken}
 use Rattle.event_listener.specs.declared.key.Key.{Key}
 use Rattle.event_listener.specs.declared.error.ListenError.{ListenError}
 use Rattle.channel_calls.specs.declared.stage.WaitList.{WaitList}
+use Rattle.channel_calls.specs.declared.stage.Telling.{Telling}
 use Rattle.channel_calls.specs.declared.stage.Side.{Side}
 
 -- a deed, with its answer. A telling and a removal answer whom they woke, in order
@@ -15,9 +16,7 @@ pub data Deed (T W : Type 0) : Type 0 where
   inserted : WaitList → Result Key ListenError → Deed T W
   registered : WaitList → Key → W → Option W → Deed T W
   taken_off : WaitList → Key → List W → Deed T W
-  one_told : WaitList → List W → Deed T W
-  more_told : WaitList → ℕ → List W → Deed T W
-  all_told : WaitList → List W → Deed T W
+  told : WaitList → Telling → List W → Deed T W
   counted : Side → ℕ → Deed T W
   lowered : Side → ℕ → Deed T W
   raised : Side → ℕ → Bool → Deed T W
@@ -26,9 +25,7 @@ module _ {T W : Type 0} where
   -- whom it woke
   abbrev pub woken_by : Deed T W → List W
   woken_by (taken_off line key names) = names
-  woken_by (one_told line names) = names
-  woken_by (more_told line n names) = names
-  woken_by (all_told line names) = names
+  woken_by (told line telling names) = names
   woken_by _ = []
 
   -- it was done to the cells, and whom it woke went to the sink in order, and nobody else

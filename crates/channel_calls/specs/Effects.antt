@@ -2,8 +2,8 @@
 use Rattle.std.specs.Prelude.{◌≡◌, ◌+◌, ◌-◌, true, if◌then◌else◌, None, Ok, Err}
 use Rattle.concurrent_queue.specs.Step.{IsQueueStep}
 use Rattle.event_listener.specs.Lists.{kind_of, listened, registration, removed, removed_wakes}
-use Rattle.channel_calls.specs.Deeds.{Deed, stepped, inserted, registered, taken_off, one_told, more_told, all_told, counted, lowered, raised}
-use Rattle.channel_calls.specs.Parts.{Parts, Listeners, with_wait_lists, listeners, with_listeners, count, with_count, is_raised, told_one, told_one_wakes, told_more, told_more_wakes, told_all, told_all_wakes, Registers}
+use Rattle.channel_calls.specs.Deeds.{Deed, stepped, inserted, registered, taken_off, told, counted, lowered, raised}
+use Rattle.channel_calls.specs.Parts.{Parts, Listeners, with_wait_lists, listeners, with_listeners, count, with_count, is_raised, told_as, told_as_wakes, Registers}
 use Rattle.channel_calls.specs.declared.stage.WaitList.{WaitList}
 
 module _ {T W : Type 0} where
@@ -17,9 +17,7 @@ module _ {T W : Type 0} where
   Does (inserted line (Err e)) p q = q ≡ p
   Does (registered line key task r) p q = Registers (listeners line p.wait_lists) key task r × OnList line (registration key task (listeners line p.wait_lists)) p q
   Does (taken_off line key names) p q = (names ≡ removed_wakes key true (listeners line p.wait_lists)) × OnList line (removed key true (listeners line p.wait_lists)) p q
-  Does (one_told line names) p q = (names ≡ told_one_wakes (listeners line p.wait_lists)) × OnList line (told_one (listeners line p.wait_lists)) p q
-  Does (more_told line n names) p q = (names ≡ told_more_wakes n (listeners line p.wait_lists)) × OnList line (told_more n (listeners line p.wait_lists)) p q
-  Does (all_told line names) p q = (names ≡ told_all_wakes (listeners line p.wait_lists)) × OnList line (told_all (listeners line p.wait_lists)) p q
+  Does (told line telling names) p q = (names ≡ told_as_wakes telling (listeners line p.wait_lists)) × OnList line (told_as telling (listeners line p.wait_lists)) p q
   Does (counted side n) p q = (n ≡ count side p.wait_lists) × (q ≡ p)
   Does (lowered side n) p q = (n ≡ count side p.wait_lists) × (q ≡ with_wait_lists (with_count side (n - 1) p.wait_lists) p)
   Does (raised side n b) p q =

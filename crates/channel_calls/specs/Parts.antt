@@ -3,6 +3,8 @@ use Rattle.std.specs.Prelude.{◌≡◌, ℕ, zero, suc, ◌-◌, ◌^◌, ◌==
 use Rattle.concurrent_queue.specs.Contents.{Contents}
 use Rattle.event_listener.specs.Lists.{Lists, kind_of, told_with, tasks_of, passed, passed_wakes}
 use Rattle.event_listener.specs.declared.key.Key.{Key}
+use Rattle.channel_calls.specs.declared.stage.Telling.{Telling}
+use Rattle.channel_calls.specs.declared.stage.Telling.TheVariants.{One, More, All}
 use Rattle.channel_calls.specs.declared.stage.WaitList.{WaitList}
 use Rattle.channel_calls.specs.declared.stage.WaitList.TheVariants.{Sends, Receives, Streams, Closings}
 use Rattle.channel_calls.specs.declared.stage.Side.{Side}
@@ -88,6 +90,16 @@ module _ {W : Type 0} where
 
   abbrev pub told_all_wakes : Listeners W → List W
   told_all_wakes l = tasks_of l.waiting
+
+  abbrev pub told_as : Telling → Listeners W → Listeners W
+  told_as One l = told_one l
+  told_as (More n) l = told_more n l
+  told_as All l = told_all l
+
+  abbrev pub told_as_wakes : Telling → Listeners W → List W
+  told_as_wakes One l = told_one_wakes l
+  told_as_wakes (More n) l = told_more_wakes n l
+  told_as_wakes All l = told_all_wakes l
 
   -- whether this listener waits
   abbrev pub waits : Key → Listeners W → Bool

@@ -8,7 +8,7 @@ use Rattle.concurrent_queue.specs.declared.queue_call.QueueCall.{QueueCall}
 use Rattle.concurrent_queue.specs.declared.call.QueueReply.{QueueReply}
 use Rattle.event_listener.specs.declared.key.Key.{Key}
 use Rattle.event_listener.specs.declared.error.ListenError.{ListenError}
-use Rattle.channel_calls.specs.Deeds.{Deed, stepped, inserted, registered, taken_off, one_told, more_told, all_told, counted, lowered, raised}
+use Rattle.channel_calls.specs.Deeds.{Deed, stepped, inserted, registered, taken_off, told, counted, lowered, raised}
 use Rattle.channel_calls.specs.Answered.{answered_next}
 use Rattle.channel_calls.specs.Asks.{kept_by}
 use Rattle.channel_calls.specs.Marks.{mark_of_queue, up, down}
@@ -21,6 +21,7 @@ use Rattle.channel_calls.specs.declared.reply.Reply.TheVariants as reply
 use Rattle.channel_calls.specs.declared.stage.Purpose.{Purpose}
 use Rattle.channel_calls.specs.declared.stage.ListenerRef.{ListenerRef}
 use Rattle.channel_calls.specs.declared.stage.Returned.{Returned}
+use Rattle.channel_calls.specs.declared.stage.Telling.TheVariants.{One, More, All}
 use Rattle.channel_calls.specs.declared.stage.WaitList.TheVariants.{Sends, Receives, Streams}
 use Rattle.channel_calls.specs.declared.stage.Side.{Side}
 use Rattle.channel_calls.specs.declared.stage.Stage.{Stage}
@@ -59,12 +60,12 @@ module _ {T W X : Type 0} (did : Deed T W → X → X → Type 0) where
 
   -- a step on a list or on a count
   abbrev pub WorkMakes : ListStep T W → X → X → Mark → Stage (QueueCall T) T W → Option (Reply T) → Type 0
-  WorkMakes (TellReceive e) s t m next r = (names : List W) × did (one_told Receives names) s t × Marked Nothing (Works (TellStreams e)) m next r
-  WorkMakes (TellStreams e) s t m next r = (names : List W) × did (all_told Streams names) s t × Marked Nothing (ends_by e) m next r
-  WorkMakes (TellSend e) s t m next r = (names : List W) × did (one_told Sends names) s t × Marked Nothing (ends_by e) m next r
-  WorkMakes (TellSends n e) s t m next r = (names : List W) × did (more_told Sends n names) s t × Marked Nothing (ends_by e) m next r
+  WorkMakes (TellReceive e) s t m next r = (names : List W) × did (told Receives One names) s t × Marked Nothing (Works (TellStreams e)) m next r
+  WorkMakes (TellStreams e) s t m next r = (names : List W) × did (told Streams All names) s t × Marked Nothing (ends_by e) m next r
+  WorkMakes (TellSend e) s t m next r = (names : List W) × did (told Sends One names) s t × Marked Nothing (ends_by e) m next r
+  WorkMakes (TellSends n e) s t m next r = (names : List W) × did (told Sends (More n) names) s t × Marked Nothing (ends_by e) m next r
   WorkMakes (TakeRoom n) s t m next r = (turn : NextStep T W) × (t ≡ s) × TakesRoom n turn × Marked Nothing turn m next r
-  WorkMakes (TellAll line c) s t m next r = (names : List W) × did (all_told line names) s t × Marked Nothing (told_all_next line c) m next r
+  WorkMakes (TellAll line c) s t m next r = (names : List W) × did (told line All names) s t × Marked Nothing (told_all_next line c) m next r
   WorkMakes (Insert w task) s t m next r =
       (o : Result Key ListenError) × did (inserted (line_of w) o) s t × Marked Nothing (inserted_next w task o) m next r
   WorkMakes (Register w key task) s t m next r =

@@ -4,10 +4,10 @@ ghost use Rattle.std.specs.Prelude.{List};
 ghost use Rattle.event_listener.specs.Notices.{Woken};
 ghost use Rattle.concurrent_queue.specs.Replies.{Follows};
 ghost use Rattle.channel_calls.specs.Parts.{Parts};
-ghost use Rattle.channel_calls.specs.Deeds.{Deed, stepped, inserted, registered, taken_off, one_told, more_told, all_told, counted, lowered, raised};
+ghost use Rattle.channel_calls.specs.Deeds.{Deed, stepped, inserted, registered, taken_off, told, counted, lowered, raised};
 ghost use Rattle.channel_calls.specs.Effects.{IsExact};
 
-use crate::stage::{Side, WaitList};
+use crate::stage::{Side, Telling, WaitList};
 use concurrent_queue::call::QueueReply;
 use concurrent_queue::queue_call::QueueCall;
 use event_listener::error::ListenError;
@@ -61,19 +61,9 @@ pub trait ChannelCells<T, W> {
         ensures deed { (names : List W) × did (taken_off line key names) self.old self.new × Woken S.wakes sink.old names sink.new }
         ensures form { (f : QueueForm) → has_form self.old f → has_form self.new f };
 
-    /// Tells one more of those who wait.
-    fn tell_one<S: Wakes<W>>(&mut self, line: WaitList, sink: &mut S)
-        ensures deed { (names : List W) × did (one_told line names) self.old self.new × Woken S.wakes sink.old names sink.new }
-        ensures form { (f : QueueForm) → has_form self.old f → has_form self.new f };
-
-    /// Tells so many more of those who wait, in one section.
-    fn tell_more<S: Wakes<W>>(&mut self, line: WaitList, count: usize, sink: &mut S)
-        ensures deed { (names : List W) × did (more_told line count names) self.old self.new × Woken S.wakes sink.old names sink.new }
-        ensures form { (f : QueueForm) → has_form self.old f → has_form self.new f };
-
-    /// Tells all who wait.
-    fn tell_all<S: Wakes<W>>(&mut self, line: WaitList, sink: &mut S)
-        ensures deed { (names : List W) × did (all_told line names) self.old self.new × Woken S.wakes sink.old names sink.new }
+    /// Tells these of those who wait, in one section.
+    fn tell<S: Wakes<W>>(&mut self, line: WaitList, telling: Telling, sink: &mut S)
+        ensures deed { (names : List W) × did (told line telling names) self.old self.new × Woken S.wakes sink.old names sink.new }
         ensures form { (f : QueueForm) → has_form self.old f → has_form self.new f };
 
     /// The number of handles of this kind.

@@ -19,7 +19,7 @@ use crate::call::ChannelCall;
 use crate::cells::ChannelCells;
 use crate::mark::Mark;
 use crate::reply::Reply;
-use crate::stage::{NextStep, Purpose, Stage, WaitList};
+use crate::stage::{NextStep, Purpose, Stage, Telling, WaitList};
 use crate::step::{Stepped, takes};
 use concurrent_queue::call::QueueReply;
 use concurrent_queue::queue_call::QueueCall;
@@ -103,8 +103,8 @@ pub fn send_fast<T: Drop, W: Drop, C: ChannelCells<T, W>, S: Wakes<W>>(
             drop(call);
             match pushed(answer) {
                 Ok(()) => {
-                    cells.tell_one(WaitList::Receives, sink);
-                    cells.tell_all(WaitList::Streams, sink);
+                    cells.tell(WaitList::Receives, Telling::One, sink);
+                    cells.tell(WaitList::Streams, Telling::All, sink);
                     Ok(Reply::TrySend(Ok(())))
                 }
                 Err(answer) => turned(sent_next(answer), mark),
@@ -138,8 +138,8 @@ pub fn displace_fast<T: Drop, W: Drop, C: ChannelCells<T, W>, S: Wakes<W>>(
             drop(call);
             match displaced(answer) {
                 Ok(old) => {
-                    cells.tell_one(WaitList::Receives, sink);
-                    cells.tell_all(WaitList::Streams, sink);
+                    cells.tell(WaitList::Receives, Telling::One, sink);
+                    cells.tell(WaitList::Streams, Telling::All, sink);
                     Ok(Reply::ForceSend(Ok(old)))
                 }
                 Err(answer) => turned(forced_next(answer), mark),
@@ -172,7 +172,7 @@ pub fn receive_fast<T: Drop, W: Drop, C: ChannelCells<T, W>, S: Wakes<W>>(
             drop(call);
             match popped(answer) {
                 Ok(message) => {
-                    cells.tell_one(WaitList::Sends, sink);
+                    cells.tell(WaitList::Sends, Telling::One, sink);
                     Ok(Reply::TryRecv(Ok(message)))
                 }
                 Err(answer) => turned(received_next(answer), mark),

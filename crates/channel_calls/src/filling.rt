@@ -7,12 +7,12 @@ ghost use Rattle.std.specs.Prelude.{◌≡◌, ◌≤◌, ◌<◌, List, MatchRe
 ghost use Rattle.std.specs.Vec.{vec_capacity, vec_ptr};
 ghost use Rattle.concurrent_queue.specs.Replies.{MayPop};
 ghost use Rattle.concurrent_queue.specs.declared.cells.QueueForm.{QueueForm};
-ghost use Rattle.channel_calls.specs.Deeds.{Done, more_told};
+ghost use Rattle.channel_calls.specs.Deeds.{Done, told};
 ghost use Rattle.channel_calls.specs.Filling.{room_in, popped_as, Fills};
 
 use crate::cells::ChannelCells;
 use crate::error::TryRecvError;
-use crate::stage::WaitList;
+use crate::stage::{Telling, WaitList};
 use concurrent_queue::call::QueueReply;
 use concurrent_queue::error::PopError;
 use concurrent_queue::queue_call::QueueCall;
@@ -39,10 +39,10 @@ fn tells<T, W, C: ChannelCells<T, W>, S: Wakes<W>>(
     sink: &mut S,
 ) -> usize
     ensures count { result ≡ taken }
-    ensures deed { (names : List W) × Done C.did S.wakes (more_told WaitList.Sends taken names) (cells.old, sink.old) (cells.new, sink.new) }
+    ensures deed { (names : List W) × Done C.did S.wakes (told WaitList.Sends (Telling.More taken) names) (cells.old, sink.old) (cells.new, sink.new) }
     ensures form { (f : QueueForm) → C.has_form cells.old f → C.has_form cells.new f }
 {
-    cells.tell_more(WaitList::Sends, taken, sink);
+    cells.tell(WaitList::Sends, Telling::More(taken), sink);
     taken
 }
 

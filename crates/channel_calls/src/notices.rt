@@ -4,8 +4,9 @@ ghost use Rattle.std.specs.Prelude.{◌≡◌};
 ghost use Rattle.event_listener.specs.Notices.{Woken};
 ghost use Rattle.event_listener.specs.Lists.{registration};
 ghost use Rattle.event_listener.specs.Runs.{room_polled};
-ghost use Rattle.channel_calls.specs.Parts.{told_one, told_one_wakes, told_more, told_more_wakes, told_all, told_all_wakes, Registers};
+ghost use Rattle.channel_calls.specs.Parts.{told_one, told_one_wakes, told_more, told_more_wakes, told_all, told_all_wakes, told_as, told_as_wakes, Registers};
 
+use crate::stage::Telling;
 use event_listener::key::Key;
 use event_listener::list::List;
 use event_listener::notify::{Additional, Notify};
@@ -13,7 +14,7 @@ use event_listener::wakes::Wakes;
 
 /// Tells one more of those who wait, whoever is told already.
 #[inline(always)]
-pub fn tell_one<W: Drop, S: Wakes<W>>(list: &mut List<(), W>, sink: &mut S)
+fn tell_one<W: Drop, S: Wakes<W>>(list: &mut List<(), W>, sink: &mut S)
     ensures lists { list.new.lists ≡ told_one list.old.lists }
     ensures woken { Woken S.wakes sink.old (told_one_wakes list.old.lists) sink.new }
     ensures room { list.new.room ≡ list.old.room }
@@ -25,7 +26,7 @@ pub fn tell_one<W: Drop, S: Wakes<W>>(list: &mut List<(), W>, sink: &mut S)
 }
 
 /// Tells so many more of those who wait, whoever is told already.
-pub fn tell_more<W: Drop, S: Wakes<W>>(list: &mut List<(), W>, count: usize, sink: &mut S)
+fn tell_more<W: Drop, S: Wakes<W>>(list: &mut List<(), W>, count: usize, sink: &mut S)
     ensures lists { list.new.lists ≡ told_more count list.old.lists }
     ensures woken { Woken S.wakes sink.old (told_more_wakes count list.old.lists) sink.new }
     ensures room { list.new.room ≡ list.old.room }
@@ -38,7 +39,7 @@ pub fn tell_more<W: Drop, S: Wakes<W>>(list: &mut List<(), W>, count: usize, sin
 
 /// Tells all who wait: a list never has as many listeners as this notice is for.
 #[inline(always)]
-pub fn tell_all<W: Drop, S: Wakes<W>>(list: &mut List<(), W>, sink: &mut S)
+fn tell_all<W: Drop, S: Wakes<W>>(list: &mut List<(), W>, sink: &mut S)
     ensures lists { list.new.lists ≡ told_all list.old.lists }
     ensures woken { Woken S.wakes sink.old (told_all_wakes list.old.lists) sink.new }
     ensures room { list.new.room ≡ list.old.room }
@@ -46,6 +47,20 @@ pub fn tell_all<W: Drop, S: Wakes<W>>(list: &mut List<(), W>, sink: &mut S)
     let _total = list.total();
     let notice = Notify { count: usize::MAX };
     let _ = list.notify(notice, sink);
+}
+
+/// Tells these of those who wait.
+#[inline(always)]
+pub fn tell<W: Drop, S: Wakes<W>>(list: &mut List<(), W>, telling: Telling, sink: &mut S)
+    ensures lists { list.new.lists ≡ told_as telling list.old.lists }
+    ensures woken { Woken S.wakes sink.old (told_as_wakes telling list.old.lists) sink.new }
+    ensures room { list.new.room ≡ list.old.room }
+{
+    match telling {
+        Telling::One => tell_one(list, sink),
+        Telling::More(count) => tell_more(list, count, sink),
+        Telling::All => tell_all(list, sink),
+    }
 }
 
 /// Gives a waiting listener its task. One that was told is taken off, and the task comes back: the list would drop it,

@@ -1,8 +1,8 @@
 //! The cells of a channel with one owner.
 
 use crate::cells::ChannelCells;
-use crate::notices::{register, tell_all, tell_more, tell_one};
-use crate::stage::{Side, WaitList};
+use crate::notices::{register, tell};
+use crate::stage::{Side, Telling, WaitList};
 use crate::words::ChannelWords;
 use concurrent_queue::call::QueueReply;
 use concurrent_queue::cells::{Cells, QueueForm};
@@ -185,30 +185,12 @@ impl<T: Drop, W: Drop> ChannelCells<T, W> for PlainChannel<T, W> {
         };
     }
 
-    fn tell_one<S: Wakes<W>>(&mut self, line: WaitList, sink: &mut S) {
+    fn tell<S: Wakes<W>>(&mut self, line: WaitList, telling: Telling, sink: &mut S) {
         match line {
-            WaitList::Sends => tell_one(&mut self.sends, sink),
-            WaitList::Receives => tell_one(&mut self.receives, sink),
-            WaitList::Streams => tell_one(&mut self.streams, sink),
-            WaitList::Closings => tell_one(&mut self.closings, sink),
-        }
-    }
-
-    fn tell_more<S: Wakes<W>>(&mut self, line: WaitList, count: usize, sink: &mut S) {
-        match line {
-            WaitList::Sends => tell_more(&mut self.sends, count, sink),
-            WaitList::Receives => tell_more(&mut self.receives, count, sink),
-            WaitList::Streams => tell_more(&mut self.streams, count, sink),
-            WaitList::Closings => tell_more(&mut self.closings, count, sink),
-        }
-    }
-
-    fn tell_all<S: Wakes<W>>(&mut self, line: WaitList, sink: &mut S) {
-        match line {
-            WaitList::Sends => tell_all(&mut self.sends, sink),
-            WaitList::Receives => tell_all(&mut self.receives, sink),
-            WaitList::Streams => tell_all(&mut self.streams, sink),
-            WaitList::Closings => tell_all(&mut self.closings, sink),
+            WaitList::Sends => tell(&mut self.sends, telling, sink),
+            WaitList::Receives => tell(&mut self.receives, telling, sink),
+            WaitList::Streams => tell(&mut self.streams, telling, sink),
+            WaitList::Closings => tell(&mut self.closings, telling, sink),
         }
     }
 

@@ -18,6 +18,17 @@ pub enum WaitList {
     Closings,
 }
 
+/// Whom a telling on a list tells, of those who wait there and weren't told before.
+#[derive(Clone, Copy, PartialEq, Eq, Debug)]
+pub enum Telling {
+    /// The one who has waited longest.
+    One,
+    /// So many of them, those who have waited longest first.
+    More(usize),
+    /// All of them.
+    All,
+}
+
 /// One of the two kinds of strong handles, each with its count.
 #[derive(Clone, Copy, PartialEq, Eq, Debug)]
 pub enum Side {

@@ -13,7 +13,7 @@ use crate::cells::ChannelCells;
 use crate::mark::Mark;
 use crate::reply::Reply;
 use crate::stage::{
-    Ending, ListStep, Making, NextStep, Purpose, Returned, Side, Stage, WaitList, Waiting,
+    Ending, ListStep, Making, NextStep, Purpose, Returned, Side, Stage, Telling, WaitList, Waiting,
 };
 use crate::turn::{
     again, ends_by, loaded_next, lowered_next, pends_by, raised_next, room_next, told_all_next,
@@ -206,27 +206,27 @@ fn work_step<T: Drop, W: Drop, C: ChannelCells<T, W>, S: Wakes<W>>(
 {
     match work {
         ListStep::TellReceive(ending) => {
-            cells.tell_one(WaitList::Receives, sink);
+            cells.tell(WaitList::Receives, Telling::One, sink);
             takes(
                 NextStep::Works(ListStep::TellStreams(ending)),
                 Mark::Nothing,
             )
         }
         ListStep::TellStreams(ending) => {
-            cells.tell_all(WaitList::Streams, sink);
+            cells.tell(WaitList::Streams, Telling::All, sink);
             takes(ends_by(ending), Mark::Nothing)
         }
         ListStep::TellSend(ending) => {
-            cells.tell_one(WaitList::Sends, sink);
+            cells.tell(WaitList::Sends, Telling::One, sink);
             takes(ends_by(ending), Mark::Nothing)
         }
         ListStep::TellSends(count, ending) => {
-            cells.tell_more(WaitList::Sends, count, sink);
+            cells.tell(WaitList::Sends, Telling::More(count), sink);
             takes(ends_by(ending), Mark::Nothing)
         }
         ListStep::TakeRoom(limit) => takes(room_next(limit), Mark::Nothing),
         ListStep::TellAll(line, closer) => {
-            cells.tell_all(line, sink);
+            cells.tell(line, Telling::All, sink);
             takes(told_all_next(line, closer), Mark::Nothing)
         }
         ListStep::Insert(waiting, task) => insert(waiting, task, cells),

@@ -17,7 +17,7 @@ use channel_calls::cells::ChannelCells;
 use channel_calls::error::{Refused, TryRecvError, TrySendError};
 use channel_calls::plain::PlainChannel;
 use channel_calls::reply::Reply;
-use channel_calls::stage::{Returned, WaitList};
+use channel_calls::stage::{Returned, Telling, WaitList};
 use channel_calls::whole::Completed;
 use concurrent_queue::call::{QueueMark, QueueReply};
 use concurrent_queue::error::{PopError, PushError};
@@ -96,8 +96,8 @@ pub(crate) fn send_alone<T: Drop, W: Drop, S: Wakes<W>>(
         if let Some(reply) = unsent::<T, W>(answer) {
             return answers(reply);
         }
-        channel.tell_one(WaitList::Receives, sink);
-        channel.tell_all(WaitList::Streams, sink);
+        channel.tell(WaitList::Receives, Telling::One, sink);
+        channel.tell(WaitList::Streams, Telling::All, sink);
         return answers(Reply::TrySend(Ok(())));
     }
 }
@@ -122,7 +122,7 @@ pub(crate) fn receive_alone<T: Drop, W: Drop, S: Wakes<W>>(
             Ok(message) => message,
             Err(reply) => return answers(reply),
         };
-        channel.tell_one(WaitList::Sends, sink);
+        channel.tell(WaitList::Sends, Telling::One, sink);
         return answers(Reply::TryRecv(Ok(message)));
     }
 }

@@ -2,7 +2,7 @@
 use Rattle.std.specs.Prelude.{◌≡◌, ◌⊎◌, ℕ, false, [], ◌∷◌, ◌++◌}
 use Rattle.event_listener.specs.declared.waking.Task.{Task}
 use Rattle.concurrent_queue.specs.Deeds as cell
-use Rattle.channel_calls.specs.Deeds.{Deed, stepped, inserted, registered, taken_off, one_told, more_told, all_told, counted, lowered, raised}
+use Rattle.channel_calls.specs.Deeds.{Deed, stepped, inserted, registered, taken_off, told, counted, lowered, raised}
 use Rattle.channel_test_helpers.specs.declared.log.Did.{Did}
 use Rattle.channel_test_helpers.specs.declared.log.Did.TheVariants as did
 use Rattle.channel_test_helpers.specs.declared.log.Log.{Log}
@@ -18,9 +18,7 @@ module _ {T W : Type 0} where
   line_of (inserted line answer) = did.Inserted line
   line_of (registered line key task answer) = did.Registered line
   line_of (taken_off line key names) = did.TakenOff line
-  line_of (one_told line names) = did.OneTold line
-  line_of (more_told line count names) = did.MoreTold line count
-  line_of (all_told line names) = did.AllTold line
+  line_of (told line telling names) = did.Told line telling
   line_of (counted side found) = did.Counted side
   line_of (lowered side found) = did.Lowered side
   line_of (raised side from done) = did.Raised side done

@@ -15,11 +15,10 @@ ghost use Rattle.async_channel.specs.Saw.{SeenOn};
 ghost use Rattle.channel_test_helpers.specs.declared.log.Did.TheVariants as did;
 
 use async_channel::{
-    Receiver, RecvError, Refused, Sender, Shown, Side, Sight, Trace, TryRecvError, TrySendError,
-    WaitList,
+    Receiver, RecvError, Refused, Sender, Shown, Side, Sight, Telling, Trace, TryRecvError,
+    TrySendError, WaitList,
 };
-use concurrent_queue::cells::{Slot, Word};
-use concurrent_queue::error::NoMemory;
+use concurrent_queue::cells::Slot;
 use concurrent_queue::seen as queue;
 use std::alloc::Global;
 use std::sync::Wait;
@@ -35,12 +34,8 @@ pub enum Did {
     Registered(WaitList),
     /// A listener was taken off.
     TakenOff(WaitList),
-    /// One more was told.
-    OneTold(WaitList),
-    /// So many more were told.
-    MoreTold(WaitList, usize),
-    /// All were told.
-    AllTold(WaitList),
+    /// These were told.
+    Told(WaitList, Telling),
     /// A count was read.
     Counted(Side),
     /// A count was lowered.
@@ -101,52 +96,13 @@ impl queue::Trace<u64> for Log {
 
     ghost brought = { λ _ _ a b. b ≡ a };
 
-    fn loaded(&mut self, _sight: &queue::Sight<Self>, _at: Word, _found: u64) {
-        self.note_operation();
-    }
-
-    fn stored(&mut self, _sight: &queue::Sight<Self>, _at: Word, _value: u64) {
-        self.note_operation();
-    }
-
-    fn exchanged(
-        &mut self,
-        _sight: &queue::Sight<Self>,
-        _at: Word,
-        _expected: u64,
-        _next: u64,
-        _answer: Result<u64, u64>,
-    ) {
-        self.note_operation();
-    }
-
-    fn added(&mut self, _sight: &queue::Sight<Self>, _at: Word, _by: u64, _found: u64) {
-        self.note_operation();
-    }
-
-    fn bits_set(&mut self, _sight: &queue::Sight<Self>, _at: Word, _bits: u64, _found: u64) {
-        self.note_operation();
-    }
-
-    fn bits_kept(&mut self, _sight: &queue::Sight<Self>, _at: Word, _bits: u64, _found: u64) {
+    fn operated(&mut self, _sight: &queue::Sight<Self>, _it: queue::Shown) {
         self.note_operation();
     }
 
     fn bring(&mut self, _sight: &queue::Sight<Self>, _at: Slot, _message: &u64) {}
 
-    fn put(&mut self, _sight: &queue::Sight<Self>, _at: Slot, _done: bool) {
-        self.note_operation();
-    }
-
     fn taken(&mut self, _sight: &queue::Sight<Self>, _at: Slot, _found: &Option<u64>) {
-        self.note_operation();
-    }
-
-    fn spared(&mut self, _sight: &queue::Sight<Self>, _answer: Result<u64, NoMemory>) {
-        self.note_operation();
-    }
-
-    fn retired(&mut self, _sight: &queue::Sight<Self>, _block: u64) {
         self.note_operation();
     }
 }
@@ -170,9 +126,7 @@ impl Trace<u64> for Log {
             Shown::Inserted(line, _) => self.note(Did::Inserted(line)),
             Shown::Registered(line, ..) => self.note(Did::Registered(line)),
             Shown::TakenOff(line, _) => self.note(Did::TakenOff(line)),
-            Shown::OneTold(line) => self.note(Did::OneTold(line)),
-            Shown::MoreTold(line, count) => self.note(Did::MoreTold(line, count)),
-            Shown::AllTold(line) => self.note(Did::AllTold(line)),
+            Shown::Told(line, telling) => self.note(Did::Told(line, telling)),
             Shown::Counted(side, _) => self.note(Did::Counted(side)),
             Shown::Lowered(side, _) => self.note(Did::Lowered(side)),
             Shown::Raised(side, _, done) => self.note(Did::Raised(side, done)),

@@ -2,8 +2,9 @@
 -- a call may answer, by its steps and by the moments that it saw; `Scene` one entry of a run, and `Run` whole runs. Their
 -- laws: `Accounts` (nothing is lost), `Bounds` (never more than fit, closed once), `Lone` (a call whose others are quiet ends)
 -- and `Whole` (no push is whole at its first step). A queue of one owner is said in `Alone`, `Room` and `Walk`, one that
--- threads share in `SharedQueue`, `Replies` and `Turns`, and what a refusal says in `Errors`. `Step` is the promise of one
--- step of one call among any others, over the cells of `Contents`; `Capacity` and `Made` say which queues there are.
+-- threads share in `SharedQueue`, `Replies` and `Turns`, what a trace is shown in `Shown`, and what a refusal says in `Errors`.
+-- `Step` is the promise of one step of one call among any others, over the cells of `Contents`; `Capacity` and `Made` say which
+-- queues there are.
 -- Not promised, but what the code goes by: `Plain` and `Parties` are its fields as the promise sees them, and `machine` has
 -- the machines of the three forms. No contract of a queue of one owner or of a run needs more than the files named here.
 pub mod Queue
@@ -26,6 +27,7 @@ pub mod Errors
 pub mod Step
 pub mod Contents
 pub mod Deeds
+pub mod Shown
 pub mod Effects
 pub mod Walked
 pub mod Capacity

@@ -1,7 +1,8 @@
 //! Cells of which a caller's trace sees each operation, with its answer.
 
 ghost use Rattle.std.specs.Prelude.{◌≡◌};
-ghost use Rattle.concurrent_queue.specs.Deeds.{Deed, loaded, stored, exchanged, added, bits_set, bits_kept, did_put, did_take, spared, retired, put_answer};
+ghost use Rattle.concurrent_queue.specs.Deeds.{Deed, did_take};
+ghost use Rattle.concurrent_queue.specs.Shown.{Sees};
 
 use crate::cells::{Cells, QueueForm, Slot, Word};
 use crate::error::NoMemory;
@@ -13,6 +14,29 @@ use std::sync::Wait;
 /// functions of this file that join cells to their trace, and nobody is lent one but the trace itself. It has no size.
 pub struct Sight<S> {
     of: PhantomData<S>,
+}
+
+/// What a trace is shown of a queue, each after it was done and with what it answered. Messages are shown by methods of their own.
+#[derive(Drop)]
+pub enum Shown {
+    /// A word was loaded, and held this.
+    Loaded(Word, u64),
+    /// A word was written.
+    Stored(Word, u64),
+    /// A word that was to hold the first was written with the second, or was not: `Err` has what it held.
+    Exchanged(Word, u64, u64, Result<u64, u64>),
+    /// The first was added to a word that held the second.
+    Added(Word, u64, u64),
+    /// Bits of a word that held the second were set.
+    BitsSet(Word, u64, u64),
+    /// All other bits of a word that held the second were cleared.
+    BitsKept(Word, u64, u64),
+    /// The message that was brought to the slot is in, or was handed back.
+    Put(Slot, bool),
+    /// A blank block was asked for.
+    Spared(Result<u64, NoMemory>),
+    /// A block was given back.
+    Retired(u64),
 }
 
 /// What sees the operations on the cells of a queue, each after it was made and with what it answered. Each method says of
@@ -28,56 +52,17 @@ pub trait Trace<T> {
     /// Whether this message was seen on its way to this slot between the two.
     ghost brought: { Slot → T → Self → Self → Type 0 };
 
-    /// A word was loaded, and held this.
-    fn loaded(&mut self, sight: &Sight<Self>, at: Word, found: u64)
-        ensures { did (loaded at found) self.old self.new };
+    /// This was done to a cell.
+    fn operated(&mut self, sight: &Sight<Self>, it: Shown)
+        ensures { Sees did brought it self.old self.new };
 
-    /// A word was written.
-    fn stored(&mut self, sight: &Sight<Self>, at: Word, value: u64)
-        ensures { did (stored at value) self.old self.new };
-
-    /// A word that was to hold `expected` was written, or was not: `Err` has what it held.
-    fn exchanged(
-        &mut self,
-        sight: &Sight<Self>,
-        at: Word,
-        expected: u64,
-        next: u64,
-        answer: Result<u64, u64>,
-    )
-        ensures { did (exchanged at expected next answer) self.old self.new };
-
-    /// So much was added to a word that held this.
-    fn added(&mut self, sight: &Sight<Self>, at: Word, by: u64, found: u64)
-        ensures { did (added at by found) self.old self.new };
-
-    /// Bits of a word that held this were set.
-    fn bits_set(&mut self, sight: &Sight<Self>, at: Word, bits: u64, found: u64)
-        ensures { did (bits_set at bits found) self.old self.new };
-
-    /// All other bits of a word that held this were cleared.
-    fn bits_kept(&mut self, sight: &Sight<Self>, at: Word, bits: u64, found: u64)
-        ensures { did (bits_kept at bits found) self.old self.new };
-
-    /// This message is brought to a slot. What came of it is said next, by `put`.
+    /// This message is brought to a slot. What came of it is shown next, by [`Shown::Put`].
     fn bring(&mut self, sight: &Sight<Self>, at: Slot, message: &T)
         ensures { brought at message.now self.old self.new };
-
-    /// The message that was brought to the slot is in, or was handed back.
-    fn put(&mut self, sight: &Sight<Self>, at: Slot, done: bool)
-        ensures { (before : Self) (message : T) → brought at message before self.old → did (did_put at message (put_answer message done)) before self.new };
 
     /// A slot was emptied, and held this.
     fn taken(&mut self, sight: &Sight<Self>, at: Slot, found: &Option<T>)
         ensures { did (did_take at found.now) self.old self.new };
-
-    /// A blank block was asked for.
-    fn spared(&mut self, sight: &Sight<Self>, answer: Result<u64, NoMemory>)
-        ensures { did (spared answer) self.old self.new };
-
-    /// A block was given back.
-    fn retired(&mut self, sight: &Sight<Self>, block: u64)
-        ensures { did (retired block) self.old self.new };
 }
 
 /// A trace that keeps nothing. It has no size, and seeing by it takes no instruction.
@@ -90,44 +75,13 @@ impl<T> Trace<T> for NoTrace {
     ghost brought = { λ _ _ _ _. Unit {0} };
 
     #[inline(always)]
-    fn loaded(&mut self, _sight: &Sight<NoTrace>, _at: Word, _found: u64) {}
-
-    #[inline(always)]
-    fn stored(&mut self, _sight: &Sight<NoTrace>, _at: Word, _value: u64) {}
-
-    #[inline(always)]
-    fn exchanged(
-        &mut self,
-        _sight: &Sight<NoTrace>,
-        _at: Word,
-        _expected: u64,
-        _next: u64,
-        _answer: Result<u64, u64>,
-    ) {}
-
-    #[inline(always)]
-    fn added(&mut self, _sight: &Sight<NoTrace>, _at: Word, _by: u64, _found: u64) {}
-
-    #[inline(always)]
-    fn bits_set(&mut self, _sight: &Sight<NoTrace>, _at: Word, _bits: u64, _found: u64) {}
-
-    #[inline(always)]
-    fn bits_kept(&mut self, _sight: &Sight<NoTrace>, _at: Word, _bits: u64, _found: u64) {}
+    fn operated(&mut self, _sight: &Sight<NoTrace>, _it: Shown) {}
 
     #[inline(always)]
     fn bring(&mut self, _sight: &Sight<NoTrace>, _at: Slot, _message: &T) {}
 
     #[inline(always)]
-    fn put(&mut self, _sight: &Sight<NoTrace>, _at: Slot, _done: bool) {}
-
-    #[inline(always)]
     fn taken(&mut self, _sight: &Sight<NoTrace>, _at: Slot, _found: &Option<T>) {}
-
-    #[inline(always)]
-    fn spared(&mut self, _sight: &Sight<NoTrace>, _answer: Result<u64, NoMemory>) {}
-
-    #[inline(always)]
-    fn retired(&mut self, _sight: &Sight<NoTrace>, _block: u64) {}
 }
 
 /// A trace that is lent for one call, and sees what is shown to this.
@@ -165,43 +119,8 @@ impl<T, S: Trace<T>> Trace<T> for Lent<'_, S> {
     ghost brought = { λ at m a b. (b.trace.ghost_name ≡ a.trace.ghost_name) × S.brought at m a.trace.now b.trace.now };
 
     #[inline(always)]
-    fn loaded(&mut self, _sight: &Sight<Self>, at: Word, found: u64) {
-        self.trace.loaded(&Sight { of: PhantomData }, at, found);
-    }
-
-    #[inline(always)]
-    fn stored(&mut self, _sight: &Sight<Self>, at: Word, value: u64) {
-        self.trace.stored(&Sight { of: PhantomData }, at, value);
-    }
-
-    #[inline(always)]
-    fn exchanged(
-        &mut self,
-        _sight: &Sight<Self>,
-        at: Word,
-        expected: u64,
-        next: u64,
-        answer: Result<u64, u64>,
-    ) {
-        self.trace
-            .exchanged(&Sight { of: PhantomData }, at, expected, next, answer);
-    }
-
-    #[inline(always)]
-    fn added(&mut self, _sight: &Sight<Self>, at: Word, by: u64, found: u64) {
-        self.trace.added(&Sight { of: PhantomData }, at, by, found);
-    }
-
-    #[inline(always)]
-    fn bits_set(&mut self, _sight: &Sight<Self>, at: Word, bits: u64, found: u64) {
-        self.trace
-            .bits_set(&Sight { of: PhantomData }, at, bits, found);
-    }
-
-    #[inline(always)]
-    fn bits_kept(&mut self, _sight: &Sight<Self>, at: Word, bits: u64, found: u64) {
-        self.trace
-            .bits_kept(&Sight { of: PhantomData }, at, bits, found);
+    fn operated(&mut self, _sight: &Sight<Self>, it: Shown) {
+        self.trace.operated(&Sight { of: PhantomData }, it);
     }
 
     #[inline(always)]
@@ -210,23 +129,8 @@ impl<T, S: Trace<T>> Trace<T> for Lent<'_, S> {
     }
 
     #[inline(always)]
-    fn put(&mut self, _sight: &Sight<Self>, at: Slot, done: bool) {
-        self.trace.put(&Sight { of: PhantomData }, at, done);
-    }
-
-    #[inline(always)]
     fn taken(&mut self, _sight: &Sight<Self>, at: Slot, found: &Option<T>) {
         self.trace.taken(&Sight { of: PhantomData }, at, found);
-    }
-
-    #[inline(always)]
-    fn spared(&mut self, _sight: &Sight<Self>, answer: Result<u64, NoMemory>) {
-        self.trace.spared(&Sight { of: PhantomData }, answer);
-    }
-
-    #[inline(always)]
-    fn retired(&mut self, _sight: &Sight<Self>, block: u64) {
-        self.trace.retired(&Sight { of: PhantomData }, block);
     }
 }
 
@@ -308,42 +212,45 @@ impl<T, C: Cells<T>, S: Trace<T>> Cells<T> for Seen<C, S> {
     #[inline(always)]
     fn load(&mut self, at: Word) -> u64 {
         let found = self.cells.load(at);
-        self.trace.loaded(&self.sight, at, found);
+        self.trace.operated(&self.sight, Shown::Loaded(at, found));
         found
     }
 
     #[inline(always)]
     fn store(&mut self, at: Word, value: u64) {
         self.cells.store(at, value);
-        self.trace.stored(&self.sight, at, value);
+        self.trace.operated(&self.sight, Shown::Stored(at, value));
     }
 
     #[inline(always)]
     fn compare_exchange(&mut self, at: Word, expected: u64, next: u64) -> Result<u64, u64> {
         let answer = self.cells.compare_exchange(at, expected, next);
         self.trace
-            .exchanged(&self.sight, at, expected, next, answer);
+            .operated(&self.sight, Shown::Exchanged(at, expected, next, answer));
         answer
     }
 
     #[inline(always)]
     fn fetch_add(&mut self, at: Word, by: u64) -> u64 {
         let found = self.cells.fetch_add(at, by);
-        self.trace.added(&self.sight, at, by, found);
+        self.trace
+            .operated(&self.sight, Shown::Added(at, by, found));
         found
     }
 
     #[inline(always)]
     fn fetch_or(&mut self, at: Word, bits: u64) -> u64 {
         let found = self.cells.fetch_or(at, bits);
-        self.trace.bits_set(&self.sight, at, bits, found);
+        self.trace
+            .operated(&self.sight, Shown::BitsSet(at, bits, found));
         found
     }
 
     #[inline(always)]
     fn fetch_and(&mut self, at: Word, bits: u64) -> u64 {
         let found = self.cells.fetch_and(at, bits);
-        self.trace.bits_kept(&self.sight, at, bits, found);
+        self.trace
+            .operated(&self.sight, Shown::BitsKept(at, bits, found));
         found
     }
 
@@ -351,7 +258,8 @@ impl<T, C: Cells<T>, S: Trace<T>> Cells<T> for Seen<C, S> {
     fn put(&mut self, at: Slot, value: T) -> Result<(), T> {
         self.trace.bring(&self.sight, at, &value);
         let answer = self.cells.put(at, value);
-        self.trace.put(&self.sight, at, answer.is_ok());
+        self.trace
+            .operated(&self.sight, Shown::Put(at, answer.is_ok()));
         answer
     }
 
@@ -365,13 +273,13 @@ impl<T, C: Cells<T>, S: Trace<T>> Cells<T> for Seen<C, S> {
     #[inline(always)]
     fn spare(&mut self) -> Result<u64, NoMemory> {
         let answer = self.cells.spare();
-        self.trace.spared(&self.sight, answer);
+        self.trace.operated(&self.sight, Shown::Spared(answer));
         answer
     }
 
     #[inline(always)]
     fn retire(&mut self, block: u64) {
         self.cells.retire(block);
-        self.trace.retired(&self.sight, block);
+        self.trace.operated(&self.sight, Shown::Retired(block));
     }
 }

@@ -1,8 +1,7 @@
 //! A trace that writes down what a call of a queue did.
 
 use concurrent_queue::cells::{Slot, Word};
-use concurrent_queue::error::NoMemory;
-use concurrent_queue::seen::{Sight, Trace};
+use concurrent_queue::seen::{Shown, Sight, Trace};
 use std::alloc::Global;
 use std::cell::Cell;
 
@@ -85,52 +84,25 @@ impl<'a> Trace<u64> for Log<'a> {
 
     ghost brought = { λ _ _ _ _. Unit {0} };
 
-    fn loaded(&mut self, _sight: &Sight<Log<'a>>, at: Word, found: u64) {
-        self.note((Did::Load, kind_of(at), found));
-    }
-
-    fn stored(&mut self, _sight: &Sight<Log<'a>>, at: Word, _value: u64) {
-        self.note((Did::Store, kind_of(at), 0));
-    }
-
-    fn exchanged(
-        &mut self,
-        _sight: &Sight<Log<'a>>,
-        at: Word,
-        _expected: u64,
-        _next: u64,
-        answer: Result<u64, u64>,
-    ) {
-        self.note((Did::Exchange, kind_of(at), u64::from(answer.is_ok())));
-    }
-
-    fn added(&mut self, _sight: &Sight<Log<'a>>, at: Word, _by: u64, found: u64) {
-        self.note((Did::Add, kind_of(at), found));
-    }
-
-    fn bits_set(&mut self, _sight: &Sight<Log<'a>>, at: Word, _bits: u64, found: u64) {
-        self.note((Did::Or, kind_of(at), found));
-    }
-
-    fn bits_kept(&mut self, _sight: &Sight<Log<'a>>, at: Word, _bits: u64, found: u64) {
-        self.note((Did::And, kind_of(at), found));
+    fn operated(&mut self, _sight: &Sight<Log<'a>>, it: Shown) {
+        self.note(match it {
+            Shown::Loaded(at, found) => (Did::Load, kind_of(at), found),
+            Shown::Stored(at, _) => (Did::Store, kind_of(at), 0),
+            Shown::Exchanged(at, _, _, answer) => {
+                (Did::Exchange, kind_of(at), u64::from(answer.is_ok()))
+            }
+            Shown::Added(at, _, found) => (Did::Add, kind_of(at), found),
+            Shown::BitsSet(at, _, found) => (Did::Or, kind_of(at), found),
+            Shown::BitsKept(at, _, found) => (Did::And, kind_of(at), found),
+            Shown::Put(_, done) => (Did::Put, To::Slot, u64::from(done)),
+            Shown::Spared(answer) => (Did::Spare, To::Block, answer.unwrap_or(0)),
+            Shown::Retired(block) => (Did::Retire, To::Block, block),
+        });
     }
 
     fn bring(&mut self, _sight: &Sight<Log<'a>>, _at: Slot, _message: &u64) {}
 
-    fn put(&mut self, _sight: &Sight<Log<'a>>, _at: Slot, done: bool) {
-        self.note((Did::Put, To::Slot, u64::from(done)));
-    }
-
     fn taken(&mut self, _sight: &Sight<Log<'a>>, _at: Slot, found: &Option<u64>) {
         self.note((Did::Take, To::Slot, found.unwrap_or(0)));
-    }
-
-    fn spared(&mut self, _sight: &Sight<Log<'a>>, answer: Result<u64, NoMemory>) {
-        self.note((Did::Spare, To::Block, answer.unwrap_or(0)));
-    }
-
-    fn retired(&mut self, _sight: &Sight<Log<'a>>, block: u64) {
-        self.note((Did::Retire, To::Block, block));
     }
 }

@@ -9,7 +9,7 @@ use crate::beside::{ALL, Events, Other, is_owed};
 use crate::scarce::Scarce;
 use channel_calls::cells::ChannelCells;
 use channel_calls::sleeps::Sleeps;
-use channel_calls::stage::{Side, WaitList};
+use channel_calls::stage::{Side, Telling, WaitList};
 use channel_calls::words::ChannelWords;
 use concurrent_queue::call::QueueReply;
 use concurrent_queue::queue_call::QueueCall;
@@ -127,19 +127,9 @@ impl<'a, R: Wait> ChannelCells<u64, u32> for Beside<'a, R> {
         self.cells.remove(line, key, sink)
     }
 
-    fn tell_one<S: Wakes<u32>>(&mut self, line: WaitList, sink: &mut S) {
+    fn tell<S: Wakes<u32>>(&mut self, line: WaitList, telling: Telling, sink: &mut S) {
         self.before();
-        self.cells.tell_one(line, sink)
-    }
-
-    fn tell_more<S: Wakes<u32>>(&mut self, line: WaitList, count: usize, sink: &mut S) {
-        self.before();
-        self.cells.tell_more(line, count, sink)
-    }
-
-    fn tell_all<S: Wakes<u32>>(&mut self, line: WaitList, sink: &mut S) {
-        self.before();
-        self.cells.tell_all(line, sink)
+        self.cells.tell(line, telling, sink)
     }
 
     fn count(&mut self, side: Side) -> usize {

@@ -1,7 +1,7 @@
 -- Other tasks put for those of a channel's lists: each deed does to them what it did, with these tasks.
 use Rattle.std.proofs.Common.{◌≡◌, ℕ, zero, suc, ◌+◌, ◌-◌, Bool, true, false, not, if◌then◌else◌, List, [], ◌∷◌, ◌++◌, map, Option, None, Some, Result, Ok, Err, option_map, refl, sym, ap, subst, ◌∙◌}
 use Rattle.std.proofs.lemmas.List.{map-append}
-use Rattle.channel_steps.proofs.every_run.Words.{Notice, kind_of, listened, registration, removed, removed_wakes, told_with, Woken, Key, ListenError, Deed, stepped, inserted, registered, taken_off, one_told, more_told, all_told, counted, lowered, raised, Done, Does, Parts, Listeners, WaitLists, with_wait_lists, listeners, with_listeners, count, with_count, is_raised, told_one, told_one_wakes, told_more, told_more_wakes, told_all, told_all_wakes, waits, WaitList, Sends, Side, Senders, Receivers, woken_by, OnList, Registers, WakesSo, WakesFor, listeners_by, wait_lists_by, parts_by, deed_by}
+use Rattle.channel_steps.proofs.every_run.Words.{Notice, kind_of, listened, registration, removed, removed_wakes, told_with, Woken, Key, ListenError, Deed, stepped, inserted, registered, taken_off, told, counted, lowered, raised, Done, Does, Parts, Listeners, WaitLists, with_wait_lists, listeners, with_listeners, count, with_count, is_raised, told_one, told_one_wakes, told_more, told_more_wakes, told_all, told_all_wakes, told_whom, told_as_wakes, waits, WaitList, Sends, Whom, One, More, All, Side, Senders, Receivers, woken_by, OnList, Registers, WakesSo, WakesFor, listeners_by, wait_lists_by, parts_by, deed_by}
 use Rattle.channel_steps.proofs.every_run.TaskLists.{by, told_by, tasks_by, kind_by, listened_by, registration_by, passed_by, passed_wakes_by, removed_by, removed_wakes_by}
 
 module _ {W V : Type 0} (put : W → V) where
@@ -38,6 +38,16 @@ module _ {W V : Type 0} (put : W → V) where
 
   pub all_wakes : (l : Listeners W) → told_all_wakes (listeners_by put l) ≡ map put (told_all_wakes l)
   all_wakes l = tasks_by put l.waiting
+
+  pub telling_alike : (telling : Whom) (l : Listeners W) → told_whom telling (listeners_by put l) ≡ listeners_by put (told_whom telling l)
+  telling_alike One l = one_alike l
+  telling_alike (More n) l = more_alike n l
+  telling_alike All l = all_alike l
+
+  pub telling_wakes : (telling : Whom) (l : Listeners W) → told_as_wakes telling (listeners_by put l) ≡ map put (told_as_wakes telling l)
+  telling_wakes One l = one_wakes l
+  telling_wakes (More n) l = more_wakes n l
+  telling_wakes All l = all_wakes l
 
   -- ---- all lists
 
@@ -98,7 +108,7 @@ module _ {T W V : Type 0} (put : W → V) where
   kind_so line key p = ap (λ (l : Listeners V). kind_of l key) (list_of put line p.wait_lists) ∙ kind_by put key (listeners line p.wait_lists)
 
   waits_so : (line : WaitList) (key : Key) (p : Parts T W) → waits key (listeners line (wait_lists_by put p.wait_lists)) ≡ waits key (listeners line p.wait_lists)
-  waits_so line key p = ap (λ (l : Listeners V). waits key l) (list_of put line p.wait_lists) ∙ ap (λ (o : Option Bool). elim o [ Some told ↦ not told | None ↦ false ]) (kind_by put key (listeners line p.wait_lists))
+  waits_so line key p = ap (λ (l : Listeners V). waits key l) (list_of put line p.wait_lists) ∙ ap (λ (o : Option Bool). elim o [ Some was ↦ not was | None ↦ false ]) (kind_by put key (listeners line p.wait_lists))
 
   -- ---- what a deed does, with others put for the tasks
 
@@ -128,12 +138,10 @@ module _ {T W V : Type 0} (put : W → V) where
   does_so (inserted line (Ok key)) p q (none, is) = (kind_so line key p ∙ none, list_so line (listened key) (listened key) (listened_by put key) p q is)
   does_so (inserted line (Err e)) p q is = ap seen is
   does_so (registered line key task r) p q (how, is) = (registers_so line key task r p how, list_so line (registration key task) (registration key (put task)) (registration_by put key task) p q is)
-  does_so (taken_off line key names) p q (told, is) =
-      (told_so line (removed_wakes key true) (removed_wakes key true) (removed_wakes_by put key) p names told, list_so line (removed key true) (removed key true) (removed_by put key) p q is)
-  does_so (one_told line names) p q (told, is) = (told_so line told_one_wakes told_one_wakes (one_wakes put) p names told, list_so line told_one told_one (one_alike put) p q is)
-  does_so (more_told line n names) p q (told, is) =
-      (told_so line (told_more_wakes n) (told_more_wakes n) (more_wakes put n) p names told, list_so line (told_more n) (told_more n) (more_alike put n) p q is)
-  does_so (all_told line names) p q (told, is) = (told_so line told_all_wakes told_all_wakes (all_wakes put) p names told, list_so line told_all told_all (all_alike put) p q is)
+  does_so (taken_off line key names) p q (whom, is) =
+      (told_so line (removed_wakes key true) (removed_wakes key true) (removed_wakes_by put key) p names whom, list_so line (removed key true) (removed key true) (removed_by put key) p q is)
+  does_so (told line telling names) p q (whom, is) =
+      (told_so line (told_as_wakes telling) (told_as_wakes telling) (telling_wakes put telling) p names whom, list_so line (told_whom telling) (told_whom telling) (telling_alike put telling) p q is)
   does_so (counted side n) p q (is, same) = (is ∙ sym (count_of put side p.wait_lists), ap seen same)
   does_so (lowered side n) p q (is, now) = (is ∙ sym (count_of put side p.wait_lists), number_so side (n - 1) p q now)
   does_so (raised side n b) p q (is, now) = (is ∙ sym (is_raised_alike put side n p.wait_lists), raised_so side (n + 1) b p q now)
@@ -162,10 +170,10 @@ module _ {T W V : Type 0} (put : W → V) where
       (woke : Listeners W → List W) (woken : Listeners V → List V) (woke_alike : (l : Listeners W) → woken (listeners_by put l) ≡ map put (woke l))
       (p : Parts T W) (names : List V) (q : Parts T V)
       → names ≡ woken (listeners line (wait_lists_by put p.wait_lists)) → OnList line (there (listeners line (wait_lists_by put p.wait_lists))) (seen p) q → ToldBefore line here woke p names q
-  told_before line here there alike woke woken woke_alike p names q told is =
+  told_before line here there alike woke woken woke_alike p names q tells is =
       record {
         names_before = woke (listeners line p.wait_lists);
-        were = sym (told ∙ whom line woke woken woke_alike p);
+        were = sym (tells ∙ whom line woke woken woke_alike p);
         parts = with_line line (here (listeners line p.wait_lists)) p;
         left = sym (is ∙ on_list line here there alike p);
         told = refl;

@@ -1,11 +1,11 @@
 -- A step of a merge, with other tasks for which its tasks were put.
-use Rattle.std.proofs.Common.{◌≡◌, ℕ, true, List, map, Option, None, Some, refl, sym, ap, subst, ◌∙◌}
+use Rattle.std.proofs.Common.{◌≡◌, true, List, map, Option, None, Some, refl, sym, ap, subst, ◌∙◌}
 use Rattle.concurrent_queue.specs.Deeds as cell
-use Rattle.channel_steps.proofs.every_run.Words.{QueueReply, QueueForm, QueueCall, removed, removed_wakes, Woken, Key, answered_next, Deed, inserted, registered, taken_off, one_told, more_told, all_told, counted, lowered, raised, Done, Does, Parts, told_one, told_one_wakes, told_more, told_more_wakes, told_all, told_all_wakes, line_of, leaving, nothing_kept, registered_next, Takes, Heard, Leaves, WorkMakes, ChannelMakes, Marked, Mark, Reply, Purpose, ListenerRef, WaitList, Stage, Trying, Working, Finished, NextStep, Works, Ends, ListStep, TellReceive, TellStreams, TellSend, TellSends, TakeRoom, TellAll, Insert, Register, Leave, Lower, Count, Load, Raise, Act, on_queue, on_wait_lists, on_nothing, Notes, Changes, WakesFor, parts_by, act_by, aim_by, work_by, stage_by, Listeners, turn_by, OnList, listeners, listeners_by, wait_lists_by}
+use Rattle.channel_steps.proofs.every_run.Words.{QueueReply, QueueForm, QueueCall, removed, removed_wakes, Woken, Key, answered_next, Deed, inserted, registered, taken_off, told, counted, lowered, raised, Done, Does, Parts, told_whom, told_as_wakes, line_of, leaving, nothing_kept, registered_next, Takes, Heard, Leaves, WorkMakes, ChannelMakes, Marked, Mark, Reply, Purpose, ListenerRef, WaitList, Whom, One, More, All, Stage, Trying, Working, Finished, NextStep, Works, Ends, ListStep, TellReceive, TellStreams, TellSend, TellSends, TakeRoom, TellAll, Insert, Register, Leave, Lower, Count, Load, Raise, Act, on_queue, on_wait_lists, on_nothing, Notes, Changes, WakesFor, parts_by, act_by, aim_by, work_by, stage_by, Listeners, turn_by, OnList, listeners, listeners_by, wait_lists_by}
 use Rattle.channel_calls.specs.declared.mark.Mark.TheVariants.{Nothing}
 use Rattle.channel_calls.specs.declared.reply.Reply.TheVariants as reply
 use Rattle.channel_steps.specs.every_run.Bridge.{does}
-use Rattle.channel_steps.proofs.every_run.TaskCells.{one_alike, one_wakes, more_alike, more_wakes, all_alike, all_wakes, wakes_for, told_before, inserted_before, registered_before, counted_before, lowered_before, raised_before, stepped_before}
+use Rattle.channel_steps.proofs.every_run.TaskCells.{telling_alike, telling_wakes, wakes_for, told_before, inserted_before, registered_before, counted_before, lowered_before, raised_before, stepped_before}
 use Rattle.channel_steps.proofs.every_run.TaskLists.{removed_by, removed_wakes_by}
 use Rattle.channel_steps.proofs.every_run.TaskTurns.{ends_alike, told_all_alike, inserted_alike, registered_alike, lowered_alike, loaded_alike, raised_alike, room_taken, answered_alike, taken, marked}
 
@@ -58,8 +58,8 @@ module _ {T W V S : Type 0} (put : W → V) (wakes : S → V → S → Type 0) (
           → ((ns : List W) (x : Parts T W) → ns ≡ woken_here (listeners line c.0.wait_lists) → OnList line (here (listeners line c.0.wait_lists)) c.0 x → Woken (WakesFor put wakes) c.1 ns d.1
           → Changes (WakesFor put wakes) (does (on_wait_lists (deed ns))) c (x, d.1))
           → Tells deed
-      tells deed deed_there names same is (told, left, woke_so) changes =
-          let t = told_before put line here there alike woken_here woken_there woken_alike c.0 names d.0 told left in (
+      tells deed deed_there names same is (whom, left, woke_so) changes =
+          let t = told_before put line here there alike woken_here woken_there woken_alike c.0 names d.0 whom left in (
             t.names_before,
             record {
               acts = same t.names_before ∙ ap (λ (xs : List V). on_wait_lists (deed_there xs)) t.were ∙ sym is;
@@ -69,20 +69,10 @@ module _ {T W V S : Type 0} (put : W → V) (wakes : S → V → S → Type 0) (
             },
           )
 
-    one : (line : WaitList) (names : List V) → o ≡ on_wait_lists (one_told line names) → Tells (λ ns. one_told line ns)
-    one line names is =
-        let h = on (one_told line names) is in
-        tells line told_one told_one (one_alike put) told_one_wakes told_one_wakes (one_wakes put) (λ ns. one_told line ns) (λ ns. one_told line ns) names (λ ns. refl) is (h.0.0, h.0.1, h.1) (λ ns x e f k. ((e, f), k))
-
-    more : (line : WaitList) (n : ℕ) (names : List V) → o ≡ on_wait_lists (more_told line n names) → Tells (λ ns. more_told line n ns)
-    more line n names is =
-        let h = on (more_told line n names) is in
-        tells line (told_more n) (told_more n) (more_alike put n) (told_more_wakes n) (told_more_wakes n) (more_wakes put n) (λ ns. more_told line n ns) (λ ns. more_told line n ns) names (λ ns. refl) is (h.0.0, h.0.1, h.1) (λ ns x e f k. ((e, f), k))
-
-    all : (line : WaitList) (names : List V) → o ≡ on_wait_lists (all_told line names) → Tells (λ ns. all_told line ns)
-    all line names is =
-        let h = on (all_told line names) is in
-        tells line told_all told_all (all_alike put) told_all_wakes told_all_wakes (all_wakes put) (λ ns. all_told line ns) (λ ns. all_told line ns) names (λ ns. refl) is (h.0.0, h.0.1, h.1) (λ ns x e f k. ((e, f), k))
+    these : (line : WaitList) (telling : Whom) (names : List V) → o ≡ on_wait_lists (told line telling names) → Tells (λ ns. told line telling ns)
+    these line telling names is =
+        let h = on (told line telling names) is in
+        tells line (told_whom telling) (told_whom telling) (telling_alike put telling) (told_as_wakes telling) (told_as_wakes telling) (telling_wakes put telling) (λ ns. told line telling ns) (λ ns. told line telling ns) names (λ ns. refl) is (h.0.0, h.0.1, h.1) (λ ns x e f k. ((e, f), k))
 
     off : (line : WaitList) (key : Key) (names : List V) → o ≡ on_wait_lists (taken_off line key names) → Tells (λ ns. taken_off line key ns)
     off line key names is =
@@ -129,13 +119,13 @@ module _ {T W V S : Type 0} (put : W → V) (wakes : S → V → S → Type 0) (
           let k = marked put m0 m r turn other alike next x in record { act = act; before = before; after = k.0; goes = k.2; makes = makes k.0 k.1 }
 
       worked : (w : ListStep T W) → WorkMakes (Notes form) (work_by put w) on_nothing o m next r → StepBefore (Working w) m next r
-      worked (TellReceive e) (names, is, x) = let t = one _ names is in then_turns _ _ t.1 _ (Works (TellStreams e)) _ refl x (λ s k. (t.0, refl, k))
-      worked (TellStreams e) (names, is, x) = let t = all _ names is in then_turns _ _ t.1 _ _ _ (ends_alike put e) x (λ s k. (t.0, refl, k))
-      worked (TellSend e) (names, is, x) = let t = one _ names is in then_turns _ _ t.1 _ _ _ (ends_alike put e) x (λ s k. (t.0, refl, k))
-      worked (TellSends n e) (names, is, x) = let t = more _ n names is in then_turns _ _ t.1 _ _ _ (ends_alike put e) x (λ s k. (t.0, refl, k))
+      worked (TellReceive e) (names, is, x) = let t = these _ One names is in then_turns _ _ t.1 _ (Works (TellStreams e)) _ refl x (λ s k. (t.0, refl, k))
+      worked (TellStreams e) (names, is, x) = let t = these _ All names is in then_turns _ _ t.1 _ _ _ (ends_alike put e) x (λ s k. (t.0, refl, k))
+      worked (TellSend e) (names, is, x) = let t = these _ One names is in then_turns _ _ t.1 _ _ _ (ends_alike put e) x (λ s k. (t.0, refl, k))
+      worked (TellSends n e) (names, is, x) = let t = these _ (More n) names is in then_turns _ _ t.1 _ _ _ (ends_alike put e) x (λ s k. (t.0, refl, k))
       worked (TakeRoom n) (turn, is, room, x) =
           let y = room_taken put n turn room in then_turns _ _ (nothing is) _ y.0 turn y.2 x (λ s k. (y.0, refl, y.1, k))
-      worked (TellAll line e) (names, is, x) = let t = all line names is in then_turns _ _ t.1 _ _ _ (told_all_alike put line e) x (λ s k. (t.0, refl, k))
+      worked (TellAll line e) (names, is, x) = let t = these line All names is in then_turns _ _ t.1 _ _ _ (told_all_alike put line e) x (λ s k. (t.0, refl, k))
       worked (Insert w task) (answer, is, x) =
           let h = on _ is in
           let b = inserted_before put _ answer c.0 d.0 h.0 in

@@ -2,11 +2,11 @@
 pub use Rattle.channel_calls.specs.Answered.{answered_next, asked_next, closed_next, closing_next, forced_next, gathered_next, polled_next, receive_next, received_next, send_next, sent_next, several_next, short_next, stream_next, terminated_next, upgraded_next}
 pub use Rattle.channel_calls.specs.Asks.{asks_listener, first, is_refused, kept_by}
 pub use Rattle.channel_calls.specs.Blocks.{AnswersAtFirst, Listens, Looks, Round, Rounds, SleepsOn, Wakens, at_once, not_yet, poll_woken, still_waits, waiting_of}
-pub use Rattle.channel_calls.specs.Deeds.{Deed, Done, all_told, counted, inserted, lowered, more_told, one_told, raised, registered, stepped, taken_off, woken_by}
+pub use Rattle.channel_calls.specs.Deeds.{Deed, Done, counted, inserted, lowered, raised, registered, stepped, taken_off, told, woken_by}
 pub use Rattle.channel_calls.specs.Effects.{Does, OnList}
 pub use Rattle.channel_calls.specs.Marks.{down, mark_of_queue, up}
 pub use Rattle.channel_calls.specs.Moves.{Channel, Effect, Inserts, IsChannelStep, IsNewCall, Moves, Turned, Worked, leaves, listens, lowers, on_count, on_line, phase, queued, raises, registers, removes, seats, tells_all, tells_more, tells_one, untouched}
-pub use Rattle.channel_calls.specs.Parts.{Listeners, Parts, Registers, WaitLists, count, is_raised, listeners, new_wait_lists, nobody_listens, told_all, told_all_wakes, told_more, told_more_wakes, told_one, told_one_wakes, waits, with_count, with_listeners, with_wait_lists}
+pub use Rattle.channel_calls.specs.Parts.{Listeners, Parts, Registers, WaitLists, count, is_raised, listeners, new_wait_lists, nobody_listens, told_all, told_all_wakes, told_as as told_whom, told_as_wakes, told_more, told_more_wakes, told_one, told_one_wakes, waits, with_count, with_listeners, with_wait_lists}
 pub use Rattle.channel_calls.specs.Several.{Gathered, with_last}
 pub use Rattle.channel_calls.specs.Turns.{TakesRoom, again, closer_ending, counted_next, dropper, ends_by, inserted_next, leaving, line_of, loaded_next, lowered_next, message_of, most, nothing_kept, pends_by, raised_next, refused_next, refused_reply, registered_next, room_next, roomless, told_all_next}
 pub use Rattle.channel_calls.specs.Walks.{ChannelMakes, Heard, Leads, Leaves, Marked, Takes, Walked, WalkedFrom, WorkMakes}
@@ -26,6 +26,8 @@ pub use Rattle.channel_calls.specs.declared.stage.Closer.{Closer}
 pub use Rattle.channel_calls.specs.declared.stage.Ending.{Ending}
 pub use Rattle.channel_calls.specs.declared.stage.ListenerRef.{ListenerRef}
 pub use Rattle.channel_calls.specs.declared.stage.Returned.{Returned}
+pub use Rattle.channel_calls.specs.declared.stage.Telling.{Telling as Whom}
+pub use Rattle.channel_calls.specs.declared.stage.Telling.TheVariants.{All, More, One}
 pub use Rattle.channel_calls.specs.declared.stage.WaitList.{WaitList}
 pub use Rattle.channel_calls.specs.declared.stage.WaitList.TheVariants.{Closings, Receives, Sends, Streams}
 pub use Rattle.channel_calls.specs.declared.stage.Making.{Making}

@@ -15,12 +15,13 @@ use Rattle.channel_calls.specs.declared.stage.Purpose.{Purpose}
 use Rattle.channel_calls.specs.declared.stage.Stage.{Stage}
 use Rattle.channel_calls.specs.declared.stage.Stage.TheVariants.{Trying, Working, Finished}
 use Rattle.channel_calls.specs.declared.stage.NextStep.TheVariants.{Tries, Works, Ends}
+use Rattle.channel_calls.specs.declared.stage.Telling.TheVariants.{One, All}
 use Rattle.channel_calls.specs.declared.stage.WaitList.TheVariants.{Sends, Receives, Streams}
 use Rattle.channel_calls.specs.declared.stage.ListStep.{ListStep}
 use Rattle.channel_calls.specs.declared.stage.ListStep.TheVariants.{TellReceive, TellStreams, TellSend}
 use Rattle.channel_calls.specs.Answered.{answered_next}
 use Rattle.channel_calls.specs.Asks.{first, kept_by}
-use Rattle.channel_calls.specs.Deeds.{Done as Did, stepped, one_told, all_told}
+use Rattle.channel_calls.specs.Deeds.{Done as Did, stepped, told}
 use Rattle.channel_calls.specs.Marks.{mark_of_queue}
 use Rattle.channel_calls.specs.Moves.{IsTaken}
 use Rattle.channel_calls.specs.Plain.{parts_of, DoesPlain}
@@ -115,19 +116,19 @@ module _ {T W S : Type 0} (wakes : S → W → S → Type 0) (a : ChannelAsk T W
   -- a message is in: one receive is told, and then all streams
   pub tells_all_over : (y : Reply T) (done : Completed T) (c d e : PlainChannel T W) (k l s : S) (n : ℕ)
       → HasCome c (Working (TellReceive (says y))) k n
-      → (names : List W) → DoesPlain (one_told Receives names) c d → Woken wakes k names l
-      → (others : List W) → DoesPlain (all_told Streams others) d e → Woken wakes l others s
+      → (names : List W) → DoesPlain (told Receives One names) c d → Woken wakes k names l
+      → (others : List W) → DoesPlain (told Streams All others) d e → Woken wakes l others s
       → done ≡ record { reply = y; kept = nothing_kept } → IsOver done e s n
-  tells_all_over y done c d e k l s n x names one heard others all told is =
+  tells_all_over y done c d e k l s n x names one heard others all woken is =
       over_as done y e s n is (comes_to d e (Working (TellStreams (says y))) (Finished nothing_kept) l s n n Nothing
       (comes_on c d (Working (TellReceive (says y))) (Working (TellStreams (says y))) k l n n Nothing x refl
       (names, (one, heard), (refl, (refl, refl))))
-      refl y (others, (all, told), (refl, (refl, refl))))
+      refl y (others, (all, woken), (refl, (refl, refl))))
 
   -- a message was taken: one send is told
   pub tells_one_over : (y : Reply T) (done : Completed T) (c d : PlainChannel T W) (k l : S) (n : ℕ)
       → HasCome c (Working (TellSend (says y))) k n
-      → (names : List W) → DoesPlain (one_told Sends names) c d → Woken wakes k names l
+      → (names : List W) → DoesPlain (told Sends One names) c d → Woken wakes k names l
       → done ≡ record { reply = y; kept = nothing_kept } → IsOver done d l n
   tells_one_over y done c d k l n x names one heard is =
       over_as done y d l n is (comes_to c d (Working (TellSend (says y))) (Finished nothing_kept) k l n n Nothing x refl y

@@ -8,12 +8,13 @@ use Rattle.concurrent_queue.specs.machine.Single.{set_state}
 use Rattle.event_listener.specs.Lists.{Notice}
 use Rattle.event_listener.specs.declared.key.Key.{Key}
 use Rattle.futures.specs.declared.task.Poll.TheVariants.{Pending}
-use Rattle.channel_calls.specs.Deeds.{inserted, registered, all_told}
+use Rattle.channel_calls.specs.Deeds.{inserted, registered, told}
 use Rattle.channel_calls.specs.Parts.{Parts, Listeners, new_wait_lists, with_listeners}
 use Rattle.channel_calls.specs.Turns.{leaving, nothing_kept}
 use Rattle.channel_calls.specs.declared.ask.ChannelAsk.{ChannelAsk}
 use Rattle.channel_calls.specs.declared.ask.ChannelAsk.TheVariants.{PollClosed, Close}
 use Rattle.channel_calls.specs.declared.reply.Reply.TheVariants.{ClosedPoll, Closed}
+use Rattle.channel_calls.specs.declared.stage.Telling.TheVariants.{All}
 use Rattle.channel_calls.specs.declared.stage.WaitList.TheVariants.{Sends, Receives, Streams, Closings}
 use Rattle.channel_calls.specs.declared.whole.Completed.{Completed}
 use Rattle.channel_steps.specs.every_run.Bridge.{begins, does, on_queue, on_wait_lists, Happening, Acts, own, opened_parts, InOneOrder, LastsFor}
@@ -48,10 +49,10 @@ module _ {T W : Type 0} where
   one_close p woken =
       record { party = p; event = begins Close }
       ∷ record { party = p; event = does (on_queue (Some (bits_set State 4 0))) }
-      ∷ record { party = p; event = does (on_wait_lists (all_told Sends [])) }
-      ∷ record { party = p; event = does (on_wait_lists (all_told Receives [])) }
-      ∷ record { party = p; event = does (on_wait_lists (all_told Streams [])) }
-      ∷ record { party = p; event = does (on_wait_lists (all_told Closings woken)) }
+      ∷ record { party = p; event = does (on_wait_lists (told Sends All [])) }
+      ∷ record { party = p; event = does (on_wait_lists (told Receives All [])) }
+      ∷ record { party = p; event = does (on_wait_lists (told Streams All [])) }
+      ∷ record { party = p; event = does (on_wait_lists (told Closings All woken)) }
       ∷ []
 
   abbrev pub two_are_told : W → W → List (Happening T W)

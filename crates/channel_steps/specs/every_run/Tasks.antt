@@ -3,7 +3,7 @@
 use Rattle.std.specs.Prelude.{List, [], ◌∷◌, map, Option}
 use Rattle.std.specs.Option.{option_map}
 use Rattle.event_listener.specs.declared.key.Key.{Key}
-use Rattle.channel_calls.specs.Deeds.{Deed, stepped, inserted, registered, taken_off, one_told, more_told, all_told, counted, lowered, raised}
+use Rattle.channel_calls.specs.Deeds.{Deed, stepped, inserted, registered, taken_off, told, counted, lowered, raised}
 use Rattle.channel_calls.specs.Parts.{Parts, Listeners, WaitLists}
 use Rattle.channel_calls.specs.declared.ask.ChannelAsk.{ChannelAsk}
 use Rattle.channel_calls.specs.declared.ask.ChannelAsk.TheVariants as ask
@@ -49,9 +49,7 @@ module _ {T W V : Type 0} (put : W → V) where
   deed_by (inserted line r) = inserted line r
   deed_by (registered line key task r) = registered line key (put task) (option_map put r)
   deed_by (taken_off line key names) = taken_off line key (map put names)
-  deed_by (one_told line names) = one_told line (map put names)
-  deed_by (more_told line n names) = more_told line n (map put names)
-  deed_by (all_told line names) = all_told line (map put names)
+  deed_by (told line telling names) = told line telling (map put names)
   deed_by (counted side n) = counted side n
   deed_by (lowered side n) = lowered side n
   deed_by (raised side n b) = raised side n b

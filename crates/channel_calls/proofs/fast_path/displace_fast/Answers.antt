@@ -46,15 +46,15 @@ returns-in-Ok-clause-deeds g c =
     let two = c.step_queue-answer.new.call in
     let s1 = c.step_queue-answer.new.self in
     let k = c.args.sink.now in
-    let tells : g.row.C.Denot × g.row.S.Denot = (c.tell_one.new.self, c.tell_one.new.sink) in
+    let tells : g.row.C.Denot × g.row.S.Denot = (c.tell.new.self, c.tell.new.sink) in
     let old = c.in-Ok.old in
     let ending = says (reply.ForceSend (Ok old)) in
     let is : c.step_queue-answer.result ≡ Some (Force (Ok old)) = c.in-Some.is ∙ ap (λ (z : QueueReply g.row.T.Denot). Some z) c.in-Ok.ensures in
     let deed : g.C.ChannelCells.did (stepped one two (Some (Force (Ok old)))) c.args.cells.now s1 =
     subst (λ (o : Option (QueueReply g.row.T.Denot)). g.C.ChannelCells.did (stepped one two o) c.args.cells.now s1) is c.step_queue-answer.ensures.deed
     in
-    let first = c.tell_one.ensures.deed in
-    let second = c.tell_all.ensures.deed in (
+    let first = c.tell.ensures.deed in
+    let second = c.tell-in-Ok.ensures.deed in (
       Trying one purpose.ForceSend,
       (one, c.force_push-call.ensures.starts, c.force_push-call.ensures.asked, refl, refl),
       (

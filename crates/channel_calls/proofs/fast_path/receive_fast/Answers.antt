@@ -52,7 +52,7 @@ returns-in-Ok-clause-deeds g c =
     let deed : g.C.ChannelCells.did (stepped one two (Some (Pop (Ok v)))) c.args.cells.now s1 =
     subst (λ (o : Option (QueueReply g.row.T.Denot)). g.C.ChannelCells.did (stepped one two o) c.args.cells.now s1) is c.step_queue-answer.ensures.deed
     in
-    let tells = c.tell_one.ensures.deed in (
+    let tells = c.tell.ensures.deed in (
       Trying one purpose.TryRecv,
       (one, c.pop-call.ensures.starts, c.pop-call.ensures.asked, refl, refl),
       (

@@ -46,14 +46,14 @@ returns-in-Ok-clause-deeds g c =
     let two = c.step_queue-answer.new.call in
     let s1 = c.step_queue-answer.new.self in
     let k = c.args.sink.now in
-    let tells : g.row.C.Denot × g.row.S.Denot = (c.tell_one.new.self, c.tell_one.new.sink) in
+    let tells : g.row.C.Denot × g.row.S.Denot = (c.tell.new.self, c.tell.new.sink) in
     let ending = says (reply.TrySend (Ok tt)) in
     let is : c.step_queue-answer.result ≡ Some (Push (Ok tt)) = c.in-Some.is ∙ ap (λ (z : QueueReply g.row.T.Denot). Some z) c.in-Ok.ensures in
     let deed : g.C.ChannelCells.did (stepped one two (Some (Push (Ok tt)))) c.args.cells.now s1 =
     subst (λ (o : Option (QueueReply g.row.T.Denot)). g.C.ChannelCells.did (stepped one two o) c.args.cells.now s1) is c.step_queue-answer.ensures.deed
     in
-    let first = c.tell_one.ensures.deed in
-    let second = c.tell_all.ensures.deed in (
+    let first = c.tell.ensures.deed in
+    let second = c.tell-in-Ok.ensures.deed in (
       Trying one purpose.TrySend,
       (one, c.push-call.ensures.starts, c.push-call.ensures.asked, refl, refl),
       (

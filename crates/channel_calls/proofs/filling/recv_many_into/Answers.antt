@@ -6,12 +6,13 @@ use Rattle.concurrent_queue.specs.declared.call.QueueReply.{QueueReply}
 use Rattle.concurrent_queue.specs.declared.call.QueueReply.TheVariants.{Pop}
 use Rattle.concurrent_queue.specs.declared.queue_call.CallState.{CallState}
 use Rattle.channel_calls.specs.Asks.{first}
-use Rattle.channel_calls.specs.Deeds.{Done, stepped, more_told}
+use Rattle.channel_calls.specs.Deeds.{Done, stepped, told}
 use Rattle.channel_calls.specs.Filling.{room_in, popped_as}
 use Rattle.channel_calls.specs.Walks.{WalkedTo}
 use Rattle.channel_calls.specs.declared.ask.ChannelAsk.{ChannelAsk}
 use Rattle.channel_calls.specs.declared.ask.ChannelAsk.TheVariants as ask
 use Rattle.channel_calls.specs.declared.reply.Reply.TheVariants as reply
+use Rattle.channel_calls.specs.declared.stage.Telling.TheVariants.{More}
 use Rattle.channel_calls.specs.declared.stage.WaitList.TheVariants.{Sends}
 use Rattle.channel_calls.proofs.Gathering as gathering
 use Rattle.channel_calls.proofs.filling.recv_many_into.Goals as goal
@@ -94,13 +95,13 @@ returns-then-len-capacity-clause-deeds g c =
     let count = c.tells.ensures.count in
     let number : c.len-then-len-capacity.result - c.len-before.result ≡ length vs = omega (arith, long, len_too, pushed, as_long, before) in
     let items = c.push_reserved.ensures.items ∙ (ap (λ (l : List g.row.T.Denot). l ++ v ∷ []) i.2.0 ∙ append_assoc c.args.into.now.items i.0 (v ∷ [])) in
-    let told = c.tells.ensures.deed in (
+    let heard = c.tells.ensures.deed in (
       vs,
       items,
       (
         count ∙ number,
-        gathering.hands did (room_in c.args.into.now) start c.loop.call c.step_queue.new.call i.0 here there i.1 i.3 (Pop (Ok v)) deed vs (gathering.ends_full v i.0 i.1 last) told.0 end
-            (subst (λ (n : ℕ). did (more_told Sends n told.0) there end) number told.1),
+        gathering.hands did (room_in c.args.into.now) start c.loop.call c.step_queue.new.call i.0 here there i.1 i.3 (Pop (Ok v)) deed vs (gathering.ends_full v i.0 i.1 last) heard.0 end
+            (subst (λ (n : ℕ). did (told Sends (More n) heard.0) there end) number heard.1),
       ),
     )
 
@@ -177,13 +178,13 @@ returns-in-Err-clause-deeds g c =
     let more = c.if-len-before.false in
     let count = c.tells-in-Err.ensures.count in
     let number : c.len-in-Err-2.result - c.len-before.result ≡ length i.0 = omega (arith, as_long, before, len_too) in
-    let told = c.tells-in-Err.ensures.deed in (
+    let heard = c.tells-in-Err.ensures.deed in (
       i.0,
       i.2.0,
       (
         count ∙ number,
         gathering.hands did (room_in c.args.into.now) start c.loop.call c.step_queue.new.call i.0 here there i.1 i.3 (popped_as (Err e)) deed i.0
-            (gathering.ends_short e i.0 i.1 (λ (none : length i.0 ≡ 0). omega (arith, none, as_long, before, len, more))) told.0 end
-            (subst (λ (n : ℕ). did (more_told Sends n told.0) there end) number told.1),
+            (gathering.ends_short e i.0 i.1 (λ (none : length i.0 ≡ 0). omega (arith, none, as_long, before, len, more))) heard.0 end
+            (subst (λ (n : ℕ). did (told Sends (More n) heard.0) there end) number heard.1),
       ),
     )

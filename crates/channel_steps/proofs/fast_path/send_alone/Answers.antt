@@ -47,11 +47,11 @@ returns-in-Some-unsent g c =
 pub returns-in-loop-answer : goal.returns-in-loop-answer
 returns-in-loop-answer g c =
     let l = c.loop-answer in
-    let one = c.tell_one.ensures.deed in
-    let all = c.tell_all.ensures.deed in
+    let one = c.tell.ensures.deed in
+    let all = c.tell-in-loop-answer.ensures.deed in
     let over = tells_all_over g.S.Wakes.wakes (ask.TrySend c.args.message) c.args.channel.now c.args.sink.now c.args.messages.now
-    (reply.TrySend (Ok tt)) c.answers-in-loop-answer.result c.step_queue-answer.new.self c.tell_one.new.self c.tell_all.new.self l.sink
-    c.tell_one.new.sink c.tell_all.new.sink c.counted.result
+    (reply.TrySend (Ok tt)) c.answers-in-loop-answer.result c.step_queue-answer.new.self c.tell.new.self c.tell-in-loop-answer.new.self l.sink
+    c.tell.new.sink c.tell-in-loop-answer.new.sink c.counted.result
     (tries_well g.S.Wakes.wakes (ask.TrySend c.args.message) c.args.channel.now c.args.sink.now c.args.messages.now purpose.TrySend l.channel
     c.step_queue-answer.new.self l.call c.step_queue-answer.new.call l.sink l.messages c.counted.result l.invariant c.last_mark.result
     c.last_mark.ensures c.counted.ensures c.step_queue-answer.result c.step_queue-answer.ensures.deed
@@ -59,6 +59,6 @@ returns-in-loop-answer g c =
     one.0 one.1 one.2 all.0 all.1 all.2 c.answers-in-loop-answer.ensures in
     record {
       alone = answers_alone g.S.Wakes.wakes (ask.TrySend c.args.message) (parts_of c.args.channel.now) c.args.sink.now c.args.messages.now c.answers-in-loop-answer.result
-          (parts_of c.tell_all.new.self) c.tell_all.new.sink c.counted.result over;
+          (parts_of c.tell-in-loop-answer.new.self) c.tell-in-loop-answer.new.sink c.counted.result over;
       configurations = over;
     }
