@@ -1,5 +1,4 @@
 -- What it is to have been shown a thing, by what a trace says of each operation and of a message on its way.
-use Rattle.std.specs.Prelude.{ℕ}
 use Rattle.concurrent_queue.specs.Deeds.{Deed, loaded, stored, exchanged, added, bits_set, bits_kept, did_put, spared, retired, put_answer}
 use Rattle.concurrent_queue.specs.declared.cells.Slot.{Slot}
 use Rattle.concurrent_queue.specs.declared.seen.Shown.{Shown}

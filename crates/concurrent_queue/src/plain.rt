@@ -184,7 +184,7 @@ impl<T: Drop> PlainCells<T> {
 
 impl<T: Drop> PlainCells<T> {
     ghost use Rattle.std.specs.Prelude.{◌≡◌, ◌<◌, None, IfOk};
-    ghost use Rattle.concurrent_queue.specs.Contents.{read, write, slot_at, write_slot, PutGives, empty_slot, empty_blocks};
+    ghost use Rattle.concurrent_queue.specs.Contents.{read, write, slot_at, write_slot, PutGives, empty_slot, empty_blocks, no_contents};
     ghost use Rattle.concurrent_queue.specs.Made.{CanBeMade, IsNew};
     ghost use Rattle.concurrent_queue.specs.machine.RingMade.{empty_ring};
     ghost use Rattle.concurrent_queue.specs.declared.cells.QueueForm.TheVariants as form;
@@ -226,17 +226,8 @@ impl<T: Drop> PlainCells<T> {
             Ok(()) => {}
             Err(_) => return Err(AllocError),
         }
-        Ok(PlainCells {
-            form: QueueForm::Bounded(1),
-            state: 0,
-            head: 0,
-            tail: 0,
-            stamps: Vec::new(alloc),
-            slots,
-            head_block: 0,
-            tail_block: 0,
-            pool: Pool::new(alloc),
-        })
+        let stamps = Vec::new(alloc);
+        Ok(PlainCells::blank(alloc, QueueForm::Bounded(1), stamps, slots))
     }
 
     /// The cells of an open and empty ring. `Err` where there is no memory for its stamps and slots.
@@ -245,30 +236,38 @@ impl<T: Drop> PlainCells<T> {
     {
         let stamps = first_stamps(alloc, capacity)?;
         let slots = empty_slots(alloc, capacity)?;
-        Ok(PlainCells {
-            form: QueueForm::Bounded(capacity),
-            state: 0,
-            head: 0,
-            tail: 0,
-            stamps,
-            slots,
-            head_block: 0,
-            tail_block: 0,
-            pool: Pool::new(alloc),
-        })
+        let form = QueueForm::Bounded(capacity);
+        Ok(PlainCells::blank(alloc, form, stamps, slots))
     }
 
     /// The cells of an open and empty unbounded queue. It takes no memory: blocks are made when messages come.
     fn unbounded(alloc: Global) -> PlainCells<T>
         ensures { contents_of result ≡ empty_blocks }
     {
+        PlainCells::blank(
+            alloc,
+            QueueForm::Unbounded,
+            Vec::new(alloc),
+            Vec::new(alloc),
+        )
+    }
+
+    /// Cells with these stamps and slots and no block, whose other words are all 0.
+    fn blank(
+        alloc: Global,
+        form: QueueForm,
+        stamps: Vec<u64>,
+        slots: Vec<Option<T>>,
+    ) -> PlainCells<T>
+        ensures { contents_of result ≡ record (no_contents form) { stamps = stamps.items; slots = slots.items } }
+    {
         PlainCells {
-            form: QueueForm::Unbounded,
+            form,
             state: 0,
             head: 0,
             tail: 0,
-            stamps: Vec::new(alloc),
-            slots: Vec::new(alloc),
+            stamps,
+            slots,
             head_block: 0,
             tail_block: 0,
             pool: Pool::new(alloc),
