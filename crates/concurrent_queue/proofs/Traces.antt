@@ -1,72 +1,66 @@
 -- What a trace saw of a call that was made over cells which show it their deeds.
-use Rattle.std.proofs.Common.{◌≡◌, ◌∙◌, ℕ, Option, Some, refl, sym, subst}
+use Rattle.std.proofs.Common.{◌≡◌, ◌∙◌, Option, Result, Some, Ok, Err, refl, sym, subst}
 use Rattle.concurrent_queue.specs.Deeds.{Deed}
-use Rattle.concurrent_queue.specs.Walked.{StateMakes, CallMakes, WalkedFrom, first_of, standing}
+use Rattle.concurrent_queue.specs.Walked.{StateMakes, CallMakes, WalkedFrom, WalkedFast, standing}
 use Rattle.concurrent_queue.specs.machine.FastPath.{Leads}
-use Rattle.concurrent_queue.specs.declared.call.QueueAsk.{QueueAsk}
 use Rattle.concurrent_queue.specs.declared.call.QueueReply.{QueueReply}
 use Rattle.concurrent_queue.specs.declared.call.Stepped.{Stepped}
 use Rattle.concurrent_queue.specs.declared.cells.QueueForm.{QueueForm}
 use Rattle.concurrent_queue.specs.declared.queue_call.CallState.{CallState}
-use Rattle.concurrent_queue.specs.declared.queue_call.CallState.TheVariants.{Asked}
 use Rattle.concurrent_queue.specs.declared.queue_call.QueueCall.{QueueCall}
 use Rattle.concurrent_queue.specs.declared.seen.Lent.{Lent}
 use Rattle.concurrent_queue.specs.declared.seen.Seen.{Seen}
-use Rattle.concurrent_queue.proofs.Walks.{state_seen, leads_seen, walked_seen, walked_asking, walked_standing, walked_on, step_keeps, leads_keep}
+use Rattle.concurrent_queue.proofs.Walks.{state_seen, leads_seen, walked_seen, walked_standing, walked_on, step_keeps, leads_keep}
 
--- cells of which nothing is known but their form, and a trace
-module _ {T C S : Type 0} (form_of : C → QueueForm) (did : Deed T → S → S → Type 0) where
+-- cells of any kind, and a trace that is given back
+module _ {T C S : Type 0} (on_cells : Deed T → C → C → Type 0) (did : Deed T → S → S → Type 0) (form : QueueForm) (s t : Seen C S) (y : S) (to : y ≡ t.trace) where
   abbrev both : Deed T → Seen C S → Seen C S → Type 0
-  both d a b = (form_of b.cells ≡ form_of a.cells) × did d a.trace b.trace
+  both d a b = on_cells d a.cells b.cells × did d a.trace b.trace
 
   shows : (d : Deed T) (a b : Seen C S) → both d a b → did d a.trace b.trace
   shows d a b h = h.1
 
-  -- a call made up to its answer, from the trace that was given to the one that is given back
-  pub traced : (form now : QueueForm) (at : CallState T) (s t : Seen C S) (r : QueueReply T) (x y : S) → now ≡ form → s.trace ≡ x → y ≡ t.trace
-      → WalkedFrom both now at s r t → WalkedFrom did form at x r y
-  traced form now at s t r x y same from to walked =
-      subst (λ (f : QueueForm). WalkedFrom did f at x r y) same
-      (subst (λ (z : S). WalkedFrom did now at z r y) from
-      (subst (λ (z : S). WalkedFrom did now at s.trace r z) (sym to) (walked_seen both did (λ (z : Seen C S). z.trace) shows now s at t r walked)))
+  -- a call made up to its answer
+  pub traced : (at : CallState T) (r : QueueReply T) → WalkedFrom both form at s r t → WalkedFrom did form at s.trace r y
+  traced at r walked = subst (λ (z : S). WalkedFrom did form at s.trace r z) (sym to) (walked_seen both did (λ (z : Seen C S). z.trace) shows form s at t r walked)
 
   -- one step of a call
-  pub stepped : (form now : QueueForm) (call next : QueueCall T) (s t : Seen C S) (r : Option (QueueReply T)) (x y : S) → now ≡ form → s.trace ≡ x → y ≡ t.trace
-      → CallMakes both now s call t next r → CallMakes did form x call y next r
-  stepped form now call next s t r x y same from to made =
+  pub stepped : (call next : QueueCall T) (r : Option (QueueReply T)) → CallMakes both form s call t next r → CallMakes did form s.trace call y next r
+  stepped call next r made =
       let end : Stepped (CallState T) T = record { action = next.state; mark = next.mark; reply = r } in
-      subst (λ (f : QueueForm). StateMakes did f x call.state y end) same
-      (subst (λ (z : S). StateMakes did now z call.state y end) from
-      (subst (λ (z : S). StateMakes did now s.trace call.state z end) (sym to) (state_seen both did (λ (z : Seen C S). z.trace) shows now s call.state t end made)))
+      subst (λ (z : S). StateMakes did form s.trace call.state z end) (sym to) (state_seen both did (λ (z : Seen C S). z.trace) shows form s call.state t end made)
 
-  -- where straight code answered a call that asks this
-  pub traced_asking : (form now : QueueForm) (a : QueueAsk T) (s t : Seen C S) (r : QueueReply T) (x y : S) → now ≡ form → s.trace ≡ x → y ≡ t.trace
-      → WalkedFrom both now (first_of now a) s r t → WalkedFrom did form (Asked a) x r y
-  traced_asking form now a s t r x y same from to walked =
-      traced form now (Asked a) s t r x y same from to (walked_asking both now s a t r walked)
+  -- straight code, to its answer or to the call that it leaves
+  pub traced_fast : {R : Type 0} (reply : R → QueueReply T) (at : CallState T) (o : Result R (QueueCall T)) → WalkedFast both reply form at s o t → WalkedFast did reply form at s.trace o y
+  traced_fast reply at (Ok r) walked = traced at (reply r) walked
+  traced_fast reply at (Err call) (n, path) =
+      (n, subst (λ (z : S). Leads (StateMakes did form) n s.trace at z (standing form call.state)) (sym to) (leads_seen both did (λ (z : Seen C S). z.trace) shows form n s at t (standing form call.state) path))
 
-  -- where it answered a call at this state
-  pub traced_standing : (form now : QueueForm) (at : CallState T) (s t : Seen C S) (r : QueueReply T) (x y : S) → now ≡ form → s.trace ≡ x → y ≡ t.trace
-      → WalkedFrom both now (standing now at) s r t → WalkedFrom did form at x r y
-  traced_standing form now at s t r x y same from to walked =
-      traced form now at s t r x y same from to (walked_standing both now s at t r walked)
+-- what was seen on cells of an equal form, from an equal trace
+module _ {T S : Type 0} (did : Deed T → S → S → Type 0) (form now : QueueForm) (w x : S) (same : now ≡ form) (from : w ≡ x) where
+  pub walked_here : (at : CallState T) (r : QueueReply T) (y : S) → WalkedFrom did now at w r y → WalkedFrom did form at x r y
+  walked_here at r y walked = subst (λ (f : QueueForm). WalkedFrom did f at x r y) same (subst (λ (z : S). WalkedFrom did now at z r y) from walked)
 
-  -- what straight code left was walked on from the trace that it gave back
-  module _ (form now : QueueForm) (left : CallState T) (s t : Seen C S) (r : QueueReply T) (x y z : S) (same : now ≡ form) (from : s.trace ≡ x) (to : y ≡ t.trace) where
-    went_on : (from_here : CallState T) → ((n : ℕ) × Leads (StateMakes both now) n s from_here t (standing now left)) → WalkedFrom did form left y r z → WalkedFrom did now from_here x r z
-    went_on from_here (n, path) rest =
-        let seen = leads_seen both did (λ (w : Seen C S). w.trace) shows now n s from_here t (standing now left) path in
-        let begun : Leads (StateMakes did now) n x from_here t.trace (standing now left) = subst (λ (w : S). Leads (StateMakes did now) n w from_here t.trace (standing now left)) from seen in
-        let more : WalkedFrom did now left t.trace r z = subst (λ (w : S). WalkedFrom did now left w r z) to (subst (λ (f : QueueForm). WalkedFrom did f left y r z) (sym same) rest) in
-        walked_on did now now n x from_here t.trace left z r refl begun more
+  pub step_here : (call next : QueueCall T) (r : Option (QueueReply T)) (y : S) → CallMakes did now w call y next r → CallMakes did form x call y next r
+  step_here call next r y made = subst (λ (f : QueueForm). CallMakes did f x call y next r) same (subst (λ (z : S). CallMakes did now z call y next r) from made)
 
-    pub asking_went_on : (a : QueueAsk T) → ((n : ℕ) × Leads (StateMakes both now) n s (first_of now a) t (standing now left)) → WalkedFrom did form left y r z → WalkedFrom did form (Asked a) x r z
-    asking_went_on a went rest =
-        subst (λ (f : QueueForm). WalkedFrom did f (Asked a) x r z) same (walked_asking did now x a z r (went_on (first_of now a) went rest))
+  -- a call at this state that straight code began
+  module _ {R : Type 0} (reply : R → QueueReply T) (at : CallState T) (y : S) (o : Result R (QueueCall T)) (fast : WalkedFast did reply now (standing now at) w o y) where
+    began : (p : Result R (QueueCall T)) → o ≡ p → WalkedFast did reply form (standing form at) x p y
+    began p is =
+        subst (λ (f : QueueForm). WalkedFast did reply f (standing f at) x p y) same
+        (subst (λ (z : S). WalkedFast did reply now (standing now at) z p y) from
+        (subst (λ (q : Result R (QueueCall T)). WalkedFast did reply now (standing now at) w q y) is fast))
 
-    pub standing_went_on : (at : CallState T) → ((n : ℕ) × Leads (StateMakes both now) n s (standing now at) t (standing now left)) → WalkedFrom did form left y r z → WalkedFrom did form at x r z
-    standing_went_on at went rest =
-        subst (λ (f : QueueForm). WalkedFrom did f at x r z) same (walked_standing did now x at z r (went_on (standing now at) went rest))
+    -- it answered
+    pub answered : (r : R) → o ≡ Ok r → WalkedFrom did form at x (reply r) y
+    answered r is = walked_standing did form x at y (reply r) (began (Ok r) is)
+
+    -- what it left was walked on
+    pub went_on : (left : QueueCall T) (r : QueueReply T) (z : S) → o ≡ Err left → WalkedFrom did form left.state y r z → WalkedFrom did form at x r z
+    went_on left r z is rest =
+        let begun = began (Err left) is in
+        walked_standing did form x at z r (walked_on did form form begun.0 x (standing form at) y left.state z r refl begun.1 rest)
 
 -- a trace that is lent: the one that lends it sees what it sees, and stays the same one
 module _ {T S : Type 0} (did : Deed T → S → S → Type 0) where

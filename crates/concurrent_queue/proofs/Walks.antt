@@ -143,7 +143,7 @@ module _ {T S : Type 0} (did : Deed T → S → S → Type 0) where
   makes_first (Bounded cap) s a t r h = bounded_first (cap == 1) cap s a t r h
   makes_first Unbounded s a t r h = h
 
-  pub walked_asking : (form : QueueForm) (s : S) (a : QueueAsk T) (t : S) (r : QueueReply T) → WalkedFrom did form (first_of form a) s r t → WalkedFrom did form (Asked a) s r t
+  walked_asking : (form : QueueForm) (s : S) (a : QueueAsk T) (t : S) (r : QueueReply T) → WalkedFrom did form (first_of form a) s r t → WalkedFrom did form (Asked a) s r t
   walked_asking form s a t r (zero, (x, y, z, m, (e, f), last)) =
       let end : Stepped (CallState T) T = record { action = z; mark = m; reply = Some r } in
       let from : StateMakes did form s (first_of form a) t end = subst (λ (u : S). StateMakes did form u (first_of form a) t end) e (subst (λ (u : CallState T). StateMakes did form x u t end) f last) in

@@ -8,6 +8,7 @@ ghost use Rattle.concurrent_queue.specs.declared.call.QueueAsk.TheVariants as as
 
 pub(crate) mod fast_path;
 mod place;
+pub(crate) mod seen;
 pub mod whole;
 
 use crate::bounded::RingAction;

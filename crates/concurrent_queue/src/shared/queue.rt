@@ -7,8 +7,7 @@ use crate::bounded::{GREATEST, at_most_greatest};
 use crate::call::{QueueAsk, QueueReply};
 use crate::cells::QueueForm;
 use crate::error::{NoMemory, PopError, PushError};
-use crate::queue_call::fast_path::{call_fast, pop_fast, push_fast};
-use crate::queue_call::{QueueCall, whole};
+use crate::queue_call::{QueueCall, seen, whole};
 use crate::seen::{Lent, NoTrace, Seen, Trace, see_cells, see_words};
 use crate::shared::blocks::Blocks;
 use crate::shared::cells::{STAMPS, SharedCells, WordCells};
@@ -183,9 +182,7 @@ impl<T: Drop, W: Copy> ConcurrentQueue<T, W> {
         ensures walked { Walked S.did (form_in self.now) call trace (result.0) (result.1) }
         ensures answers { MayCall (form_in self.now) call.state (result.0) }
     {
-        let mut seen = self.cells(rt, trace);
-        let reply = whole::finish(rt, call, &mut seen);
-        (reply, seen.into_trace())
+        seen::finish(rt, call, self.cells(rt, trace))
     }
 
     /// The same, apart from a push or a pop that is made at once, which so has no room to make for it.
@@ -226,10 +223,9 @@ impl<T: Drop, W: Copy> ConcurrentQueue<T, W> {
         ensures answers { IsSharedStep self.now call.old call.new (result.0) }
     {
         let place = call.place();
-        let mut seen = self.cells(rt, trace);
-        let reply = call.step(&mut seen);
+        let (reply, trace) = seen::step(call, self.cells(rt, trace));
         whole::give_way(reply.is_none() && call.place() <= place);
-        (reply, seen.into_trace())
+        (reply, trace)
     }
 
     /// The steps of a call up to its answer, as `complete`: the trace sees each operation, with the answers by which this one
@@ -244,10 +240,10 @@ impl<T: Drop, W: Copy> ConcurrentQueue<T, W> {
         ensures walked { Walked S.did (form_in self.now) call trace (result.0) (result.1) }
         ensures answers { IsSharedCall self.now call (result.0) }
     {
-        let mut seen = self.cells(rt, trace);
-        match call_fast(call, &mut seen) {
-            Ok(reply) => (reply, seen.into_trace()),
-            Err(rest) => self.finish_seen(rt, rest, seen.into_trace()),
+        let (made, trace) = seen::call_fast(call, self.cells(rt, trace));
+        match made {
+            Ok(reply) => (reply, trace),
+            Err(rest) => self.finish_seen(rt, rest, trace),
         }
     }
 
@@ -265,9 +261,7 @@ impl<T: Drop, W: Copy> ConcurrentQueue<T, W> {
         if call.asks_capacity() {
             return (call.step_capacity(self.form, &trace), trace);
         }
-        let mut seen = self.words(trace);
-        let reply = call.step(&mut seen);
-        (reply, seen.into_trace())
+        seen::step(call, self.words(trace))
     }
 
     /// A push, as `push`: the trace sees its operations and nothing else. Own to this project.
@@ -281,11 +275,11 @@ impl<T: Drop, W: Copy> ConcurrentQueue<T, W> {
         ensures walked { WalkedAsking S.did (form_in self.now) (ask.Push value) trace (reply.Push (result.0)) (result.1) }
         ensures answers { MayAnswer (form_in self.now) (ask.Push value) (reply.Push (result.0)) }
     {
-        let mut seen = self.cells(rt, trace);
-        match push_fast(value, &mut seen) {
-            Ok(answer) => (answer, seen.into_trace()),
+        let (made, trace) = seen::push_fast(value, self.cells(rt, trace));
+        match made {
+            Ok(answer) => (answer, trace),
             Err(rest) => {
-                let (reply, trace) = self.finish_apart(rt, rest, seen.into_trace());
+                let (reply, trace) = self.finish_apart(rt, rest, trace);
                 match reply {
                     QueueReply::Push(answer) => (answer, trace),
                     _ => unreachable!(),
@@ -299,11 +293,11 @@ impl<T: Drop, W: Copy> ConcurrentQueue<T, W> {
     pub fn pop_seen<R: Wait, S: Trace<T>>(&self, rt: &R, trace: S) -> (Result<T, PopError>, S)
         ensures walked { WalkedAsking S.did (form_in self.now) ask.Pop trace (reply.Pop (result.0)) (result.1) }
     {
-        let mut seen = self.cells(rt, trace);
-        match pop_fast(&mut seen) {
-            Ok(answer) => (answer, seen.into_trace()),
+        let (made, trace) = seen::pop_fast(self.cells(rt, trace));
+        match made {
+            Ok(answer) => (answer, trace),
             Err(rest) => {
-                let (reply, trace) = self.finish_apart(rt, rest, seen.into_trace());
+                let (reply, trace) = self.finish_apart(rt, rest, trace);
                 match reply {
                     QueueReply::Pop(answer) => (answer, trace),
                     _ => unreachable!(),
@@ -333,9 +327,7 @@ impl<T: Drop, W: Copy> ConcurrentQueue<T, W> {
         ensures walked { WalkedAsking S.did (form_in self.now) ask trace (result.0) (result.1) }
         ensures answers { MayAnswer (form_in self.now) ask (result.0) }
     {
-        let mut seen = self.words(trace);
-        let reply = whole::tell(ask, &mut seen);
-        (reply, seen.into_trace())
+        seen::tell(ask, self.words(trace))
     }
 }
 

@@ -4,25 +4,22 @@ use Rattle.concurrent_queue.specs.Walked.{WalkedFrom}
 use Rattle.concurrent_queue.specs.declared.call.QueueAsk.TheVariants as ask
 use Rattle.concurrent_queue.specs.declared.call.QueueReply.{QueueReply}
 use Rattle.concurrent_queue.specs.declared.call.QueueReply.TheVariants as reply
-use Rattle.concurrent_queue.specs.declared.shared.cells.SharedCells.{SharedCells}
-use Rattle.concurrent_queue.proofs.Traces.{traced_asking, asking_went_on}
+use Rattle.concurrent_queue.specs.declared.queue_call.CallState.TheVariants.{Asked}
+use Rattle.concurrent_queue.proofs.Traces.{answered, went_on}
 use Rattle.concurrent_queue.proofs.shared.queue.ConcurrentQueue.pop_seen.Goals as goal
 
 pub returns-in-Ok : goal.returns-in-Ok
 returns-in-Ok g c =
-    let seen = c.cells-seen.result in
     record {
-      walked = traced_asking (λ (x : SharedCells g.row.T.Denot g.row.R.Denot). x.words.form) g.S.Trace.did (form_in c.args.self.now) seen.cells.words.form ask.Pop seen c.pop_fast.new.cells (reply.Pop c.in-Ok.answer)
-          c.args.trace c.into_trace.result c.cells-seen.ensures.form c.cells-seen.ensures.trace c.into_trace.ensures c.in-Ok.ensures.deeds;
+      walked = answered g.S.Trace.did (form_in c.args.self.now) c.cells.result.cells.words.form c.cells.result.trace c.args.trace c.cells.ensures.form c.cells.ensures.trace (λ r. reply.Pop r) (Asked ask.Pop) c.pop_fast-made.result.1 c.pop_fast-made.result.0 c.pop_fast-made.ensures.deeds
+          c.in-Ok.answer c.in-Ok.is;
     }
 
 pub returns-in-Pop : goal.returns-in-Pop
 returns-in-Pop g c =
-    let seen = c.cells-seen.result in
     let made = c.finish_apart-reply.result in
-    let form = form_in c.args.self.now in
-    let went = subst (λ (r : QueueReply g.row.T.Denot). WalkedFrom g.S.Trace.did form c.in-Err.rest.state c.into_trace-in-Err.result r made.1) c.in-Pop.is c.finish_apart-reply.ensures.walked in
+    let walked = subst (λ (r : QueueReply g.row.T.Denot). WalkedFrom g.S.Trace.did (form_in c.args.self.now) c.in-Err.rest.state c.pop_fast-made.result.1 r made.1) c.in-Pop.is c.finish_apart-reply.ensures.walked in
     record {
-      walked = asking_went_on (λ (x : SharedCells g.row.T.Denot g.row.R.Denot). x.words.form) g.S.Trace.did form seen.cells.words.form c.in-Err.rest.state seen c.pop_fast.new.cells (reply.Pop c.in-Pop.answer)
-          c.args.trace c.into_trace-in-Err.result made.1 c.cells-seen.ensures.form c.cells-seen.ensures.trace c.into_trace-in-Err.ensures ask.Pop c.in-Err.ensures.deeds went;
+      walked = went_on g.S.Trace.did (form_in c.args.self.now) c.cells.result.cells.words.form c.cells.result.trace c.args.trace c.cells.ensures.form c.cells.ensures.trace (λ r. reply.Pop r) (Asked ask.Pop) c.pop_fast-made.result.1 c.pop_fast-made.result.0 c.pop_fast-made.ensures.deeds
+          c.in-Err.rest (reply.Pop c.in-Pop.answer) made.1 c.in-Err.is walked;
     }

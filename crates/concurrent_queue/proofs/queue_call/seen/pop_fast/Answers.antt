@@ -1,0 +1,9 @@
+use Rattle.concurrent_queue.specs.Walked.{first_of}
+use Rattle.concurrent_queue.specs.declared.call.QueueAsk.TheVariants as ask
+use Rattle.concurrent_queue.specs.declared.call.QueueReply.TheVariants as reply
+use Rattle.concurrent_queue.proofs.Traces.{traced_fast}
+use Rattle.concurrent_queue.proofs.queue_call.seen.pop_fast.Goals as goal
+
+pub returns-clause-deeds : goal.returns-clause-deeds
+returns-clause-deeds g c =
+    traced_fast g.C.Cells.did g.S.Trace.did (g.C.Cells.form_of c.args.seen.cells) c.args.seen c.pop_fast-made.new.cells c.into_trace.result c.into_trace.ensures (λ r. reply.Pop r) (first_of (g.C.Cells.form_of c.args.seen.cells) ask.Pop) c.pop_fast-made.result c.pop_fast-made.ensures.deeds

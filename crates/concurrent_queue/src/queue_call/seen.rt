@@ -1,0 +1,106 @@
+//! Calls of a queue on cells of any kind that a trace sees. Each gives the trace back with its answer: what `queue_call` says of the
+//! cells, it says of what the trace saw. Of neither is anything known here, so no call can show the trace anything but by an operation
+//! on the cells.
+
+ghost use Rattle.std.specs.Prelude.{MatchResult};
+ghost use Rattle.concurrent_queue.specs.Replies.{AsksWords, Follows, MayAnswer, MayCall};
+ghost use Rattle.concurrent_queue.specs.Walked.{CallMakes, Walked, WalkedAsking, WalkedFast, first_of, standing};
+ghost use Rattle.concurrent_queue.specs.declared.call.QueueAsk.TheVariants as ask;
+ghost use Rattle.concurrent_queue.specs.declared.call.QueueReply.{QueueReply};
+ghost use Rattle.concurrent_queue.specs.declared.call.QueueReply.TheVariants as reply;
+ghost use Rattle.concurrent_queue.specs.declared.cells.QueueForm.{QueueForm};
+
+use crate::call::{QueueAsk, QueueReply};
+use crate::cells::Cells;
+use crate::error::{PopError, PushError};
+use crate::queue_call::{QueueCall, fast_path, whole};
+use crate::seen::{Seen, Trace};
+use std::sync::Wait;
+
+/// One step of a call.
+#[inline(always)]
+pub(crate) fn step<T: Drop, C: Cells<T> + Drop, S: Trace<T>>(
+    call: &mut QueueCall<T>,
+    seen: Seen<C, S>,
+) -> (Option<QueueReply<T>>, S)
+    ensures deed { CallMakes S.did (C.form_of seen.cells) seen.trace call.old (result.1) call.new (result.0) }
+    ensures answers { Follows (C.form_of seen.cells) call.old call.new (result.0) }
+{
+    let mut seen = seen;
+    let reply = call.step(&mut seen);
+    (reply, seen.into_trace())
+}
+
+/// The steps of a call that waits for nobody, up to its answer.
+#[inline(always)]
+pub(crate) fn tell<T: Drop, C: Cells<T> + Drop, S: Trace<T>>(
+    ask: QueueAsk<T>,
+    seen: Seen<C, S>,
+) -> (QueueReply<T>, S)
+    requires { AsksWords ask }
+    ensures walked { WalkedAsking S.did (C.form_of seen.cells) ask seen.trace (result.0) (result.1) }
+    ensures answers { MayAnswer (C.form_of seen.cells) ask (result.0) }
+{
+    let mut seen = seen;
+    let reply = whole::tell(ask, &mut seen);
+    (reply, seen.into_trace())
+}
+
+/// The steps of a call to its end. What straight code hands on is to make an action again, so it yields first.
+#[inline(always)]
+pub(crate) fn finish<T: Drop, R: Wait, C: Cells<T> + Drop, S: Trace<T>>(
+    rt: &R,
+    call: QueueCall<T>,
+    seen: Seen<C, S>,
+) -> (QueueReply<T>, S)
+    ensures walked { Walked S.did (C.form_of seen.cells) call seen.trace (result.0) (result.1) }
+    ensures answers { MayCall (C.form_of seen.cells) call.state (result.0) }
+{
+    let mut seen = seen;
+    let reply = whole::finish(rt, call, &mut seen);
+    (reply, seen.into_trace())
+}
+
+/// Pushes or is refused, or answers the call that has to be stepped on.
+#[inline(always)]
+pub(crate) fn push_fast<T: Drop, C: Cells<T> + Drop, S: Trace<T>>(
+    value: T,
+    seen: Seen<C, S>,
+) -> (Result<Result<(), PushError<T>>, QueueCall<T>>, S)
+    ensures deeds { WalkedFast S.did (λ r. reply.Push r) (C.form_of seen.cells) (first_of (C.form_of seen.cells) (ask.Push value)) seen.trace (result.0) (result.1) }
+    ensures answers { MatchResult (result.0) (λ r. MayAnswer (C.form_of seen.cells) (ask.Push value) (reply.Push r)) (λ call. (f : QueueForm) (r : QueueReply T) → MayCall f call.state r →
+        MayAnswer (C.form_of seen.cells) (ask.Push value) r) }
+{
+    let mut seen = seen;
+    let made = fast_path::push_fast(value, &mut seen);
+    (made, seen.into_trace())
+}
+
+/// Pops or is refused, or answers the call that has to be stepped on.
+#[inline(always)]
+pub(crate) fn pop_fast<T: Drop, C: Cells<T> + Drop, S: Trace<T>>(
+    seen: Seen<C, S>,
+) -> (Result<Result<T, PopError>, QueueCall<T>>, S)
+    ensures deeds { WalkedFast S.did (λ r. reply.Pop r) (C.form_of seen.cells) (first_of (C.form_of seen.cells) ask.Pop) seen.trace (result.0) (result.1) }
+    ensures answers { MatchResult (result.0) (λ _. Unit {0}) (λ call. (f : QueueForm) (r : QueueReply T) → MayCall f call.state r →
+        MayAnswer (C.form_of seen.cells) ask.Pop r) }
+{
+    let mut seen = seen;
+    let made = fast_path::pop_fast(&mut seen);
+    (made, seen.into_trace())
+}
+
+/// Makes a push or a pop that has made no step; or answers the call that has to be stepped on.
+#[inline(always)]
+pub(crate) fn call_fast<T: Drop, C: Cells<T> + Drop, S: Trace<T>>(
+    call: QueueCall<T>,
+    seen: Seen<C, S>,
+) -> (Result<QueueReply<T>, QueueCall<T>>, S)
+    ensures deeds { WalkedFast S.did (λ r. r) (C.form_of seen.cells) (standing (C.form_of seen.cells) call.state) seen.trace (result.0) (result.1) }
+    ensures answers { MatchResult (result.0) (λ r. MayCall (C.form_of seen.cells) call.state r)
+        (λ rest. (r : QueueReply T) → MayCall (C.form_of seen.cells) rest.state r → MayCall (C.form_of seen.cells) call.state r) }
+{
+    let mut seen = seen;
+    let made = fast_path::call_fast(call, &mut seen);
+    (made, seen.into_trace())
+}
