@@ -1,5 +1,5 @@
 -- What a trace saw of a call that was made over cells which show it their deeds.
-use Rattle.std.proofs.Common.{◌≡◌, inl, inr, ℕ, zero, suc, false, Bool, true, List, Option, None, Some, Result, Ok, Err, MatchResult, ◌++◌, sym, ap, subst, ◌∙◌, append-nil}
+use Rattle.std.proofs.Common.{◌≡◌, inl, inr, ℕ, zero, suc, false, Bool, true, List, Option, None, Some, Result, Ok, Err, ◌++◌, refl, sym, ap, subst, ◌∙◌, append-nil}
 use Rattle.std.specs.Global.{Vec}
 use Rattle.concurrent_queue.specs.Deeds as cell
 use Rattle.concurrent_queue.specs.declared.cells.QueueForm.{QueueForm}
@@ -11,9 +11,8 @@ use Rattle.async_channel.specs.Handles.{Handle, form_of}
 use Rattle.async_channel.specs.Counts.{CloneRefused, UpgradeRefused, Clones, Upgrades}
 use Rattle.async_channel.specs.Polls.{Polls, PollsSend}
 use Rattle.async_channel.specs.Saw.{Saw, SeenOn, DidBeside}
-use Rattle.async_channel.specs.Sections.{Answers, OnList}
+use Rattle.async_channel.specs.Several.{ReceivesMany}
 use Rattle.async_channel.specs.Watched.{WasSeen}
-use Rattle.async_channel.specs.declared.cells.SharedCells.{SharedCells}
 use Rattle.async_channel.specs.declared.cells.SharedWords.{SharedWords}
 use Rattle.async_channel.specs.declared.seen.Seen.{Seen}
 use Rattle.channel_calls.proofs.Interface.{carried}
@@ -195,66 +194,71 @@ module _ {T S : Type 0} (did : cell.Deed T → S → S → Type 0) (shown : Deed
   pub asked : (f : QueueForm) (turn : NextStep T Task) (s t : Seen (SharedWords T) S) (r : Reply T) (x y : S) → form_of s.cells.shared.now ≡ f → s.trace ≡ x → y ≡ t.trace → WalkedTo (tells words_form answers did shown) turn s r t → WalkedTo (Saw did shown f) turn x r y
   asked f turn s t r x y is from to walked = asked_of words_form answers did shown f turn s t r x y is from to walked
 
--- likewise the cells, with a sink that wakes at once
-module _ {T R B L : Type 0} where
-  abbrev cells_form : SharedCells T R B L → QueueForm
-  cells_form c = form_of c.shared.now
+-- likewise cells of any kind, with a sink that wakes at once
+module _ {T C K S : Type 0} (form : C → QueueForm) (beside : Deed T Task → C → C → Type 0) (did : cell.Deed T → S → S → Type 0) (shown : Deed T Task → S → S → Type 0) where
+  abbrev sees : Deed T Task → Seen C S × K → Seen C S × K → Type 0
+  sees = Done (tells form beside did shown) (λ (k : K) (task : Task) (l : K). Unit {0})
 
-  abbrev sections : Deed T Task → SharedCells T R B L → SharedCells T R B L → Type 0
-  sections d a b = Answers OnList d
-
-module _ {T R B L K S : Type 0} (did : cell.Deed T → S → S → Type 0) (shown : Deed T Task → S → S → Type 0) (f : QueueForm) where
-  abbrev sees : Deed T Task → Seen (SharedCells T R B L) S × K → Seen (SharedCells T R B L) S × K → Type 0
-  sees = Done (tells cells_form sections did shown) (λ (k : K) (task : Task) (l : K). Unit {0})
-
-  abbrev trace_of : Seen (SharedCells T R B L) S × K → S
+  abbrev trace_of : Seen C S × K → S
   trace_of z = z.0.trace
 
-  abbrev of : Seen (SharedCells T R B L) S × K → QueueForm
-  of z = cells_form z.0.cells
+  abbrev of : Seen C S × K → QueueForm
+  of z = form z.0.cells
 
-  kept_by : (d : Deed T Task) (a b : Seen (SharedCells T R B L) S × K) → sees d a b → of b ≡ of a
+  kept_by : (d : Deed T Task) (a b : Seen C S × K) → sees d a b → of b ≡ of a
   kept_by d a b h = h.0.0
 
-  showed : (d : Deed T Task) (a b : Seen (SharedCells T R B L) S × K) → of a ≡ f → sees d a b → (Saw did shown f) d (trace_of a) (trace_of b)
-  showed d a b e h = told cells_form sections did shown f d a.0 b.0 e h.0
+  showed : (f : QueueForm) (d : Deed T Task) (a b : Seen C S × K) → of a ≡ f → sees d a b → (Saw did shown f) d (trace_of a) (trace_of b)
+  showed f d a b e h = told form beside did shown f d a.0 b.0 e h.0
 
-  module _ (s t : Seen (SharedCells T R B L) S × K) (x y : S) (is : form_of s.0.cells.shared.now ≡ f) (from : s.0.trace ≡ x) (to : y ≡ t.0.trace) where
-    pub walked_from : (turn : NextStep T Task) (r : Reply T) (kept : Returned T) → WalkedFrom sees turn s r kept t → WalkedFrom (Saw did shown f) turn x r kept y
-    walked_from turn r kept walked = between (λ a b. WalkedFrom (Saw did shown f) turn a r kept b) s.0.trace t.0.trace x y from to (from_seen sees (Saw did shown f) trace_of of f kept_by showed turn s r kept t is walked)
+  -- from these cells with their trace to the trace that is given back
+  module _ (s t : Seen C S × K) (y : S) (to : y ≡ t.0.trace) where
+    abbrev saw : Deed T Task → S → S → Type 0
+    saw = Saw did shown (of s)
 
-    pub walked_to : (turn : NextStep T Task) (r : Reply T) → WalkedTo sees turn s r t → WalkedTo (Saw did shown f) turn x r y
-    walked_to turn r walked = between (λ a b. WalkedTo (Saw did shown f) turn a r b) s.0.trace t.0.trace x y from to (to_seen sees (Saw did shown f) trace_of of f kept_by showed turn s r t is walked)
+    given : (P : S → Type 0) → P t.0.trace → P y
+    given P h = subst P (sym to) h
 
-    pub filled : (room : ℕ) (before after : List T) (r : Result ℕ TryRecvError) → Fills sees room before s r after t → Fills (Saw did shown f) room before x r after y
-    filled room before after r fills = between (λ a b. Fills (Saw did shown f) room before a r after b) s.0.trace t.0.trace x y from to (fills_seen sees (Saw did shown f) trace_of of f kept_by showed room before s r after t is fills)
+    pub walked_from : (turn : NextStep T Task) (r : Reply T) (kept : Returned T) → WalkedFrom sees turn s r kept t → WalkedFrom saw turn s.0.trace r kept y
+    walked_from turn r kept walked = given (WalkedFrom saw turn s.0.trace r kept) (from_seen sees saw trace_of of (of s) kept_by (showed (of s)) turn s r kept t refl walked)
 
-    pub taken : (ended : Bool) (item : Option T) → TakesNext sees ended s item t → TakesNext (Saw did shown f) ended x item y
-    taken ended item takes = between (λ a b. TakesNext (Saw did shown f) ended a item b) s.0.trace t.0.trace x y from to (takes_seen sees (Saw did shown f) trace_of of f kept_by showed ended s item t is takes)
+    pub walked_to : (turn : NextStep T Task) (r : Reply T) → WalkedTo sees turn s r t → WalkedTo saw turn s.0.trace r y
+    walked_to turn r walked = given (WalkedTo saw turn s.0.trace r) (to_seen sees saw trace_of of (of s) kept_by (showed (of s)) turn s r t refl walked)
 
-    pub several : (limit : ℕ) (r : Result (Vec T) (Refused TryRecvError Unit))
-        → MatchResult r (λ messages. WalkedTo sees (first (ask.RecvMany limit)) s (reply.RecvMany (Ok messages.items)) t) (λ e. WalkedTo sees (first (ask.RecvMany limit)) s (reply.RecvMany (Err e)) t)
-        → MatchResult r (λ messages. WalkedTo (Saw did shown f) (first (ask.RecvMany limit)) x (reply.RecvMany (Ok messages.items)) y) (λ e. WalkedTo (Saw did shown f) (first (ask.RecvMany limit)) x (reply.RecvMany (Err e)) y)
+    pub filled : (room : ℕ) (before after : List T) (r : Result ℕ TryRecvError) → Fills sees room before s r after t → Fills saw room before s.0.trace r after y
+    filled room before after r fills = given (Fills saw room before s.0.trace r after) (fills_seen sees saw trace_of of (of s) kept_by (showed (of s)) room before s r after t refl fills)
+
+    pub taken : (ended : Bool) (item : Option T) → TakesNext sees ended s item t → TakesNext saw ended s.0.trace item y
+    taken ended item takes = given (TakesNext saw ended s.0.trace item) (takes_seen sees saw trace_of of (of s) kept_by (showed (of s)) ended s item t refl takes)
+
+    pub several : (limit : ℕ) (r : Result (Vec T) (Refused TryRecvError Unit)) → ReceivesMany sees limit s r t → ReceivesMany saw limit s.0.trace r y
     several limit (Ok messages) walked = walked_to (first (ask.RecvMany limit)) (reply.RecvMany (Ok messages.items)) walked
     several limit (Err e) walked = walked_to (first (ask.RecvMany limit)) (reply.RecvMany (Err e)) walked
 
     -- of calls that block their thread
-    module _ (parked : Option Task → S → S → Type 0) (slept : S → S → Type 0) (end : form_of t.0.cells.shared.now ≡ f) where
-      abbrev asks : Option Task → Seen (SharedCells T R B L) S × K → Seen (SharedCells T R B L) S × K → Type 0
-      asks = Asked (λ o a b. (cells_form b.cells ≡ cells_form a.cells) × Unit {0} × parked o a.trace b.trace)
+    module _ (asked_bed : Option Task → C → C → Type 0) (slept_bed : C → C → Type 0) (parked : Option Task → S → S → Type 0) (slept : S → S → Type 0) (end : of t ≡ of s) where
+      abbrev asks : Option Task → Seen C S × K → Seen C S × K → Type 0
+      asks = Asked (λ o a b. (form b.cells ≡ form a.cells) × asked_bed o a.cells b.cells × parked o a.trace b.trace)
 
-      abbrev sleeps : Seen (SharedCells T R B L) S × K → Seen (SharedCells T R B L) S × K → Type 0
-      sleeps = Slept (λ a b. (cells_form b.cells ≡ cells_form a.cells) × Unit {0} × slept a.trace b.trace)
+      abbrev sleeps : Seen C S × K → Seen C S × K → Type 0
+      sleeps = Slept (λ a b. (form b.cells ≡ form a.cells) × slept_bed a.cells b.cells × slept a.trace b.trace)
 
-      pub blocked : (call : Blocked T) (r : Reply T) (kept : Returned T) → Blocks sees asks sleeps call s r kept t → Blocks (Saw did shown f) parked slept call x r kept y
+      pub blocked : (call : Blocked T) (r : Reply T) (kept : Returned T) → Blocks sees asks sleeps call s r kept t → Blocks saw parked slept call s.0.trace r kept y
       blocked call r kept blocks =
-          between (λ a b. Blocks (Saw did shown f) parked slept call a r kept b) s.0.trace t.0.trace x y from to
-          (blocks_seen sees (Saw did shown f) trace_of of f kept_by showed asks parked (λ o a b h. h.0.0) (λ o a b h. h.0.2) sleeps slept (λ a b h. h.0.0) (λ a b h. h.0.2) call s r kept t is end blocks)
+          given (Blocks saw parked slept call s.0.trace r kept)
+          (blocks_seen sees saw trace_of of (of s) kept_by (showed (of s)) asks parked (λ o a b h. h.0.0) (λ o a b h. h.0.2) sleeps slept (λ a b h. h.0.0) (λ a b h. h.0.2) call s r kept t refl end blocks)
 
-      pub waited : (ended : Bool) (item : Option (Result T ListenError)) → WaitsForNext sees asks sleeps ended s item t → WaitsForNext (Saw did shown f) parked slept ended x item y
+      pub waited : (ended : Bool) (item : Option (Result T ListenError)) → WaitsForNext sees asks sleeps ended s item t → WaitsForNext saw parked slept ended s.0.trace item y
       waited ended item waits =
-          between (λ a b. WaitsForNext (Saw did shown f) parked slept ended a item b) s.0.trace t.0.trace x y from to
-          (waits_seen sees (Saw did shown f) trace_of of f kept_by showed asks parked (λ o a b h. h.0.0) (λ o a b h. h.0.2) sleeps slept (λ a b h. h.0.0) (λ a b h. h.0.2) ended s item t is end waits)
+          given (WaitsForNext saw parked slept ended s.0.trace item)
+          (waits_seen sees saw trace_of of (of s) kept_by (showed (of s)) asks parked (λ o a b h. h.0.0) (λ o a b h. h.0.2) sleeps slept (λ a b h. h.0.0) (λ a b h. h.0.2) ended s item t refl end waits)
+
+-- what was seen of a call on cells of this form was seen on the channel that has it, once the trace was shown whose they are
+module _ {T W X A : Type 0} (did : cell.Deed T → X → X → Type 0) (shown : Deed T W → X → X → Type 0) (entered : ℕ → X → X → Type 0) (Does : (Deed T W → X → X → Type 0) → X → A → X → Type 0) where
+  pub on_channel : (channel : Handle) (form : QueueForm) (before here : X) (answer : A) (after : X) → form ≡ channel.form → entered channel.seal before here
+      → Does (Saw did shown form) here answer after → SeenOn did shown entered channel Does before answer after
+  unfolding SeenOn
+  on_channel channel form before here answer after is enters does = (here, enters, subst (λ (f : QueueForm). Does (Saw did shown f) here answer after) is does)
 
 -- what was seen on a channel was seen on one that is equal
 module _ {T W X A : Type 0} (did : cell.Deed T → X → X → Type 0) (shown : Deed T W → X → X → Type 0) (entered : ℕ → X → X → Type 0) (Does : (Deed T W → X → X → Type 0) → X → A → X → Type 0) where

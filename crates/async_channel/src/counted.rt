@@ -6,13 +6,13 @@ ghost use Rattle.async_channel.specs.Counts.{Clones, Upgrades, Drops};
 ghost use Rattle.async_channel.specs.Handles.{handle_of};
 ghost use Rattle.async_channel.specs.Saw.{SeenOn};
 
+use crate::calls::counts;
 use crate::link::Link;
 use crate::polls::waits::Waits;
 use crate::seen::Trace;
 use channel_calls::error::HandleError;
 use channel_calls::kind::{Kind, OfReceivers, OfSenders};
-use channel_calls::raised::{self, Raised};
-use event_listener::waking::WakeNow;
+use channel_calls::raised::Raised;
 use std::sync::Wait;
 
 /// A tie to a channel, with what is counted there of one handle of this kind.
@@ -42,9 +42,7 @@ impl<T: Drop, K: Kind> Counted<T, K> {
         ensures made { IfOk (result.0) (λ more. handle_of more.link ≡ handle_of link) }
         ensures reason { IfErr (result.0) (λ e. e ≡ HandleError.TooMany) }
     {
-        let mut seen = link.shared.cells(rt, trace);
-        let counted = raised::clone_handle(rt, &mut seen, &mut WakeNow { rt });
-        let trace = seen.into_trace();
+        let (counted, trace) = counts::clone_handle(rt, link.shared.cells(rt, trace));
         match counted {
             Ok(raised) => (Ok(Counted { link, raised }), trace),
             Err(error) => (Err(error), trace),
@@ -61,9 +59,7 @@ impl<T: Drop, K: Kind> Counted<T, K> {
         ensures made { IfOk (result.0) (λ made. IfSome made (λ more. handle_of more.link ≡ handle_of link)) }
         ensures reason { IfErr (result.0) (λ e. e ≡ HandleError.TooMany) }
     {
-        let mut seen = link.shared.cells(rt, trace);
-        let counted = raised::upgrade(rt, &mut seen, &mut WakeNow { rt });
-        let trace = seen.into_trace();
+        let (counted, trace) = counts::upgrade(rt, link.shared.cells(rt, trace));
         match counted {
             Ok(Some(raised)) => (Ok(Some(Counted { link, raised })), trace),
             Ok(None) => (Ok(None), trace),
@@ -78,9 +74,7 @@ impl<T: Drop> Counted<T, OfSenders> {
         ensures walked { SeenOn S.did S.shown S.entered (handle_of self.link) (λ saw. Drops saw ask.DropSender) trace tt result }
     {
         let Counted { link, raised } = self;
-        let mut seen = link.shared.cells(rt, trace);
-        raised::drop_sender(rt, raised, &mut seen, &mut WakeNow { rt });
-        seen.into_trace()
+        counts::drop_sender(rt, raised, link.shared.cells(rt, trace))
     }
 }
 

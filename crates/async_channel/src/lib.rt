@@ -34,6 +34,7 @@
 #![tactic(auto)]
 
 mod bed;
+mod calls;
 mod cells;
 mod counted;
 mod handles;

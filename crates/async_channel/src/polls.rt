@@ -1,4 +1,4 @@
-//! One poll of each kind of operation, and the givings up: those of `channel_calls`, on the cells that threads share, with whatever
+//! One poll of each kind of operation, and the givings up: on the cells that threads share, with whatever
 //! trace. A poll first takes a copy of its task's waker, and keeps the listener that it is left.
 
 pub(crate) mod waits;
@@ -17,16 +17,15 @@ ghost use Rattle.async_channel.specs.Handles.{channel_of};
 ghost use Rattle.async_channel.specs.Polls.{Polls, PollsSend};
 ghost use Rattle.async_channel.specs.Saw.{SeenOn};
 
+use crate::calls::{counts, polls};
 use crate::polls::waits::Waits;
 use crate::seen::Trace;
 use crate::shared::Shared;
 use channel_calls::error::{RecvError, Refused, SendError};
 use channel_calls::kind::OfReceivers;
-use channel_calls::polls;
-use channel_calls::raised::{self, Raised};
+use channel_calls::raised::Raised;
 use channel_calls::stage::WaitList;
 use event_listener::error::ListenError;
-use event_listener::waking::WakeNow;
 use futures::task::{Context, Poll};
 use std::sync::Wait;
 
@@ -48,11 +47,10 @@ impl<T: Drop> Shared<T> {
     {
         let key = waits.key();
         let task = waits.arm(rt, self.alloc, cx);
-        let mut seen = self.cells(rt, trace);
-        let sink = &mut WakeNow { rt };
-        let (polled, left) = polls::poll_send(rt, message, key, task, &mut seen, sink);
+        let seen = self.cells(rt, trace);
+        let (polled, left, trace) = polls::poll_send(rt, message, key, task, seen);
         waits.keep(left.key);
-        (polled, left.message, seen.into_trace())
+        (polled, left.message, trace)
     }
 
     /// A poll of a receive.
@@ -70,10 +68,9 @@ impl<T: Drop> Shared<T> {
     {
         let key = waits.key();
         let task = waits.arm(rt, self.alloc, cx);
-        let mut seen = self.cells(rt, trace);
-        let (polled, left) = polls::poll_recv(rt, key, task, &mut seen, &mut WakeNow { rt });
+        let (polled, left, trace) = polls::poll_recv(rt, key, task, self.cells(rt, trace));
         waits.keep(left.key);
-        (polled, seen.into_trace())
+        (polled, trace)
     }
 
     /// A poll of a wait for the closing.
@@ -91,10 +88,9 @@ impl<T: Drop> Shared<T> {
     {
         let key = waits.key();
         let task = waits.arm(rt, self.alloc, cx);
-        let mut seen = self.cells(rt, trace);
-        let (polled, left) = polls::poll_closed(rt, key, task, &mut seen, &mut WakeNow { rt });
+        let (polled, left, trace) = polls::poll_closed(rt, key, task, self.cells(rt, trace));
         waits.keep(left.key);
-        (polled, seen.into_trace())
+        (polled, trace)
     }
 
     /// A poll of a receiver as a stream.
@@ -112,10 +108,9 @@ impl<T: Drop> Shared<T> {
     {
         let key = waits.key();
         let task = waits.arm(rt, self.alloc, cx);
-        let mut seen = self.cells(rt, trace);
-        let (polled, left) = polls::poll_next(rt, key, task, &mut seen, &mut WakeNow { rt });
+        let (polled, left, trace) = polls::poll_next(rt, key, task, self.cells(rt, trace));
         waits.keep(left.key);
-        (polled, seen.into_trace())
+        (polled, trace)
     }
 
     /// Gives an operation of this kind up: its listener leaves, and the message of an unfinished send comes back.
@@ -130,10 +125,7 @@ impl<T: Drop> Shared<T> {
         ensures walked { SeenOn S.did S.shown S.entered (channel_of self.now) (λ saw. WalkedTo saw (first (ask.GiveUp line message waits.key))) trace (reply.GivenUp (result.0)) (result.1) }
         ensures message { result.0 ≡ message }
     {
-        let key = waits.end();
-        let mut seen = self.cells(rt, trace);
-        let back = polls::give_up(rt, line, message, key, &mut seen, &mut WakeNow { rt });
-        (back, seen.into_trace())
+        polls::give_up(rt, line, message, waits.end(), self.cells(rt, trace))
     }
 
     /// The same of an operation that has no message.
@@ -162,9 +154,6 @@ impl<T: Drop> Shared<T> {
     ) -> S
         ensures walked { SeenOn S.did S.shown S.entered (channel_of self.now) (λ saw. Drops saw (ask.DropReceiver waits.key)) trace tt result }
     {
-        let key = waits.end();
-        let mut seen = self.cells(rt, trace);
-        raised::drop_receiver(rt, raised, key, &mut seen, &mut WakeNow { rt });
-        seen.into_trace()
+        counts::drop_receiver(rt, raised, waits.end(), self.cells(rt, trace))
     }
 }

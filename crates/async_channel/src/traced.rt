@@ -20,13 +20,13 @@ ghost use Rattle.channel_calls.specs.declared.stage.Side.TheVariants as side;
 ghost use Rattle.async_channel.specs.Handles.{handle_of, form_of};
 ghost use Rattle.async_channel.specs.Saw.{SeenOn};
 
+use crate::bed::Bed;
+use crate::calls;
 use crate::cells::SharedCells;
 use crate::counted::Counted;
 use crate::seen::{Seen, Trace};
-use channel_calls::calls;
 use channel_calls::kind::Kind;
 use channel_calls::stage::Side;
-use event_listener::waking::WakeNow;
 use std::marker::Model;
 use std::sync::Wait;
 
@@ -69,14 +69,21 @@ impl<'a, T: Drop, R: Wait + Copy, K: Kind> Traced<'a, T, R, K> {
         self.counted.link.shared.cells(self.rt, trace)
     }
 
+    /// The same for a call that blocks its thread.
+    #[inline(always)]
+    fn cells_and_bed<S: Trace<T>>(&self, trace: S) -> Seen<SharedCells<'a, T, R, Bed>, S>
+        ensures form { form_of result.cells.shared.now ≡ self.now.form }
+        ensures trace { S.entered self.now.seal trace result.trace }
+    {
+        self.counted.link.shared.cells_and_bed(self.rt, trace)
+    }
+
     /// Closes the channel.
     #[inline(always)]
     pub fn close<S: Trace<T>>(&self, trace: S) -> (bool, S)
         ensures walked { SeenOn S.did S.shown S.entered self.now (λ saw. WalkedTo saw (first ask.Close)) trace (reply.Closed (result.0)) (result.1) }
     {
-        let mut seen = self.cells(trace);
-        let closed = calls::close(self.rt, &mut seen, &mut WakeNow { rt: self.rt });
-        (closed, seen.into_trace())
+        calls::close(self.rt, self.cells(trace))
     }
 
     /// How many messages the channel held at a moment of the call.
@@ -84,9 +91,7 @@ impl<'a, T: Drop, R: Wait + Copy, K: Kind> Traced<'a, T, R, K> {
     pub fn len<S: Trace<T>>(&self, trace: S) -> (usize, S)
         ensures walked { SeenOn S.did S.shown S.entered self.now (λ saw. WalkedTo saw (first ask.Len)) trace (reply.Count (result.0)) (result.1) }
     {
-        let mut seen = self.cells(trace);
-        let count = calls::len(self.rt, &mut seen, &mut WakeNow { rt: self.rt });
-        (count, seen.into_trace())
+        calls::len(self.rt, self.cells(trace))
     }
 }
 

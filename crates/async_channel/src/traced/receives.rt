@@ -15,13 +15,12 @@ ghost use Rattle.futures.specs.declared.task.Poll.TheVariants as poll;
 ghost use Rattle.async_channel.specs.Saw.{SeenOn};
 ghost use Rattle.async_channel.specs.Several.{ReceivesMany};
 
+use crate::calls::{self, blocking};
 use crate::seen::Trace;
 use crate::traced::Traced;
 use channel_calls::error::{RecvError, Refused, TryRecvError};
 use channel_calls::kind::OfReceivers;
-use channel_calls::{blocking, calls, filling, taking};
 use event_listener::error::ListenError;
-use event_listener::waking::WakeNow;
 use std::sync::Wait;
 
 impl<'a, T: Drop, R: Wait + Copy> Traced<'a, T, R, OfReceivers> {
@@ -30,9 +29,7 @@ impl<'a, T: Drop, R: Wait + Copy> Traced<'a, T, R, OfReceivers> {
     pub fn try_recv<S: Trace<T>>(&self, trace: S) -> (Result<T, TryRecvError>, S)
         ensures walked { SeenOn S.did S.shown S.entered self.now (λ saw. WalkedTo saw (first ask.TryRecv)) trace (reply.TryRecv (result.0)) (result.1) }
     {
-        let mut seen = self.cells(trace);
-        let received = calls::try_recv(self.rt, &mut seen, &mut WakeNow { rt: self.rt });
-        (received, seen.into_trace())
+        calls::try_recv(self.rt, self.cells(trace))
     }
 
     /// Takes the oldest messages, at most `limit`, in order.
@@ -48,11 +45,8 @@ impl<'a, T: Drop, R: Wait + Copy> Traced<'a, T, R, OfReceivers> {
         ensures wanted { OnErr (result.0) (0 < limit) }
         ensures reason { result.0 ≡ Err (Refused.SerialsUsedUp tt) → ⊥ }
     {
-        let mut seen = self.cells(trace);
         let alloc = self.counted.link.shared.alloc;
-        let sink = &mut WakeNow { rt: self.rt };
-        let received = calls::recv_many(self.rt, limit, alloc, &mut seen, sink);
-        (received, seen.into_trace())
+        calls::recv_many(self.rt, limit, alloc, self.cells(trace))
     }
 
     /// Takes the oldest messages into the room that is there, behind what is in it, in order.
@@ -69,10 +63,7 @@ impl<'a, T: Drop, R: Wait + Copy> Traced<'a, T, R, OfReceivers> {
         ensures room { vec_capacity into.new ≡ vec_capacity into.old }
         ensures in_place { vec_ptr into.new ≡ vec_ptr into.old }
     {
-        let mut seen = self.cells(trace);
-        let sink = &mut WakeNow { rt: self.rt };
-        let received = filling::recv_many_into(self.rt, into, &mut seen, sink);
-        (received, seen.into_trace())
+        calls::recv_many_into(self.rt, into, self.cells(trace))
     }
 
     /// Takes the oldest message, and blocks the thread while there is none.
@@ -80,10 +71,7 @@ impl<'a, T: Drop, R: Wait + Copy> Traced<'a, T, R, OfReceivers> {
     pub fn recv_blocking<S: Trace<T>>(&self, trace: S) -> (Result<T, Refused<RecvError>>, S)
         ensures walked { SeenOn S.did S.shown S.entered self.now (λ saw begin r end. Blocks saw S.parked S.slept blocking.Receive begin r nothing_kept end) trace (reply.RecvPoll (poll.Ready (result.0))) (result.1) }
     {
-        let mut seen = self.counted.link.shared.cells_and_bed(self.rt, trace);
-        let sink = &mut WakeNow { rt: self.rt };
-        let received = blocking::recv_blocking(self.rt, &mut seen, sink);
-        (received, seen.into_trace())
+        blocking::recv_blocking(self.rt, self.cells_and_bed(trace))
     }
 
     /// Whether this receiver as a stream has ended.
@@ -103,10 +91,7 @@ impl<'a, T: Drop, R: Wait + Copy> Traced<'a, T, R, OfReceivers> {
         ensures walked { SeenOn S.did S.shown S.entered self.now (λ saw. TakesNext saw ended.old) trace (result.0) (result.1) }
         ensures end { IsNext ended.old (result.0) ended.new }
     {
-        let mut seen = self.cells(trace);
-        let sink = &mut WakeNow { rt: self.rt };
-        let next = taking::next_there(self.rt, ended, &mut seen, sink);
-        (next, seen.into_trace())
+        calls::next_there(self.rt, ended, self.cells(trace))
     }
 
     /// The next message of a walk that waits for it.
@@ -119,9 +104,6 @@ impl<'a, T: Drop, R: Wait + Copy> Traced<'a, T, R, OfReceivers> {
         ensures walked { SeenOn S.did S.shown S.entered self.now (λ saw. WaitsForNext saw S.parked S.slept ended.old) trace (result.0) (result.1) }
         ensures end { IsNext ended.old (result.0) ended.new }
     {
-        let mut seen = self.counted.link.shared.cells_and_bed(self.rt, trace);
-        let sink = &mut WakeNow { rt: self.rt };
-        let next = taking::next_blocking(self.rt, ended, &mut seen, sink);
-        (next, seen.into_trace())
+        blocking::next_blocking(self.rt, ended, self.cells_and_bed(trace))
     }
 }

@@ -1,15 +1,14 @@
-use Rattle.std.proofs.Common.{refl, rules, ◌≡◌}
-use Rattle.channel_calls.specs.Asks.{first}
+use Rattle.std.proofs.Common.{rules, ◌≡◌}
 use Rattle.channel_calls.specs.Calls.{next_ask}
 use Rattle.channel_calls.specs.declared.reply.Reply.TheVariants as reply
-use Rattle.async_channel.specs.Handles.{form_of}
-use Rattle.async_channel.specs.Saw.{Saw, SeenOn}
-use Rattle.async_channel.proofs.Traces.{walked_from, poll_kept}
+use Rattle.async_channel.specs.Handles.{channel_of, form_of}
+use Rattle.async_channel.specs.Polls.{Polls}
+use Rattle.async_channel.specs.Saw.{Saw}
+use Rattle.async_channel.proofs.Traces.{on_channel, poll_kept}
 use Rattle.async_channel.proofs.polls.Shared+T.poll_next.Goals as goal
 
 pub returns-clause-walked : goal.returns-clause-walked
-unfolding SeenOn
 returns-clause-walked g c =
-    let walked = walked_from g.S.Trace-2.did g.S.Trace-1.shown (form_of c.args.self.now) (c.cells-seen.result, _) (c.poll_next-polled.new.cells, _) c.cells-seen.result.trace c.into_trace.result c.cells-seen.ensures.form refl c.into_trace.ensures (first (next_ask c.key-key.result c.arm-task.result)) (reply.Next c.poll_next-polled.result.0) c.poll_next-polled.result.1 c.poll_next-polled.ensures.deeds in
     let left : c.keep.new.self.key ≡ c.poll_next-polled.result.1.key = search rules in
-    (c.cells-seen.result.trace, c.cells-seen.ensures.trace, (c.poll_next-polled.result.1.message, poll_kept (Saw g.S.Trace-2.did g.S.Trace-1.shown (form_of c.args.self.now)) next_ask _ _ c.arm-task.result _ _ c.poll_next-polled.result.1 _ _ c.key-key.ensures left walked))
+    on_channel g.S.Trace-2.did g.S.Trace-1.shown g.S.Trace-1.entered (λ saw begin r end. Polls saw (next_ask c.args.waits.now.key) begin r c.keep.new.self.key end) (channel_of c.args.self.now) (form_of c.cells.result.cells.shared.now) c.args.trace c.cells.result.trace (reply.Next c.poll_next-polled.result.0) c.poll_next-polled.result.2 c.cells.ensures.form c.cells.ensures.trace
+    ((c.poll_next-polled.result.1.message, poll_kept (Saw g.S.Trace-2.did g.S.Trace-1.shown (form_of c.cells.result.cells.shared.now)) next_ask _ _ c.arm-task.result _ _ c.poll_next-polled.result.1 _ _ c.key-key.ensures left c.poll_next-polled.ensures.walked))

@@ -1,14 +1,11 @@
-use Rattle.std.proofs.Common.{refl}
 use Rattle.channel_calls.specs.Asks.{first}
+use Rattle.channel_calls.specs.Walks.{WalkedTo}
 use Rattle.channel_calls.specs.declared.ask.ChannelAsk.TheVariants as ask
 use Rattle.channel_calls.specs.declared.reply.Reply.TheVariants as reply
-use Rattle.async_channel.specs.Saw.{SeenOn}
-use Rattle.async_channel.proofs.Traces.{walked_to}
+use Rattle.async_channel.specs.Handles.{form_of}
+use Rattle.async_channel.proofs.Traces.{on_channel}
 use Rattle.async_channel.proofs.traced.Traced.close.Goals as goal
 
 pub returns : goal.returns
-unfolding SeenOn
 returns g c =
-    record {
-      walked = (c.cells-seen.result.trace, c.cells-seen.ensures.trace, walked_to g.S.Trace-2.did g.S.Trace-1.shown c.args.self.now.form (c.cells-seen.result, _) (c.close-closed.new.cells, _) c.cells-seen.result.trace c.into_trace.result c.cells-seen.ensures.form refl c.into_trace.ensures (first ask.Close) (reply.Closed c.close-closed.result) c.close-closed.ensures.deeds);
-    }
+    record { walked = on_channel g.S.Trace-2.did g.S.Trace-1.shown g.S.Trace-1.entered (λ saw. WalkedTo saw (first ask.Close)) c.args.self.now (form_of c.cells.result.cells.shared.now) c.args.trace c.cells.result.trace (reply.Closed c.close.result.0) c.close.result.1 c.cells.ensures.form c.cells.ensures.trace c.close.ensures.walked }

@@ -1,12 +1,8 @@
-use Rattle.std.proofs.Common.{refl, sym, rules, ◌≡◌}
+use Rattle.channel_calls.specs.Taking.{WaitsForNext}
 use Rattle.async_channel.specs.Handles.{form_of}
-use Rattle.async_channel.specs.Saw.{SeenOn}
-use Rattle.async_channel.proofs.Traces.{waited}
+use Rattle.async_channel.proofs.Traces.{on_channel}
 use Rattle.async_channel.proofs.traced.receives.Traced+T+R+OfReceivers.next_blocking.Goals as goal
 
 pub returns-clause-walked : goal.returns-clause-walked
-unfolding SeenOn
 returns-clause-walked g c =
-    let same : form_of c.cells_and_bed-seen.result.cells.shared.now ≡ c.args.self.now.form = search rules in
-    let enters : g.S.Trace-1.entered c.args.self.now.seal c.args.trace c.cells_and_bed-seen.result.trace = search rules in
-    (c.cells_and_bed-seen.result.trace, enters, waited g.S.Trace-2.did g.S.Trace-1.shown c.args.self.now.form (c.cells_and_bed-seen.result, _) (c.next_blocking-next.new.cells, _) c.cells_and_bed-seen.result.trace c.into_trace.result same refl c.into_trace.ensures g.S.Trace-1.parked g.S.Trace-1.slept (sym (c.next_blocking-next.ensures.form c.args.self.now.form (sym same))) c.args.ended.now c.next_blocking-next.result c.next_blocking-next.ensures.deeds)
+    on_channel g.S.Trace-2.did g.S.Trace-1.shown g.S.Trace-1.entered (λ saw. WaitsForNext saw g.S.Trace-1.parked g.S.Trace-1.slept c.args.ended.now) c.args.self.now (form_of c.cells_and_bed.result.cells.shared.now) c.args.trace c.cells_and_bed.result.trace c.next_blocking.result.0 c.next_blocking.result.1 c.cells_and_bed.ensures.form c.cells_and_bed.ensures.trace c.next_blocking.ensures.walked

@@ -1,9 +1,8 @@
-use Rattle.std.proofs.Common.{refl}
-use Rattle.async_channel.specs.Saw.{SeenOn}
-use Rattle.async_channel.proofs.Traces.{filled}
+use Rattle.channel_calls.specs.Filling.{Fills, room_in}
+use Rattle.async_channel.specs.Handles.{form_of}
+use Rattle.async_channel.proofs.Traces.{on_channel}
 use Rattle.async_channel.proofs.traced.receives.Traced+T+R+OfReceivers.recv_many_into.Goals as goal
 
 pub returns-clause-walked : goal.returns-clause-walked
-unfolding SeenOn
 returns-clause-walked g c =
-    (c.cells-seen.result.trace, c.cells-seen.ensures.trace, filled g.S.Trace-2.did g.S.Trace-1.shown c.args.self.now.form (c.cells-seen.result, _) (c.recv_many_into-received.new.cells, _) c.cells-seen.result.trace c.into_trace.result c.cells-seen.ensures.form refl c.into_trace.ensures _ _ _ c.recv_many_into-received.result c.recv_many_into-received.ensures.deeds)
+    on_channel g.S.Trace-2.did g.S.Trace-1.shown g.S.Trace-1.entered (λ saw begin r end. Fills saw (room_in c.args.into.now) c.args.into.now.items begin r c.recv_many_into.new.into.items end) c.args.self.now (form_of c.cells.result.cells.shared.now) c.args.trace c.cells.result.trace c.recv_many_into.result.0 c.recv_many_into.result.1 c.cells.ensures.form c.cells.ensures.trace c.recv_many_into.ensures.walked

@@ -1,14 +1,10 @@
-use Rattle.std.proofs.Common.{refl, sym, rules, ◌≡◌}
+use Rattle.channel_calls.specs.Blocks.{Blocks}
 use Rattle.channel_calls.specs.Tried.{sent_reply, sent_left}
 use Rattle.channel_calls.specs.declared.blocked.Blocked.TheVariants as blocking
 use Rattle.async_channel.specs.Handles.{form_of}
-use Rattle.async_channel.specs.Saw.{SeenOn}
-use Rattle.async_channel.proofs.Traces.{blocked}
+use Rattle.async_channel.proofs.Traces.{on_channel}
 use Rattle.async_channel.proofs.traced.sends.Traced+T+R+OfSenders.send_blocking.Goals as goal
 
 pub returns-clause-walked : goal.returns-clause-walked
-unfolding SeenOn
 returns-clause-walked g c =
-    let same : form_of c.cells_and_bed-seen.result.cells.shared.now ≡ c.args.self.now.form = search rules in
-    let enters : g.S.Trace-1.entered c.args.self.now.seal c.args.trace c.cells_and_bed-seen.result.trace = search rules in
-    (c.cells_and_bed-seen.result.trace, enters, blocked g.S.Trace-2.did g.S.Trace-1.shown c.args.self.now.form (c.cells_and_bed-seen.result, _) (c.send_blocking-sent.new.cells, _) c.cells_and_bed-seen.result.trace c.into_trace.result same refl c.into_trace.ensures g.S.Trace-1.parked g.S.Trace-1.slept (sym (c.send_blocking-sent.ensures.form c.args.self.now.form (sym same))) (blocking.Send c.args.message) (sent_reply c.send_blocking-sent.result) (sent_left c.send_blocking-sent.result) c.send_blocking-sent.ensures.deeds)
+    on_channel g.S.Trace-2.did g.S.Trace-1.shown g.S.Trace-1.entered (λ saw begin r end. Blocks saw g.S.Trace-1.parked g.S.Trace-1.slept (blocking.Send c.args.message) begin r (sent_left c.send_blocking.result.0) end) c.args.self.now (form_of c.cells_and_bed.result.cells.shared.now) c.args.trace c.cells_and_bed.result.trace (sent_reply c.send_blocking.result.0) c.send_blocking.result.1 c.cells_and_bed.ensures.form c.cells_and_bed.ensures.trace c.send_blocking.ensures.walked

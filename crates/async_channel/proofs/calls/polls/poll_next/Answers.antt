@@ -1,0 +1,9 @@
+use Rattle.channel_calls.specs.Asks.{first}
+use Rattle.channel_calls.specs.Calls.{next_ask}
+use Rattle.channel_calls.specs.declared.reply.Reply.TheVariants as reply
+use Rattle.async_channel.proofs.Traces.{walked_from}
+use Rattle.async_channel.proofs.calls.polls.poll_next.Goals as goal
+
+pub returns-clause-walked : goal.returns-clause-walked
+returns-clause-walked g c =
+    walked_from g.C.Places.form_of g.C.Places.did g.S.Trace-2.did g.S.Trace-1.shown (c.args.seen, _) (c.poll_next-polled.new.cells, _) c.into_trace.result c.into_trace.ensures (first (next_ask c.args.key c.args.task)) (reply.Next c.poll_next-polled.result.0) c.poll_next-polled.result.1 c.poll_next-polled.ensures.deeds
