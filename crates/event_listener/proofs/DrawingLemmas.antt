@@ -1,16 +1,13 @@
 -- Tags that were drawn before anybody was told.
-use Rattle.std.proofs.Common.{◌≡◌, ℕ, ◌≤◌, nat_lt, Bool, true, false, List, [], length, Result, Ok, Err, if◌then◌else◌, inl, inr, refl, sym, subst, arith}
+use Rattle.std.proofs.Common.{◌≡◌, ℕ, ◌≤◌, nat_lt, Bool, true, false, List, length, Result, Ok, Err, if◌then◌else◌, inl, inr, refl, sym, subst, arith}
 use Rattle.std.proofs.lemmas.Bool.Decides.{nat_tests}
 use Rattle.event_listener.specs.declared.error.NoMemory.{NoMemory}
 use Rattle.event_listener.specs.declared.error.NotifyError.{NotifyError}
-use Rattle.event_listener.specs.Drawing.{IsAll, DrawsFirst, TellsOrNone}
-use Rattle.event_listener.specs.Notices.{Draws, IsAnswer}
+use Rattle.event_listener.specs.Drawing.{IsAll, DrawsFirst}
+use Rattle.event_listener.specs.Notices.{IsAnswer}
 use Rattle.event_listener.specs.Telling.{Tells}
 
 module _ {N T : Type 0} (gives : N → Result T NoMemory → N → Type 0) where
-  pub draws_none : (n : N) (ts : List T) → ts ≡ [] → Draws gives n ts n
-  draws_none n ts e = subst (λ (xs : List T). Draws gives n xs n) (sym e) refl
-
   answered : (many told : ℕ) (rest : N) → IsAll gives many told rest → (b : Bool) → nat_lt told many ≡ b
       → IsAnswer gives many told rest (if b then Err (record { told = told }) else Ok many)
   answered many told rest (inl same) true e = absurd (grind (arith, nat_tests))
@@ -31,7 +28,3 @@ module _ {N T : Type 0} (gives : N → Result T NoMemory → N → Type 0) where
         answer = subst (λ (r : Result ℕ NotifyError). IsAnswer gives many (length ts) d.rest r) (sym is)
             (answered many (length ts) d.rest d.all (nat_lt (length ts) many) refl);
       }
-
-  -- nobody is to be told
-  pub tells_nobody : (size : N → ℕ) (n : N) → TellsOrNone gives size n (Ok 0)
-  tells_nobody size n = inl (record { many = 0; at_most = omega arith; tags = []; rest = n; drawn = refl; answer = (refl, refl) })

@@ -65,9 +65,6 @@ module _ {T W : Type 0} where
     pub present : ContainsKey a.nodes.slab key.slot
     present = live-present (get a.nodes.slab key.slot) (ap is_some (named a h view v key known).1)
 
-    pub named-serial : IfSome (entries a key.slot) (λ e. e.serial ≡ key.serial)
-    named-serial = let n = named a h view v key known in subst (λ o. IfSome o (λ (e : Entry T W). e.serial ≡ key.serial)) (sym n.1) n.2
-
     state-of : (e : Entry T W) → entries a key.slot ≡ Some e → e.serial ≡ key.serial → (s : State T W) → s ≡ e.state → IsStateOf s (told_as view.lists key) (waits_as view.lists key)
     state-of e is serial s q =
         let l : view.lists ≡ lists_at (entries a) (h.0 ++ h.1) = ap (λ (w : ListView T W). w.lists) (sym v) ∙ lists-are a h in
@@ -207,9 +204,6 @@ module _ {T W : Type 0} where
 
   waits-live : (a : list.Inside T W) (h : IsSound a) → AtEach (λ x. IsSome (entries a x)) h.1
   waits-live a h = AtEach-back (λ x. IsSome (entries a x)) h.0 h.1 (all-live (entries a) h.0 h.1 h.2.sound.tolds h.2.sound.waits)
-
-  tolds-live : (a : list.Inside T W) (h : IsSound a) → AtEach (λ x. IsSome (entries a x)) h.0
-  tolds-live a h = AtEach-front (λ x. IsSome (entries a x)) h.0 h.1 (all-live (entries a) h.0 h.1 h.2.sound.tolds h.2.sound.waits)
 
   -- the last node is there
   pub last-present : (a : list.Inside T W) → IsSound a → IfSome (before_of a.waiting a.nodes.slab None) (λ k. ContainsKey a.nodes.slab k)

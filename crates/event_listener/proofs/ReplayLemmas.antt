@@ -1,5 +1,5 @@
 -- A record grows by a call, and keeps room for the end of each listener.
-use Rattle.std.proofs.Common.{◌≡◌, ℕ, zero, suc, ◌+◌, ◌≤◌, ◌<◌, nat_lt, ◌==◌, Bool, true, false, cond, List, [], ◌∷◌, ◌++◌, length, take, drop, Option, Some, None, is_some, Result, Ok, Err, IfOk, if◌then◌else◌, refl, sym, ap, subst, ◌∙◌, arith, length-append}
+use Rattle.std.proofs.Common.{◌≡◌, ℕ, zero, suc, ◌+◌, ◌≤◌, ◌<◌, nat_lt, ◌==◌, Bool, true, false, cond, List, [], ◌∷◌, ◌++◌, length, take, drop, Option, Some, None, is_some, Result, Ok, Err, IfOk, if◌then◌else◌, refl, sym, ap, subst, ◌∙◌, arith, length-append, length-take-le, take_all}
 use Rattle.std.proofs.lemmas.Map.{length-set_value}
 use Rattle.std.proofs.lemmas.Bool.Decides.{nat_tests}
 use Rattle.std.specs.Map.{lookup, remove_entry}
@@ -63,6 +63,14 @@ told-given n many = at (nat_lt n many) refl
     at : (b : Bool) → nat_lt n many ≡ b → told_by (if b then Err (record { told = n }) else Ok many) ≤ many
     at true e = grind (arith, nat_tests)
     at false e = omega arith
+
+-- as many were told as tags were given
+pub told-tags : {T : Type 0} (many : ℕ) (ts : List T) → told_by (if nat_lt (length ts) many then Err (record { told = length ts }) else Ok many) ≡ length (take many ts)
+told-tags many ts = at (nat_lt (length ts) many) refl
+  where
+    at : (b : Bool) → nat_lt (length ts) many ≡ b → told_by (if b then Err (record { told = length ts }) else Ok many) ≡ length (take many ts)
+    at true e = let less : length ts < many = grind (arith, nat_tests) in sym (ap length (take_all many ts (omega (arith, less))))
+    at false e = let enough : many ≤ length ts = grind (arith, nat_tests) in sym (length-take-le many ts enough)
 
 pub some-told : (n many : ℕ) → 0 < n → 0 < many → 0 < told_by (if nat_lt n many then Err (record { told = n }) else Ok many)
 some-told n many tags waiting = at (nat_lt n many)

@@ -76,9 +76,6 @@ module _ {T W S : Type 0} (wakes : S → W → S → Type 0) where
   pub record GoesOn (all : List (ListCall T W)) (first : ListView T W) (first_sink : S) (done : List (ListReply T)) (calls : List (ListCall T W)) (now : ListView T W) (sink : S) : Type 0 where
     pub on : (rs : List (ListReply T)) (stopped : Option NoMemory) (rest : List (ListCall T W)) (new : ListView T W) (new_sink : S) → Runs wakes done calls rs stopped rest now sink new new_sink → Runs wakes [] all (done ++ rs) stopped rest first first_sink new new_sink
 
-  pub goes_on_first : (calls : List (ListCall T W)) (now : ListView T W) (sink : S) → GoesOn calls now sink [] calls now sink
-  goes_on_first calls now sink = record { on = λ rs stopped rest new new_sink h. h }
-
   pub goes_on : {all calls : List (ListCall T W)} {first now mid : ListView T W} {first_sink sink mid_sink : S} {done : List (ListReply T)} (c : ListCall T W) (r : ListReply T)
       → GoesOn all first first_sink done (c ∷ calls) now sink → Makes wakes done c r now sink mid mid_sink → GoesOn all first first_sink (done ++ r ∷ []) calls mid mid_sink
   goes_on {all} {calls} {first} {now} {mid} {first_sink} {sink} {mid_sink} {done} c r g m =

@@ -78,9 +78,6 @@ pub same_key-slot : (key : Key) (serial : ℕ) → same_key key (record { slot =
 same_key-slot key serial = grind (arith, nat_tests)
 
 module _ {T W : Type 0} where
-  IsLive : (ℕ → Option (Entry T W)) → ℕ → Type 0
-  IsLive E k = IsSome (E k)
-
   -- whether the entry has this serial, and then whether it is told
   abbrev pub found_entry : Option (Entry T W) → ℕ → Option Bool
   found_entry None serial = None

@@ -47,7 +47,7 @@ impl<T: Drop> Event<T> {
     /// keeps a copy of the runtime.
     ///
     /// Refused for memory, or where all serials of the event's list were given; the listeners are as before then. It
-    /// may wait for the list's lock.
+    /// may wait for the list's lock, and the first time for another thread that listens first.
     pub fn listen<R: Wait + Copy>(&self, rt: &R) -> Result<EventListener<T, R>, ListenError>
         ensures event { IfOk result (λ listener. listener.event ≡ self.now) }
         ensures listens { IfOk result (λ listener. listener.is_finished ≡ false) }
@@ -74,7 +74,7 @@ impl<T: Drop> Event<T> {
     /// once. The answer is how many were told now. A notice for nobody isn't kept.
     ///
     /// Refused where a tag was; those told before it stay told. A notice of plain counts takes no memory and is never
-    /// refused. It may wait for the list's lock.
+    /// refused. It may wait for the list's lock, and for the lock of the bell of a thread that it wakes.
     pub fn notify<N: IntoNotification<Tag = T>, R: Wait>(
         &self,
         rt: &R,

@@ -1,5 +1,5 @@
 //! What can be made a notice, and the ways to shape it.
-ghost use Rattle.std.specs.Prelude.{◌≡◌, ℕ};
+ghost use Rattle.std.specs.Prelude.{◌≡◌};
 
 use crate::notify::{Additional, Notification};
 use crate::relaxed::Relaxed;

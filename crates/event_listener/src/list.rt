@@ -3,8 +3,8 @@
 //! The told listeners stand in one chain and the waiting ones in another, each in the order of listening. Those that a
 //! notice tells are the first of the second chain, and move to the end of the first as one run. The list keeps how many are
 //! told.
-ghost use Rattle.std.specs.Prelude.{◌≡◌, ◌+◌, ◌-◌, ◌*◌, ◌^◌, ◌<◌, ◌≤◌, [], ◌++◌, length, is_some, IsOk, IfOk, OnOk, OnErr, IfErr, MatchResult, Err};
-ghost use Rattle.std.specs.Prelude.{ℕ, ◌≢◌, if◌then◌else◌, ◌∷◌, take, Option, Some, None, true, false};
+ghost use Rattle.std.specs.Prelude.{◌≡◌, ◌+◌, ◌-◌, ◌*◌, ◌^◌, ◌<◌, ◌≤◌, [], length, IsOk, IfOk, OnOk, OnErr, IfErr, Err};
+ghost use Rattle.std.specs.Prelude.{◌≢◌, if◌then◌else◌, ◌∷◌, take, Option, Some, None, true, false};
 ghost use Rattle.std.specs.Option.{option_to_list};
 ghost use Rattle.event_listener.specs.Lists.{serial_of, kind_of, told_as, waits_as, listened, without, with_task, notified, tasks_of, moved, told_by, IsListenRefusal};
 ghost use Rattle.event_listener.specs.Order.{IsInOrder, HasLeft};

@@ -76,7 +76,7 @@ impl<L> fmt::Debug for WaitError<L> {
 /// A listener, which is told once and then has a tag to take.
 ///
 /// It is finished once it has given its tag. One that is dropped unfinished leaves its event; if it was told, its
-/// notice is passed on. As `event-listener` 5.4.2, but that polls by hand stand in the place of its futures.
+/// notice is passed on. As `event-listener` 5.4.2; a poll by hand stands beside its futures.
 pub trait Listener<T>: Sized {
     /// The identity of its event.
     ghost identity: { Self → ℕ };
@@ -249,6 +249,11 @@ impl<T: Drop, R: Wait + Copy> Listener<T> for EventListener<T, R> {
 
 impl<T: Drop, R: Wait + Copy> Future for EventListener<T, R> {
     type Output = Result<T, PollFault>;
+
+    ghost use Rattle.event_listener.specs.declared.listener.PollFault.TheVariants as fault;
+
+    // A listener that has given its tag is refused, and no other.
+    ghost gives = { λ l r. (r ≡ Err fault.NeverInserted) ↔ (l.is_finished ≡ true) };
 
     /// As [`Listener::poll`], with the waker of the task that is polled. A second poll wakes nobody.
     fn poll(&mut self, cx: &mut Context<'_>) -> Poll<Result<T, PollFault>> {

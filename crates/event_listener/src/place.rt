@@ -17,8 +17,9 @@ use crate::section::Section;
 use crate::waking::{Task, WakeNow, WakerCell};
 use futures::task::{Context, Poll, Waker};
 use std::alloc::Global;
+use std::io;
 use std::sync::{Arc, OnceToken, Wait};
-use std::time::{Clock, Duration};
+use std::time::{Clock, Duration, Instant};
 
 /// Where a listener stands: its event's list, its key there until it is finished, and the cell of its task.
 ///
@@ -133,7 +134,8 @@ impl<T: Drop> Place<T> {
         unreachable!()
     }
 
-    /// Sleeps until the listener is told or the time is up, and leaves the list: with its tag if it was told.
+    /// Sleeps until the listener is told or the time is up, and leaves the list: with its tag if it was told. The time counts from here,
+    /// so what is waited for on the way is in it.
     pub(crate) fn wait_for<R: Wait, K: Clock>(
         &mut self,
         rt: &R,
@@ -144,11 +146,13 @@ impl<T: Drop> Place<T> {
     ) -> Option<T>
         ensures left { is_none self.new.key ≡ true }
     {
+        let begun = Instant::now(clock);
         if let Some(tag) = self.park(rt, task) {
             return Some(tag);
         }
-        if !timeout.is_zero() {
-            parker.sleep_for(rt, clock, timeout);
+        let left = time_left(clock, begun, timeout);
+        if !left.is_zero() {
+            parker.sleep_for(rt, clock, left);
         }
         self.take_or_leave(rt)
     }
@@ -222,6 +226,17 @@ impl<T: Drop> Place<T> {
             }
             Ok(Registered::Waiting) | Err(_) => None,
         }
+    }
+}
+
+// What is left of the time since then; nothing where the clock can't be read.
+fn time_left<K: Clock>(clock: &K, begun: io::Result<Instant>, timeout: Duration) -> Duration {
+    match begun {
+        Ok(begun) => match begun.elapsed(clock) {
+            Ok(passed) => timeout.saturating_sub(passed),
+            Err(_) => Duration::ZERO,
+        },
+        Err(_) => Duration::ZERO,
     }
 }
 

@@ -1,7 +1,7 @@
 //! A list of listeners with the record of its calls.
-ghost use Rattle.std.specs.Prelude.{◌≡◌, ◌+◌, ◌≤◌, ◌<◌, ◌↔◌, length, IfOk, OnErr, OnOk, IfErr, IsOk, Ok, Err, Some, None, true, false, [], vec_len};
+ghost use Rattle.std.specs.Prelude.{◌≡◌, ◌+◌, ◌≤◌, ◌<◌, ◌↔◌, length, IfOk, OnErr, OnOk, IfErr, IsOk, Ok, Err, Some, None, true, false, [], take, vec_len};
 ghost use Rattle.std.specs.Vec.{vec_capacity};
-ghost use Rattle.event_listener.specs.Lists.{Lists, kind_of, register_answer, poll_answer, polled, remove_answer, removed_wakes, told_by, moved};
+ghost use Rattle.event_listener.specs.Lists.{kind_of, register_answer, poll_answer, remove_answer, removed_wakes, tasks_of, told_by, moved};
 ghost use Rattle.event_listener.specs.Drawing.{DrawsFirst, TellsOrNone};
 ghost use Rattle.event_listener.specs.Notices.{Woken};
 ghost use Rattle.event_listener.specs.Replay.{Replays, nobody, recorded, tag_found, total_of};
@@ -175,6 +175,7 @@ impl<T: Copy, W: Copy> Recording<T, W> {
         ensures recorded { 0 < told_by result → (tags : _) × (self.new ≡ recorded (RecordedCall.Notified (N.size notice) (N.additional notice) tags result) self.old)
             × DrawsFirst N.gives (moved (N.additional notice) (N.size notice) self.old.lists) notice tags.items }
         ensures unchanged { told_by result ≡ 0 → self.new ≡ self.old }
+        ensures woken { Woken S.wakes sink.old (tasks_of (take (told_by result) self.old.lists.waiting)) sink.new }
     {
         let additional = notice.is_additional();
         let count = notice.count();

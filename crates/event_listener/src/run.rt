@@ -1,6 +1,6 @@
 //! Whole lists of calls, made one after another.
 ghost use Rattle.std.specs.Prelude.{◌≡◌, ◌*◌, ◌≤◌, [], false, length, take, MatchResult, ◌∷◌};
-ghost use Rattle.event_listener.specs.Lists.{moved, notified, tasks_of, polled, poll_answer, registration, register_answer, removed, remove_answer};
+ghost use Rattle.event_listener.specs.Lists.{notified, tasks_of, polled, poll_answer, registration, register_answer, removed, remove_answer};
 ghost use Rattle.event_listener.specs.Notices.{Woken};
 ghost use Rattle.event_listener.specs.Runs.{key_named, inserted_key, about, made_at, tags_given, tags_answer, room_polled, room_removed, wakes_at, Makes, Runs};
 

@@ -1,5 +1,5 @@
 //! Listeners that live no longer than their event, and the macro that makes one.
-ghost use Rattle.std.specs.Prelude.{◌≡◌, true, false, IfOk};
+ghost use Rattle.std.specs.Prelude.{◌≡◌, ◌↔◌, true, false, IfOk, Err};
 ghost use Rattle.event_listener.specs.Listening.{Listening};
 
 use crate::error::{ListenError, NoMemory};
@@ -66,7 +66,7 @@ impl<'ev, T: Drop, R: Wait + Copy> StackSlot<'ev, T, R> {
         };
         match EventListener::new(self.rt, self.event, cell) {
             Ok(inner) => Ok(StackListener {
-                _event: self.event,
+                event: self.event,
                 inner,
             }),
             Err(error) => Err(error),
@@ -77,7 +77,7 @@ impl<'ev, T: Drop, R: Wait + Copy> StackSlot<'ev, T, R> {
 /// A listener in a slot. It is dropped as an [`EventListener`] is.
 #[derive(Drop)]
 pub struct StackListener<'ev, T: Drop, R: Wait + Copy> {
-    _event: &'ev Event<T>,
+    event: &'ev Event<T>,
     inner: EventListener<T, R>,
 }
 
@@ -99,10 +99,10 @@ impl<'ev, T: Drop, R: Wait + Copy> Listener<T> for StackListener<'ev, T, R> {
     }
 
     fn wait(self) -> Result<T, WaitError<Self>> {
-        let Self { _event, inner } = self;
+        let Self { event, inner } = self;
         match inner.wait() {
             Ok(tag) => Ok(tag),
-            Err(error) => Err(in_slot(_event, error)),
+            Err(error) => Err(in_slot(event, error)),
         }
     }
 
@@ -111,10 +111,10 @@ impl<'ev, T: Drop, R: Wait + Copy> Listener<T> for StackListener<'ev, T, R> {
         clock: &K,
         timeout: Duration,
     ) -> Result<Option<T>, WaitError<Self>> {
-        let Self { _event, inner } = self;
+        let Self { event, inner } = self;
         match inner.wait_timeout(clock, timeout) {
             Ok(tag) => Ok(tag),
-            Err(error) => Err(in_slot(_event, error)),
+            Err(error) => Err(in_slot(event, error)),
         }
     }
 
@@ -123,15 +123,15 @@ impl<'ev, T: Drop, R: Wait + Copy> Listener<T> for StackListener<'ev, T, R> {
         clock: &K,
         deadline: Instant,
     ) -> Result<Option<T>, WaitError<Self>> {
-        let Self { _event, inner } = self;
+        let Self { event, inner } = self;
         match inner.wait_deadline(clock, deadline) {
             Ok(tag) => Ok(tag),
-            Err(error) => Err(in_slot(_event, error)),
+            Err(error) => Err(in_slot(event, error)),
         }
     }
 
     fn discard(self) -> bool {
-        let Self { _event, inner } = self;
+        let Self { event: _, inner } = self;
         inner.discard()
     }
 
@@ -146,6 +146,10 @@ impl<'ev, T: Drop, R: Wait + Copy> Listener<T> for StackListener<'ev, T, R> {
 
 impl<'ev, T: Drop, R: Wait + Copy> Future for StackListener<'ev, T, R> {
     type Output = Result<T, PollFault>;
+
+    ghost use Rattle.event_listener.specs.declared.listener.PollFault.TheVariants as fault;
+
+    ghost gives = { λ l r. (r ≡ Err fault.NeverInserted) ↔ (l.is_finished ≡ true) };
 
     /// As [`Listener::poll`], with the waker of the task that is polled. A second poll wakes nobody.
     fn poll(&mut self, cx: &mut Context<'_>) -> Poll<Result<T, PollFault>> {
@@ -162,14 +166,8 @@ fn in_slot<'ev, T: Drop, R: Wait + Copy>(
     ensures never_inserted { (l : _) → error ≡ WaitError.NeverInserted l → result ≡ WaitError.NeverInserted l }
 {
     match error {
-        WaitError::NoMemory(inner) => WaitError::NoMemory(StackListener {
-            _event: event,
-            inner,
-        }),
-        WaitError::NeverInserted(inner) => WaitError::NeverInserted(StackListener {
-            _event: event,
-            inner,
-        }),
+        WaitError::NoMemory(inner) => WaitError::NoMemory(StackListener { event, inner }),
+        WaitError::NeverInserted(inner) => WaitError::NeverInserted(StackListener { event, inner }),
     }
 }
 

@@ -14,6 +14,7 @@ pub struct Tag<N, T: Clone> {
     pub inner: N,
     /// What each listener gets a clone of.
     pub tag: T,
+    /// That a clone of it equals it.
     pub ghost exact: { (y : _) → T.is_clone tag y → y ≡ tag },
 }
 

@@ -5,7 +5,6 @@
 //! listener, made when it listens: a poll leaves its waker in the cell, and a telling takes it out again. Channels wake
 //! their operations by the same cells.
 
-ghost use Rattle.std.specs.Prelude.{◌≡◌};
 ghost use Rattle.futures.specs.Task.{IsArmed, Keeps};
 
 use crate::parker::Parker;

@@ -1,12 +1,13 @@
-use Rattle.std.proofs.Common.{◌≡◌, ◌<◌, ◌++◌, ◌∷◌, [], ℕ, nat_lt, Ok, Err, if◌then◌else◌, inl, length, ap, sym, subst, ◌∙◌, arith, rules, vec_len}
+use Rattle.std.proofs.Common.{◌≡◌, ◌<◌, ◌++◌, ◌∷◌, [], ℕ, nat_lt, Ok, Err, if◌then◌else◌, inl, length, take, ap, sym, subst, ◌∙◌, arith, rules, vec_len}
 use Rattle.event_listener.specs.declared.recorded.RecordedCall.TheVariants.{Notified}
 use Rattle.event_listener.specs.Drawing.{DrawsFirst}
-use Rattle.event_listener.specs.Lists.{notified, told_by, moved}
+use Rattle.event_listener.specs.Lists.{notified, told_by, moved, tasks_of}
+use Rattle.event_listener.specs.Notices.{Woken}
 use Rattle.event_listener.specs.Runs.{tags_given, tags_answer}
 use Rattle.event_listener.specs.Replay.{total_of}
 use Rattle.event_listener.proofs.DrawingLemmas.{tells_them}
 use Rattle.event_listener.proofs.TellingLemmas.{moved-at-most}
-use Rattle.event_listener.proofs.ReplayLemmas.{kept, total-notified, told-given, some-told, told-somebody, some-left, ok-moved, is-recorded}
+use Rattle.event_listener.proofs.ReplayLemmas.{kept, told-tags, total-notified, told-given, some-told, told-somebody, some-left, ok-moved, is-recorded}
 use Rattle.event_listener.proofs.recording.Recording.notify.Goals as goal
 
 pub invariant_of-self-2 : goal.invariant_of-self-2
@@ -80,3 +81,12 @@ returns-clause-unchanged g c =
     let waiting : 0 < many = omega (arith, c.to_move-many.ensures.value, c.if-many-eq0.false) in
     let told : 0 < told_by c.notify_with-answer.result = rw c.notify_with-answer.ensures.answer (some-told (length c.in-Ok-draw.given.items) many some waiting) in
     told-somebody _ (told_by c.notify_with-answer.result) told
+
+pub returns-clause-woken : goal.returns-clause-woken
+returns-clause-woken g c =
+    let lists = c.self.inside.list.lists in
+    let given = c.in-Ok-draw.given.items in
+    let many = moved c.is_additional-additional.result c.count-count.result lists in
+    let told : length (take many given) ≡ told_by c.notify_with-answer.result = sym (ap told_by c.notify_with-answer.ensures.answer ∙ told-tags many given) in
+    rw (sym c.self.view_is)
+    (subst (λ (k : ℕ). Woken g.S.Wakes.wakes c.args.sink.now (tasks_of (take k lists.waiting)) c.notify_with-answer.new.sink) told c.notify_with-answer.ensures.woken)
