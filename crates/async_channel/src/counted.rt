@@ -8,8 +8,9 @@ ghost use Rattle.async_channel.specs.Saw.{SeenOn};
 
 use crate::calls::counts;
 use crate::link::Link;
+use crate::polls::line::OfStreams;
 use crate::polls::waits::Waits;
-use crate::seen::Trace;
+use crate::seen::{Seen, Trace};
 use channel_calls::error::HandleError;
 use channel_calls::kind::{Kind, OfReceivers, OfSenders};
 use channel_calls::raised::Raised;
@@ -42,7 +43,7 @@ impl<T: Drop, K: Kind> Counted<T, K> {
         ensures made { IfOk (result.0) (λ more. handle_of more.link ≡ handle_of link) }
         ensures reason { IfErr (result.0) (λ e. e ≡ HandleError.TooMany) }
     {
-        let (counted, trace) = counts::clone_handle(rt, link.shared.cells(rt, trace));
+        let (counted, trace) = counts::clone_handle(rt, Seen::cells(&link.shared, rt, (), trace));
         match counted {
             Ok(raised) => (Ok(Counted { link, raised }), trace),
             Err(error) => (Err(error), trace),
@@ -59,7 +60,7 @@ impl<T: Drop, K: Kind> Counted<T, K> {
         ensures made { IfOk (result.0) (λ made. IfSome made (λ more. handle_of more.link ≡ handle_of link)) }
         ensures reason { IfErr (result.0) (λ e. e ≡ HandleError.TooMany) }
     {
-        let (counted, trace) = counts::upgrade(rt, link.shared.cells(rt, trace));
+        let (counted, trace) = counts::upgrade(rt, Seen::cells(&link.shared, rt, (), trace));
         match counted {
             Ok(Some(raised)) => (Ok(Some(Counted { link, raised })), trace),
             Ok(None) => (Ok(None), trace),
@@ -74,14 +75,14 @@ impl<T: Drop> Counted<T, OfSenders> {
         ensures walked { SeenOn S.did S.shown S.entered (handle_of self.link) (λ saw. Drops saw ask.DropSender) trace tt result }
     {
         let Counted { link, raised } = self;
-        counts::drop_sender(rt, raised, link.shared.cells(rt, trace))
+        counts::drop_sender(rt, raised, Seen::cells(&link.shared, rt, (), trace))
     }
 }
 
 impl<T: Drop> Counted<T, OfReceivers> {
     /// Drops the receiver that is counted, which lowers the count, and then the listener that it may have as a stream; the last one
     /// closes.
-    pub(crate) fn lower<R: Wait, S: Trace<T>>(self, rt: &R, stream: Waits, trace: S) -> S
+    pub(crate) fn lower<R: Wait, S: Trace<T>>(self, rt: &R, stream: Waits<OfStreams>, trace: S) -> S
         ensures walked { SeenOn S.did S.shown S.entered (handle_of self.link) (λ saw. Drops saw (ask.DropReceiver stream.key)) trace tt result }
     {
         let Counted { link, raised } = self;

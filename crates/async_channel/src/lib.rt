@@ -17,7 +17,7 @@
 //! Each call of a handle or an operation has one body for whatever trace of the caller's ([`Trace`]). It is proved that from the trace
 //! before to the trace after stand the deeds that the call's machine makes up to the very answer that came out, and no others. With a
 //! trace of his own a caller makes it by [`Sender::traced`] and [`Receiver::traced`], and by the functions `poll_traced`,
-//! `give_up_traced`, `try_clone_traced` and `upgrade_traced`. Only the cells tell a trace anything ([`Sight`]).
+//! `poll_next_traced`, `give_up_traced`, `try_clone_traced` and `upgrade_traced`. Only the cells tell a trace anything ([`Sight`]).
 //!
 //! A channel may be watched ([`bounded_watched`]): each call of its handles takes a copy of one trace. So a handle's own call, one line
 //! over that body, says the same of its own answer: between two states of that trace the machine's call was seen to give it. A channel

@@ -5,7 +5,7 @@ pub(crate) mod no_trace;
 ghost use Rattle.std.specs.Prelude.{◌≡◌, ◌+◌, ◌-◌, ◌^◌, ◌<◌, ◌≤◌, Some, None, IfOk, OnOk, OnErr, Err};
 ghost use Rattle.concurrent_queue.specs.Replies.{room_of};
 ghost use Rattle.concurrent_queue.specs.SharedQueue.{limit};
-ghost use Rattle.async_channel.specs.Handles.{handle_of, new_receiving};
+ghost use Rattle.async_channel.specs.Handles.{new_receiving};
 
 use crate::counted::Counted;
 use crate::handles::receiver::Receiver;

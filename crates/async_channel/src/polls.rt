@@ -1,9 +1,10 @@
 //! One poll of each kind of operation, and the givings up: on the cells that threads share, with whatever
 //! trace. A poll first takes a copy of its task's waker, and keeps the listener that it is left.
 
+pub(crate) mod line;
 pub(crate) mod waits;
 
-ghost use Rattle.std.specs.Prelude.{◌≡◌, None, is_some};
+ghost use Rattle.std.specs.Prelude.{◌≡◌, None, IsSome, is_some};
 ghost use Rattle.futures.specs.Poll.{OnPending};
 ghost use Rattle.futures.specs.Task.{IsArmed, Keeps};
 ghost use Rattle.channel_calls.specs.Asks.{first};
@@ -18,13 +19,13 @@ ghost use Rattle.async_channel.specs.Polls.{Polls, PollsSend};
 ghost use Rattle.async_channel.specs.Saw.{SeenOn};
 
 use crate::calls::{counts, polls};
+use crate::polls::line::{Line, OfClosings, OfReceives, OfSends, OfStreams};
 use crate::polls::waits::Waits;
-use crate::seen::Trace;
+use crate::seen::{Seen, Trace};
 use crate::shared::Shared;
 use channel_calls::error::{RecvError, Refused, SendError};
 use channel_calls::kind::OfReceivers;
 use channel_calls::raised::Raised;
-use channel_calls::stage::WaitList;
 use event_listener::error::ListenError;
 use futures::task::{Context, Poll};
 use std::sync::Wait;
@@ -35,7 +36,7 @@ impl<T: Drop> Shared<T> {
         &self,
         rt: &R,
         message: Option<T>,
-        waits: &mut Waits,
+        waits: &mut Waits<OfSends>,
         cx: &mut Context<'_>,
         trace: S,
     ) -> (Poll<Result<(), Refused<SendError<T>>>>, Option<T>, S)
@@ -47,7 +48,7 @@ impl<T: Drop> Shared<T> {
     {
         let key = waits.key();
         let task = waits.arm(rt, self.alloc, cx);
-        let seen = self.cells(rt, trace);
+        let seen = Seen::cells(self, rt, (), trace);
         let (polled, left, trace) = polls::poll_send(rt, message, key, task, seen);
         waits.keep(left.key);
         (polled, left.message, trace)
@@ -57,7 +58,7 @@ impl<T: Drop> Shared<T> {
     pub(crate) fn poll_recv<R: Wait, S: Trace<T>>(
         &self,
         rt: &R,
-        waits: &mut Waits,
+        waits: &mut Waits<OfReceives>,
         cx: &mut Context<'_>,
         trace: S,
     ) -> (Poll<Result<T, Refused<RecvError>>>, S)
@@ -68,7 +69,8 @@ impl<T: Drop> Shared<T> {
     {
         let key = waits.key();
         let task = waits.arm(rt, self.alloc, cx);
-        let (polled, left, trace) = polls::poll_recv(rt, key, task, self.cells(rt, trace));
+        let seen = Seen::cells(self, rt, (), trace);
+        let (polled, left, trace) = polls::poll_recv(rt, key, task, seen);
         waits.keep(left.key);
         (polled, trace)
     }
@@ -77,7 +79,7 @@ impl<T: Drop> Shared<T> {
     pub(crate) fn poll_closed<R: Wait, S: Trace<T>>(
         &self,
         rt: &R,
-        waits: &mut Waits,
+        waits: &mut Waits<OfClosings>,
         cx: &mut Context<'_>,
         trace: S,
     ) -> (Poll<Result<(), ListenError>>, S)
@@ -88,7 +90,8 @@ impl<T: Drop> Shared<T> {
     {
         let key = waits.key();
         let task = waits.arm(rt, self.alloc, cx);
-        let (polled, left, trace) = polls::poll_closed(rt, key, task, self.cells(rt, trace));
+        let seen = Seen::cells(self, rt, (), trace);
+        let (polled, left, trace) = polls::poll_closed(rt, key, task, seen);
         waits.keep(left.key);
         (polled, trace)
     }
@@ -97,7 +100,7 @@ impl<T: Drop> Shared<T> {
     pub(crate) fn poll_next<R: Wait, S: Trace<T>>(
         &self,
         rt: &R,
-        waits: &mut Waits,
+        waits: &mut Waits<OfStreams>,
         cx: &mut Context<'_>,
         trace: S,
     ) -> (Poll<Option<Result<T, ListenError>>>, S)
@@ -108,38 +111,55 @@ impl<T: Drop> Shared<T> {
     {
         let key = waits.key();
         let task = waits.arm(rt, self.alloc, cx);
-        let (polled, left, trace) = polls::poll_next(rt, key, task, self.cells(rt, trace));
+        let seen = Seen::cells(self, rt, (), trace);
+        let (polled, left, trace) = polls::poll_next(rt, key, task, seen);
         waits.keep(left.key);
         (polled, trace)
     }
 
-    /// Gives an operation of this kind up: its listener leaves, and the message of an unfinished send comes back.
-    pub(crate) fn give_up<R: Wait, S: Trace<T>>(
+    /// Gives an operation up: its listener leaves its list, and the message of an unfinished send comes back.
+    pub(crate) fn give_up<L: Line, R: Wait, S: Trace<T>>(
         &self,
         rt: &R,
-        line: WaitList,
         message: Option<T>,
-        waits: Waits,
+        waits: Waits<L>,
         trace: S,
     ) -> (Option<T>, S)
-        ensures walked { SeenOn S.did S.shown S.entered (channel_of self.now) (λ saw. WalkedTo saw (first (ask.GiveUp line message waits.key))) trace (reply.GivenUp (result.0)) (result.1) }
+        ensures walked { SeenOn S.did S.shown S.entered (channel_of self.now) (λ saw. WalkedTo saw (first (ask.GiveUp L.line message waits.key))) trace (reply.GivenUp (result.0)) (result.1) }
         ensures message { result.0 ≡ message }
     {
-        polls::give_up(rt, line, message, waits.end(), self.cells(rt, trace))
+        let seen = Seen::cells(self, rt, (), trace);
+        polls::give_up(rt, L::line(), message, waits.end(), seen)
     }
 
     /// The same of an operation that has no message.
-    pub(crate) fn leave<R: Wait, S: Trace<T>>(
+    pub(crate) fn leave<L: Line, R: Wait, S: Trace<T>>(
         &self,
         rt: &R,
-        line: WaitList,
-        waits: Waits,
+        waits: Waits<L>,
         trace: S,
     ) -> S
-        ensures walked { SeenOn S.did S.shown S.entered (channel_of self.now) (λ saw. WalkedTo saw (first (ask.GiveUp line None waits.key))) trace (reply.GivenUp None) result }
+        ensures walked { SeenOn S.did S.shown S.entered (channel_of self.now) (λ saw. WalkedTo saw (first (ask.GiveUp L.line None waits.key))) trace (reply.GivenUp None) result }
     {
-        let (none, trace) = self.give_up(rt, line, None, waits, trace);
+        let (none, trace) = self.give_up(rt, None, waits, trace);
         drop(none);
+        trace
+    }
+
+    /// What the drop of an operation does: its listener leaves, where it has one. Without one nothing is done, and nothing is shown.
+    pub(crate) fn let_go<L: Line, R: Wait, S: Trace<T>>(
+        &self,
+        rt: &R,
+        waits: Waits<L>,
+        trace: S,
+    ) -> S
+        ensures walked { IsSome waits.key → SeenOn S.did S.shown S.entered (channel_of self.now) (λ saw. WalkedTo saw (first (ask.GiveUp L.line None waits.key))) trace (reply.GivenUp None) result }
+        ensures nothing { waits.key ≡ None → result ≡ trace }
+    {
+        if waits.key().is_some() {
+            return self.leave(rt, waits, trace);
+        }
+        let _ = waits.end();
         trace
     }
 
@@ -149,11 +169,12 @@ impl<T: Drop> Shared<T> {
         &self,
         rt: &R,
         raised: Raised<OfReceivers>,
-        waits: Waits,
+        waits: Waits<OfStreams>,
         trace: S,
     ) -> S
         ensures walked { SeenOn S.did S.shown S.entered (channel_of self.now) (λ saw. Drops saw (ask.DropReceiver waits.key)) trace tt result }
     {
-        counts::drop_receiver(rt, raised, waits.end(), self.cells(rt, trace))
+        let seen = Seen::cells(self, rt, (), trace);
+        counts::drop_receiver(rt, raised, waits.end(), seen)
     }
 }

@@ -9,8 +9,7 @@ ghost use Rattle.channel_calls.specs.declared.reply.Reply.TheVariants as reply;
 ghost use Rattle.async_channel.specs.Handles.{channel_of, form_of};
 ghost use Rattle.async_channel.specs.Saw.{SeenOn};
 
-use crate::bed::Bed;
-use crate::cells::{Counts, SharedCells, SharedWords};
+use crate::cells::Counts;
 use crate::listeners::Listeners;
 use crate::seen::{Seen, Trace};
 use crate::waiters::{Turn, Waiters};
@@ -22,7 +21,6 @@ use event_listener::list::List;
 use event_listener::waking::Task;
 use futures::task::Source;
 use std::alloc::Global;
-use std::sync::Wait;
 
 /// A queue, four lists of listeners and two counts of handles.
 ///
@@ -66,32 +64,6 @@ impl<T: Drop> Shared<T> {
             counts: Counts::new(counters),
         }
     }
-
-    /// The cells of the channel, for a thread that may wait, seen by this trace.
-    #[inline(always)]
-    pub(crate) fn cells<'a, R: Wait, S: Trace<T>>(
-        &'a self,
-        rt: &'a R,
-        trace: S,
-    ) -> Seen<SharedCells<'a, T, R, ()>, S>
-        ensures form { form_of result.cells.shared.now ≡ form_of self.now }
-        ensures trace { S.entered (channel_of self.now).seal trace result.trace }
-    {
-        Seen::cells(self, rt, (), trace)
-    }
-
-    /// The same for a call that blocks its thread.
-    #[inline(always)]
-    pub(crate) fn cells_and_bed<'a, R: Wait, S: Trace<T>>(
-        &'a self,
-        rt: &'a R,
-        trace: S,
-    ) -> Seen<SharedCells<'a, T, R, Bed>, S>
-        ensures form { form_of result.cells.shared.now ≡ form_of self.now }
-        ensures trace { S.entered (channel_of self.now).seal trace result.trace }
-    {
-        Seen::cells(self, rt, Bed::new(), trace)
-    }
 }
 
 impl<T: Drop, L: Listeners> Shared<T, L> {
@@ -110,20 +82,11 @@ impl<T: Drop, L: Listeners> Shared<T, L> {
 // Questions that wait for nobody, with whatever trace: none of them takes the runtime or a lock. They are those of `channel_calls`, on
 // the shared words.
 impl<T: Drop> Shared<T> {
-    /// The words of the channel, seen by this trace.
-    #[inline(always)]
-    fn words<S: Trace<T>>(&self, trace: S) -> Seen<SharedWords<'_, T>, S>
-        ensures form { form_of result.cells.shared.now ≡ form_of self.now }
-        ensures trace { S.entered (channel_of self.now).seal trace result.trace }
-    {
-        Seen::words(self, trace)
-    }
-
     #[inline(always)]
     pub(crate) fn handle_count<S: Trace<T>>(&self, side: Side, trace: S) -> (usize, S)
         ensures walked { SeenOn S.did S.shown S.entered (channel_of self.now) (λ saw. WalkedTo saw (first (ask.HandleCount side))) trace (reply.Count (result.0)) (result.1) }
     {
-        let mut seen = self.words(trace);
+        let mut seen = Seen::words(self, trace);
         let count = questions::handle_count(side, &mut seen);
         (count, seen.into_trace())
     }
@@ -132,7 +95,7 @@ impl<T: Drop> Shared<T> {
     pub(crate) fn is_closed<S: Trace<T>>(&self, trace: S) -> (bool, S)
         ensures walked { SeenOn S.did S.shown S.entered (channel_of self.now) (λ saw. WalkedTo saw (first ask.IsClosed)) trace (reply.Flag (result.0)) (result.1) }
     {
-        let mut seen = self.words(trace);
+        let mut seen = Seen::words(self, trace);
         let closed = questions::is_closed(&mut seen);
         (closed, seen.into_trace())
     }
@@ -141,7 +104,7 @@ impl<T: Drop> Shared<T> {
     pub(crate) fn is_empty<S: Trace<T>>(&self, trace: S) -> (bool, S)
         ensures walked { SeenOn S.did S.shown S.entered (channel_of self.now) (λ saw. WalkedTo saw (first ask.IsEmpty)) trace (reply.Flag (result.0)) (result.1) }
     {
-        let mut seen = self.words(trace);
+        let mut seen = Seen::words(self, trace);
         let empty = questions::is_empty(&mut seen);
         (empty, seen.into_trace())
     }
@@ -151,7 +114,7 @@ impl<T: Drop> Shared<T> {
         ensures walked { SeenOn S.did S.shown S.entered (channel_of self.now) (λ saw. WalkedTo saw (first ask.IsFull)) trace (reply.Flag (result.0)) (result.1) }
         ensures bound { room_of (form_of self.now) ≡ None → result.0 ≡ false }
     {
-        let mut seen = self.words(trace);
+        let mut seen = Seen::words(self, trace);
         let full = questions::is_full(&mut seen);
         (full, seen.into_trace())
     }
@@ -161,7 +124,7 @@ impl<T: Drop> Shared<T> {
         ensures walked { SeenOn S.did S.shown S.entered (channel_of self.now) (λ saw. WalkedTo saw (first ask.Capacity)) trace (reply.Cap (result.0)) (result.1) }
         ensures room { result.0 ≡ room_of (form_of self.now) }
     {
-        let mut seen = self.words(trace);
+        let mut seen = Seen::words(self, trace);
         let capacity = questions::capacity(&mut seen);
         (capacity, seen.into_trace())
     }
@@ -170,7 +133,7 @@ impl<T: Drop> Shared<T> {
     pub(crate) fn is_terminated<S: Trace<T>>(&self, trace: S) -> (bool, S)
         ensures walked { SeenOn S.did S.shown S.entered (channel_of self.now) (λ saw. WalkedTo saw (first ask.IsTerminated)) trace (reply.Flag (result.0)) (result.1) }
     {
-        let mut seen = self.words(trace);
+        let mut seen = Seen::words(self, trace);
         let ended = questions::is_terminated(&mut seen);
         (ended, seen.into_trace())
     }

@@ -2,8 +2,9 @@
 //!
 //! Each is one body for whatever trace, and makes its call on cells that show each deed to the trace that it was given. So its clause
 //! `walked` says of the trace, before and after, what was done: the deeds of the call's machine, from its first turn to the very answer
-//! that came out. It can tell the trace nothing itself, which only the cells can. That it works on no other cells besides is to be read
-//! here. The calls of handles and operations are these with a copy of the trace that the channel is watched by, which isn't at hand here.
+//! that came out. It can tell the trace nothing itself, which only the cells can. That it does nothing besides which the trace isn't
+//! shown, on this channel or on another, is to be read here. The calls of handles and operations are these with a copy of the trace that
+//! the channel is watched by.
 
 mod counts;
 mod operations;
@@ -66,7 +67,7 @@ impl<'a, T: Drop, R: Wait + Copy, K: Kind> Traced<'a, T, R, K> {
         ensures form { form_of result.cells.shared.now ≡ self.now.form }
         ensures trace { S.entered self.now.seal trace result.trace }
     {
-        self.counted.link.shared.cells(self.rt, trace)
+        Seen::cells(&self.counted.link.shared, self.rt, (), trace)
     }
 
     /// The same for a call that blocks its thread.
@@ -75,7 +76,7 @@ impl<'a, T: Drop, R: Wait + Copy, K: Kind> Traced<'a, T, R, K> {
         ensures form { form_of result.cells.shared.now ≡ self.now.form }
         ensures trace { S.entered self.now.seal trace result.trace }
     {
-        self.counted.link.shared.cells_and_bed(self.rt, trace)
+        Seen::cells(&self.counted.link.shared, self.rt, Bed::new(), trace)
     }
 
     /// Closes the channel.

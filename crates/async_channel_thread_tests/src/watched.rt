@@ -69,14 +69,16 @@ impl Trace<u64> for Watcher<'_> {
 }
 
 /// A send and a question at once, then a receive and a closing: what was sent was received, one sender was counted, and it was
-/// open.
+/// open. Before them a send is given up that nobody polled, which hands its message back, and a receive that nobody polled is dropped.
 fn calls<R: Threads + Wait + Copy + Send + Sync>(
     rt: &R,
     s: &Sender<u64, R, Watcher<'_>>,
     r: &Receiver<u64, R, Watcher<'_>>,
-) -> (bool, usize, Option<u64>, bool) {
+) -> (Option<u64>, bool, usize, Option<u64>, bool) {
+    let unsent = s.send(9).give_up();
+    drop(r.recv());
     let (sent, senders) = thread::join(rt, || s.try_send(7).is_ok(), || r.sender_count());
-    (sent, senders, r.try_recv().ok(), s.close())
+    (unsent, sent, senders, r.try_recv().ok(), s.close())
 }
 
 #[test]
@@ -104,7 +106,8 @@ fn one_log_of_all_calls(rt: HostRuntime) {
         sections.into_inner(),
         counts.into_inner(),
     ];
-    expect_equal(&rt, &answers, &(true, 1, Some(7), true));
-    // Six calls, of which two are the drops. Three operations put the message, three take it, and each of the three closings is one.
-    expect_equal(&rt, &told, &[6, 9, 7, 3]);
+    expect_equal(&rt, &answers, &(Some(9), true, 1, Some(7), true));
+    // Seven calls, of which one is the giving up and two are the drops of handles: a drop of what has no listener is none. Three operations
+    // put the message, three take it, and each of the three closings is one.
+    expect_equal(&rt, &told, &[7, 9, 7, 3]);
 }

@@ -73,7 +73,7 @@ impl<T: Drop, W: Drop> ChannelCall<T, W> {
 
 impl<T: Drop, W: Drop> ChannelCall<T, W> {
     ghost use Rattle.channel_calls.specs.Asks.{first, kept_by};
-    ghost use Rattle.std.specs.Prelude.{Bool, Option};
+    ghost use Rattle.std.specs.Prelude.{Option};
     ghost use Rattle.channel_calls.specs.Replies.{MayEnd, ReplyAllowed};
     ghost use Rattle.channel_calls.specs.declared.reply.Reply.{Reply};
 

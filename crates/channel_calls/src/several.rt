@@ -33,13 +33,6 @@ impl<T> Messages<T> {
     {
         self.items.as_slice()
     }
-
-    /// The messages in order.
-    pub fn into_vec(self) -> Vec<T>
-        ensures { result.items ≡ self }
-    {
-        self.items
-    }
 }
 
 impl<T: PartialEq> PartialEq for Messages<T> {

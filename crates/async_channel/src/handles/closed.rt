@@ -16,9 +16,9 @@ ghost use Rattle.async_channel.specs.Watched.{WasSeen};
 
 use crate::handles::sender::Sender;
 use crate::open::no_trace::NoTrace;
+use crate::polls::line::OfClosings;
 use crate::polls::waits::Waits;
 use crate::seen::Trace;
-use channel_calls::stage::WaitList;
 use event_listener::error::ListenError;
 use futures::Future;
 use futures::task::{Context, Poll};
@@ -32,7 +32,7 @@ use std::sync::Wait;
 /// listener that is listed for it. As `async-channel` 2.5.0.
 pub struct Closed<'a, T: Drop, R: Wait + Copy, S: Trace<T> + Copy = NoTrace> {
     pub(crate) sender: &'a Sender<T, R, S>,
-    pub(crate) waits: Waits,
+    pub(crate) waits: Waits<OfClosings>,
 }
 
 impl<'a, T: Drop, R: Wait + Copy, S: Trace<T> + Copy> Model for Closed<'a, T, R, S> {
@@ -55,8 +55,8 @@ impl<'a, T: Drop, R: Wait + Copy, S: Trace<T> + Copy> Closed<'a, T, R, S> {
 
     /// One poll: a listener is listed for it afterwards where it is pending, and else none.
     ///
-    /// A copy of the waker is taken first. Where none is got nothing is tried, and the answer is want of memory. It may wait for
-    /// another call's end and for the locks of those who wait.
+    /// Refused where a listener was refused memory or a serial. A copy of the waker is taken first. Where none is got nothing is tried,
+    /// and the answer is want of memory. It may wait for the locks of those who wait.
     pub fn poll(&mut self, cx: &mut Context<'_>) -> Poll<Result<(), ListenError>>
         ensures walked { WasSeen S.did S.shown S.entered self.old.channel (λ saw begin r end. Polls saw (closed_ask self.old.key) begin r self.new.key end) (reply.ClosedPoll result) }
         ensures listed { is_some self.new.key ≡ is_pending result }
@@ -89,6 +89,6 @@ impl<T: Drop, R: Wait + Copy, S: Trace<T> + Copy> Drop for Closed<'_, T, R, S> {
     fn drop(self) {
         let Closed { sender, waits } = self;
         let shared = &sender.counted.link.shared;
-        let _ = shared.leave(&sender.rt, WaitList::Closings, waits, sender.watch);
+        let _ = shared.let_go(&sender.rt, waits, sender.watch);
     }
 }

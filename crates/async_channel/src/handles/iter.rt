@@ -4,7 +4,7 @@ ghost use Rattle.std.specs.Iterator.{at_most};
 ghost use Rattle.channel_calls.specs.Taking.{IsNext, TakesNext, WaitsForNext};
 ghost use Rattle.async_channel.specs.Iter.{waits_left, tries_left};
 ghost use Rattle.async_channel.specs.Watched.{WasSeen};
-ghost use Rattle.std.specs.Prelude.{◌≡◌};
+ghost use Rattle.std.specs.Prelude.{◌≡◌, false};
 
 use crate::handles::receiver::Receiver;
 use crate::open::no_trace::NoTrace;
@@ -21,7 +21,10 @@ pub struct Iter<'a, T: Drop, R: Wait + Copy, S: Trace<T> + Copy = NoTrace> {
 }
 
 impl<'a, T: Drop, R: Wait + Copy, S: Trace<T> + Copy> Iter<'a, T, R, S> {
-    pub(crate) fn new(receiver: &'a Receiver<T, R, S>) -> Iter<'a, T, R, S> {
+    pub(crate) fn new(receiver: &'a Receiver<T, R, S>) -> Iter<'a, T, R, S>
+        ensures channel { result.receiver.now.channel ≡ receiver.now.channel }
+        ensures new { result.ended ≡ false }
+    {
         Iter {
             receiver,
             ended: false,
@@ -67,7 +70,10 @@ pub struct TryIter<'a, T: Drop, R: Wait + Copy, S: Trace<T> + Copy = NoTrace> {
 }
 
 impl<'a, T: Drop, R: Wait + Copy, S: Trace<T> + Copy> TryIter<'a, T, R, S> {
-    pub(crate) fn new(receiver: &'a Receiver<T, R, S>) -> TryIter<'a, T, R, S> {
+    pub(crate) fn new(receiver: &'a Receiver<T, R, S>) -> TryIter<'a, T, R, S>
+        ensures channel { result.receiver.now.channel ≡ receiver.now.channel }
+        ensures new { result.ended ≡ false }
+    {
         TryIter {
             receiver,
             ended: false,

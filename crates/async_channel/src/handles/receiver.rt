@@ -18,6 +18,7 @@ use crate::handles::iter::{Iter, TryIter};
 use crate::handles::recv::Recv;
 use crate::handles::weak::WeakReceiver;
 use crate::open::no_trace::NoTrace;
+use crate::polls::line::OfStreams;
 use crate::polls::waits::Waits;
 use crate::seen::Trace;
 use crate::traced::Traced;
@@ -39,7 +40,7 @@ pub struct Receiver<T: Drop, R: Wait + Copy, S: Trace<T> + Copy = NoTrace> {
     pub(crate) counted: Counted<T, OfReceivers>,
     pub(crate) rt: R,
     pub(crate) watch: S,
-    pub(crate) waits: Waits,
+    pub(crate) waits: Waits<OfStreams>,
 }
 
 impl<T: Drop, R: Wait + Copy, S: Trace<T> + Copy> Model for Receiver<T, R, S> {
@@ -154,7 +155,8 @@ impl<T: Drop, R: Wait + Copy, S: Trace<T> + Copy> Receiver<T, R, S> {
         self.traced().recv_many_into(into, self.watch).0
     }
 
-    /// A receive that waits for a message: nothing is done until it is polled. As `async-channel` 2.5.0.
+    /// A receive that waits for a message: nothing is done until it is polled. It is refused where the channel is closed and empty; and
+    /// for memory or serials, after which another poll tries again. As `async-channel` 2.5.0, but for these.
     ///
     /// ```rust
     /// sender.try_send(1).ok()?;
@@ -190,14 +192,20 @@ impl<T: Drop, R: Wait + Copy, S: Trace<T> + Copy> Receiver<T, R, S> {
     /// ```
     ///
     /// Own to this project.
-    pub fn iter(&self) -> Iter<'_, T, R, S> {
+    pub fn iter(&self) -> Iter<'_, T, R, S>
+        ensures channel { result.receiver.now.channel ≡ self.now.channel }
+        ensures new { result.ended ≡ false }
+    {
         Iter::new(self)
     }
 
     /// The messages that are there, one after another, each taken as by [`try_recv`](Receiver::try_recv). It ends where none is there,
     /// whether the channel is open or closed, and stays ended though others may come. It never waits for a message, but may wait for
     /// another call's end and for the locks of those who wait. Own to this project.
-    pub fn try_iter(&self) -> TryIter<'_, T, R, S> {
+    pub fn try_iter(&self) -> TryIter<'_, T, R, S>
+        ensures channel { result.receiver.now.channel ≡ self.now.channel }
+        ensures new { result.ended ≡ false }
+    {
         TryIter::new(self)
     }
 
@@ -300,8 +308,8 @@ impl<T: Drop, R: Wait + Copy, S: Trace<T> + Copy> Receiver<T, R, S> {
     /// One poll of this receiver as a stream: a listener is listed for it afterwards where it is pending, and else none.
     ///
     /// It ends once the channel is closed and empty. A copy of the waker is taken first. Where none is got nothing is tried, and its
-    /// next item is want of memory. It may wait for another call's end and for the locks of those who wait. As `async-channel` 2.5.0,
-    /// but for the refusals.
+    /// next item is want of memory. A listener that is refused memory or a serial is such an item too. It may wait for another call's end
+    /// and for the locks of those who wait. As `async-channel` 2.5.0, but for the refusals.
     pub fn poll_next(&mut self, cx: &mut Context<'_>) -> Poll<Option<Result<T, ListenError>>>
         ensures walked { WasSeen S.did S.shown S.entered self.old.channel (λ saw begin r end. Polls saw (next_ask self.old.key) begin r self.new.key end) (reply.Next result) }
         ensures listed { is_some self.new.key ≡ is_pending result }

@@ -16,10 +16,10 @@ ghost use Rattle.async_channel.specs.Watched.{WasSeen};
 
 use crate::handles::receiver::Receiver;
 use crate::open::no_trace::NoTrace;
+use crate::polls::line::OfReceives;
 use crate::polls::waits::Waits;
 use crate::seen::Trace;
 use channel_calls::error::{RecvError, Refused};
-use channel_calls::stage::WaitList;
 use futures::Future;
 use futures::task::{Context, Poll};
 use std::marker::Model;
@@ -32,7 +32,7 @@ use std::sync::Wait;
 /// listener that is listed for it. As `async-channel` 2.5.0.
 pub struct Recv<'a, T: Drop, R: Wait + Copy, S: Trace<T> + Copy = NoTrace> {
     pub(crate) receiver: &'a Receiver<T, R, S>,
-    pub(crate) waits: Waits,
+    pub(crate) waits: Waits<OfReceives>,
 }
 
 impl<'a, T: Drop, R: Wait + Copy, S: Trace<T> + Copy> Model for Recv<'a, T, R, S> {
@@ -55,8 +55,9 @@ impl<'a, T: Drop, R: Wait + Copy, S: Trace<T> + Copy> Recv<'a, T, R, S> {
 
     /// One poll: a listener is listed for it afterwards where it is pending, and else none.
     ///
-    /// A copy of the waker is taken first. Where none is got nothing is tried, and the answer is want of memory. It may wait for
-    /// another call's end and for the locks of those who wait.
+    /// Refused where the channel is closed and empty, and where a listener was refused memory or a serial. A copy of the waker is taken
+    /// first. Where none is got nothing is tried, and the answer is want of memory. It may wait for another call's end and for the locks
+    /// of those who wait.
     pub fn poll(&mut self, cx: &mut Context<'_>) -> Poll<Result<T, Refused<RecvError>>>
         ensures walked { WasSeen S.did S.shown S.entered self.old.channel (λ saw begin r end. Polls saw (recv_ask self.old.key) begin r self.new.key end) (reply.RecvPoll result) }
         ensures listed { is_some self.new.key ≡ is_pending result }
@@ -89,6 +90,6 @@ impl<T: Drop, R: Wait + Copy, S: Trace<T> + Copy> Drop for Recv<'_, T, R, S> {
     fn drop(self) {
         let Recv { receiver, waits } = self;
         let shared = &receiver.counted.link.shared;
-        let _ = shared.leave(&receiver.rt, WaitList::Receives, waits, receiver.watch);
+        let _ = shared.let_go(&receiver.rt, waits, receiver.watch);
     }
 }

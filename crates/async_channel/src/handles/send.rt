@@ -15,10 +15,10 @@ ghost use Rattle.async_channel.specs.Watched.{WasSeen};
 
 use crate::handles::sender::Sender;
 use crate::open::no_trace::NoTrace;
+use crate::polls::line::OfSends;
 use crate::polls::waits::Waits;
 use crate::seen::Trace;
 use channel_calls::error::{Refused, SendError};
-use channel_calls::stage::WaitList;
 use futures::Future;
 use futures::task::{Context, Poll};
 use std::marker::Model;
@@ -31,7 +31,7 @@ use std::sync::Wait;
 pub struct Send<'a, T: Drop, R: Wait + Copy, S: Trace<T> + Copy = NoTrace> {
     pub(crate) sender: &'a Sender<T, R, S>,
     pub(crate) message: Option<T>,
-    pub(crate) waits: Waits,
+    pub(crate) waits: Waits<OfSends>,
 }
 
 impl<'a, T: Drop, R: Wait + Copy, S: Trace<T> + Copy> Model for Send<'a, T, R, S> {
@@ -109,7 +109,7 @@ impl<T: Drop, R: Wait + Copy, S: Trace<T> + Copy> Drop for Send<'_, T, R, S> {
             waits,
         } = self;
         let shared = &sender.counted.link.shared;
-        let (back, _) = shared.give_up(&sender.rt, WaitList::Sends, message, waits, sender.watch);
-        drop(back);
+        let _ = shared.let_go(&sender.rt, waits, sender.watch);
+        drop(message);
     }
 }

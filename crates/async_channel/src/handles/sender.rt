@@ -122,7 +122,8 @@ impl<T: Drop, R: Wait + Copy, S: Trace<T> + Copy> Sender<T, R, S> {
         Send::new(self, message)
     }
 
-    /// A wait for the channel's closing: nothing is done until it is polled. As `async-channel` 2.5.0.
+    /// A wait for the channel's closing: nothing is done until it is polled. It may be refused for memory or serials, after which another
+    /// poll tries again. As `async-channel` 2.5.0, but for these.
     pub fn closed(&self) -> Closed<'_, T, R, S>
         ensures { result ≡ new_listening self.now }
     {

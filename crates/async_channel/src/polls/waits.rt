@@ -7,25 +7,28 @@ use event_listener::key::Key;
 use event_listener::waking::{Task, WakerCell};
 use futures::task::{Context, Poll};
 use std::alloc::Global;
+use std::marker::PhantomData;
 use std::sync::{Arc, Wait};
 
-/// The listener of a pending operation, and the cell of its task's waker, which is made at the first poll.
+/// The listener of a pending operation on this list, and the cell of its task's waker, which is made at the first poll.
 ///
-/// It can't be let go: what ends it is a giving up, or a stream's drop, in which the listener leaves. Nor is its listener read or changed
-/// but by the polls and these two.
-pub(crate) struct Waits {
+/// It can't be let go: what ends it is a giving up, or a drop, in which the listener leaves this list and no other. Nor is its listener
+/// read or changed but by the polls and these two.
+pub(crate) struct Waits<L> {
     key: Option<Key>,
     cell: Option<Arc<WakerCell>>,
+    line: PhantomData<L>,
 }
 
-impl Waits {
+impl<L> Waits<L> {
     /// Without a listener. It takes no memory.
-    pub(crate) fn new() -> Waits
+    pub(crate) fn new() -> Waits<L>
         ensures { result.key ≡ None }
     {
         Waits {
             key: None,
             cell: None,
+            line: PhantomData,
         }
     }
 
@@ -47,7 +50,7 @@ impl Waits {
     pub(super) fn end(self) -> Option<Key>
         ensures { result ≡ self.key }
     {
-        let Waits { key, cell } = self;
+        let Waits { key, cell, line: _ } = self;
         drop(cell);
         key
     }

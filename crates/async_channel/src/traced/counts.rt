@@ -11,7 +11,7 @@ use crate::handles::receiver::Receiver;
 use crate::handles::sender::Sender;
 use crate::handles::weak::{WeakReceiver, WeakSender};
 use crate::link::Link;
-use crate::seen::Trace;
+use crate::seen::{Seen, Trace};
 use channel_calls::error::HandleError;
 use channel_calls::kind::{Kind, OfReceivers, OfSenders};
 use std::sync::Wait;
@@ -20,7 +20,7 @@ use std::sync::Wait;
 fn enters<T: Drop, R: Wait, S: Trace<T>>(link: &Link<T>, rt: &R, trace: S) -> S
     ensures { S.entered (handle_of link.now).seal trace result }
 {
-    link.shared.cells(rt, trace).into_trace()
+    Seen::cells(&link.shared, rt, (), trace).into_trace()
 }
 
 /// What a clone is made of: a tie of its own, and one more of this kind counted.

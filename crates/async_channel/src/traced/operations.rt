@@ -21,7 +21,6 @@ use crate::handles::send::Send;
 use crate::polls::waits::Waits;
 use crate::seen::Trace;
 use channel_calls::error::{RecvError, Refused, SendError};
-use channel_calls::stage::WaitList;
 use event_listener::error::ListenError;
 use futures::task::{Context, Poll};
 use std::mem;
@@ -65,7 +64,7 @@ impl<'a, T: Drop, R: Wait + Copy, S: Trace<T> + Copy> Send<'a, T, R, S> {
         let shared = &sender.counted.link.shared;
         let message = self.message.take();
         let waits = mem::replace(&mut self.waits, Waits::new());
-        shared.give_up(&sender.rt, WaitList::Sends, message, waits, trace)
+        shared.give_up(&sender.rt, message, waits, trace)
     }
 }
 
@@ -95,7 +94,7 @@ impl<'a, T: Drop, R: Wait + Copy, S: Trace<T> + Copy> Recv<'a, T, R, S> {
         let receiver = self.receiver;
         let shared = &receiver.counted.link.shared;
         let waits = mem::replace(&mut self.waits, Waits::new());
-        shared.leave(&receiver.rt, WaitList::Receives, waits, trace)
+        shared.leave(&receiver.rt, waits, trace)
     }
 }
 
@@ -126,7 +125,7 @@ impl<'a, T: Drop, R: Wait + Copy, S: Trace<T> + Copy> Closed<'a, T, R, S> {
         let sender = self.sender;
         let shared = &sender.counted.link.shared;
         let waits = mem::replace(&mut self.waits, Waits::new());
-        shared.leave(&sender.rt, WaitList::Closings, waits, trace)
+        shared.leave(&sender.rt, waits, trace)
     }
 }
 

@@ -1,6 +1,6 @@
 //! The calls of a receiver that receive.
 
-ghost use Rattle.std.specs.Prelude.{◌≡◌, ◌≤◌, ◌<◌, [], length, Ok, Err, IfOk, IfErr, OnErr};
+ghost use Rattle.std.specs.Prelude.{◌≡◌, ◌≤◌, ◌<◌, [], length, Err, IfOk, IfErr, OnErr};
 ghost use Rattle.std.specs.Vec.{vec_capacity, vec_ptr};
 ghost use Rattle.channel_calls.specs.Asks.{first};
 ghost use Rattle.channel_calls.specs.Blocks.{Blocks};

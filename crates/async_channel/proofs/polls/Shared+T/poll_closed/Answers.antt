@@ -10,5 +10,5 @@ use Rattle.async_channel.proofs.polls.Shared+T.poll_closed.Goals as goal
 pub returns-clause-walked : goal.returns-clause-walked
 returns-clause-walked g c =
     let left : c.keep.new.self.key ≡ c.poll_closed-polled.result.1.key = search rules in
-    on_channel g.S.Trace-2.did g.S.Trace-1.shown g.S.Trace-1.entered (λ saw begin r end. Polls saw (closed_ask c.args.waits.now.key) begin r c.keep.new.self.key end) (channel_of c.args.self.now) (form_of c.cells.result.cells.shared.now) c.args.trace c.cells.result.trace (reply.ClosedPoll c.poll_closed-polled.result.0) c.poll_closed-polled.result.2 c.cells.ensures.form c.cells.ensures.trace
-    ((c.poll_closed-polled.result.1.message, poll_kept (Saw g.S.Trace-2.did g.S.Trace-1.shown (form_of c.cells.result.cells.shared.now)) closed_ask _ _ c.arm-task.result _ _ c.poll_closed-polled.result.1 _ _ c.key-key.ensures left c.poll_closed-polled.ensures.walked))
+    on_channel g.S.Trace-2.did g.S.Trace-1.shown g.S.Trace-1.entered (λ saw begin r end. Polls saw (closed_ask c.args.waits.now.key) begin r c.keep.new.self.key end) (channel_of c.args.self.now) (form_of c.cells-seen.result.cells.shared.now) c.args.trace c.cells-seen.result.trace (reply.ClosedPoll c.poll_closed-polled.result.0) c.poll_closed-polled.result.2 c.cells-seen.ensures.form c.cells-seen.ensures.trace
+    ((c.poll_closed-polled.result.1.message, poll_kept (Saw g.S.Trace-2.did g.S.Trace-1.shown (form_of c.cells-seen.result.cells.shared.now)) closed_ask _ _ c.arm-task.result _ _ c.poll_closed-polled.result.1 _ _ c.key-key.ensures left c.poll_closed-polled.ensures.walked))
