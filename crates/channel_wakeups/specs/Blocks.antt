@@ -1,5 +1,5 @@
 -- What calls that block their thread answer.
-use Rattle.std.specs.Prelude.{List, Result, Ok, Err, false}
+use Rattle.std.specs.Prelude.{List, Result, Ok, Err}
 use Rattle.concurrent_queue.specs.declared.error.PopError.{PopError}
 use Rattle.concurrent_queue.specs.declared.error.PopError.TheVariants as pop_error
 use Rattle.channel_wakeups.specs.declared.polled.Blocked.{Blocked}
@@ -7,13 +7,8 @@ use Rattle.channel_wakeups.specs.declared.polled.Blocked.TheVariants as blocked
 use Rattle.channel_wakeups.specs.declared.rule.Transfer.{Transfer}
 use Rattle.channel_wakeups.specs.declared.rule.Sight.TheVariants.{Drained, Empty}
 use Rattle.channel_wakeups.specs.Log.{HasTaken, HasSeen, NotDrained, Looks, AtLast}
-use Rattle.channel_wakeups.specs.Sends.{SentAtLastIn}
 
 module _ {T : Type 0} where
-  -- a send that blocked its thread, of one slot, where positions do not end
-  abbrev pub SentAtLast : T → Result Unit (Blocked T) → List (Transfer T) → List (Transfer T) → Type 0
-  SentAtLast x sent log after = SentAtLastIn false x sent log after
-
   -- a receive that tried some times, and found no message each time but the last. Where it answers that there is none, it found none at that one too
   abbrev pub FoundSoon : Result T PopError → List (Transfer T) → List (Transfer T) → Type 0
   FoundSoon (Ok x) log after = NotDrained log × AtLast Empty (HasTaken x) log after

@@ -13,13 +13,10 @@ use Rattle.channel_wakeups.specs.declared.rule.Transfer.{Transfer}
 use Rattle.channel_wakeups.specs.declared.rule.Sight.TheVariants.{Shut, Seen, Drained, Full, Empty}
 use Rattle.concurrent_queue.specs.declared.error.PopError.{PopError}
 use Rattle.concurrent_queue.specs.declared.error.PopError.TheVariants as pop_error
-use Rattle.concurrent_queue.specs.declared.error.PushError.{PushError}
 use Rattle.concurrent_queue.specs.declared.error.PushError.TheVariants as push_error
-use Rattle.concurrent_queue.specs.declared.error.ForcePushError.{ForcePushError}
 use Rattle.concurrent_queue.specs.declared.error.ForcePushError.TheVariants as force_error
 use Rattle.channel_wakeups.specs.Log.{HasPut, HasTaken, Replaces, HasSeen, NotSeen, NotDrained, Looks, AtLast}
 use Rattle.channel_wakeups.specs.Seats.{IsCall, IsPass, IsIdle}
-use Rattle.channel_wakeups.specs.Sends.{OffersIn, SentIn, DisplacedIn}
 use Rattle.channel_wakeups.specs.declared.polled.Watched.{Watched}
 use Rattle.channel_wakeups.specs.declared.polled.Watched.TheVariants as watched
 use Rattle.channel_wakeups.specs.declared.rule.Lines.{Lines}
@@ -81,12 +78,7 @@ module _ {T W : Type 0} where
   PopLeaves side table parts holds log (reply.Pop (Err pop_error.Closed)) s = IsCall side table s parts 0 holds 0 × HasSeen Drained log s.me.0.log
   PopLeaves side table parts holds log _ s = ⊥
 
-  -- what is left by a refusal
-  abbrev pub PushRefused : TableId → ℕ → ℕ → PushError T → Seat (Option T) (View T W) → Type 0
-  PushRefused table parts holds (push_error.Full y) s = IsIdle table s parts
-  PushRefused table parts holds (push_error.Closed y) s = IsCall of_sends table s parts 0 holds 0
-  PushRefused table parts holds (push_error.NoMemory y) s = ⊥
-
+  -- what a refused pop leaves
   abbrev pub PopRefused : Side → TableId → ℕ → ℕ → PopError → Seat (Option T) (View T W) → Type 0
   PopRefused side table parts holds pop_error.Empty s = IsIdle table s parts
   PopRefused side table parts holds pop_error.Closed s = IsCall side table s parts 0 holds 0
@@ -117,16 +109,6 @@ module _ {T : Type 0} where
   Received Pending log after = Looks Empty log after
   Received Closed log after = AtLast Empty (HasSeen Drained) log after
   Received NoMemory log after = NotSeen log × HasSeen Empty log after
-
-  -- a poll of a send, a push, and a displacing push, of one slot, where positions do not end
-  abbrev pub Offers : T → Offered T → List (Transfer T) → List (Transfer T) → Type 0
-  Offers x offered log after = OffersIn false x offered log after
-
-  abbrev pub Sent : T → Result Unit (PushError T) → List (Transfer T) → List (Transfer T) → Type 0
-  Sent x sent log after = SentIn false x sent log after
-
-  abbrev pub Displaced : T → Result (Option T) (ForcePushError T) → List (Transfer T) → List (Transfer T) → Type 0
-  Displaced x sent log after = DisplacedIn false x sent log after
 
   -- the first who closes the channel is told so; nobody before had seen it closed
   abbrev pub Closes : Bool → List (Transfer T) → List (Transfer T) → Type 0

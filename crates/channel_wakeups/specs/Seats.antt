@@ -6,7 +6,7 @@ use Rattle.channel_wakeups.specs.declared.rule.Line.{Line}
 use Rattle.channel_wakeups.specs.declared.rule.Lines.{Lines}
 use Rattle.channel_wakeups.specs.declared.rule.Turn.TheVariants.{Rest}
 use Rattle.channel_wakeups.specs.declared.rule.View.{View}
-use Rattle.channel_wakeups.specs.Views.{Side, of_receives, of, besides, calling, idle_lines, tickets_alone, listing, no_rolls, roll, with_roll}
+use Rattle.channel_wakeups.specs.Views.{all_parts, Side, of_receives, of, besides, calling, idle_lines, tickets_alone, listing, no_rolls, roll, with_roll}
 
 module _ {T W : Type 0} where
   -- it has nothing of the queue
@@ -32,7 +32,7 @@ module _ {T W : Type 0} where
   -- a pass with every part, which has nothing but tickets
   abbrev pub IsWhole : TableId → Seat (Option T) (View T W) → Type 0
   IsWhole table seat =
-      (seat.table_id ≡ table) × (seat.me.1 ≡ []) × (seat.me.0.parts ≡ 1024) × HasNothing seat.me.0 × (seat.me.0.calls ≡ tickets_alone seat.me.0.calls) × (seat.me.0.rolls ≡ no_rolls)
+      (seat.table_id ≡ table) × (seat.me.1 ≡ []) × (seat.me.0.parts ≡ all_parts) × HasNothing seat.me.0 × (seat.me.0.calls ≡ tickets_alone seat.me.0.calls) × (seat.me.0.rolls ≡ no_rolls)
 
   -- the ticket of one that is pending, whose listener is under this key plus 1
   abbrev pub IsTicket : Side → TableId → Seat (Option T) (View T W) → ℕ → Type 0

@@ -28,6 +28,10 @@ use Rattle.channel_wakeups.specs.declared.rule.Turn.TheVariants.{Rest}
 use Rattle.channel_wakeups.specs.Turns.{Knows, owed_by_turn, bringing}
 use Rattle.channel_wakeups.specs.Log.{Weight, puts, takes, sights, each, each_sight, raised_of, lowered_of, last_of, gone_of, is_none, IsHistory, Balanced, PutBefore, TookBefore, Closings, EndsAt, numbered, Once, Every, InHistory, IsRecorded, Looked}
 
+-- how many parts of the right to know the whole there are: each pass and each one that is pending has one at least
+abbrev pub all_parts : ℕ
+all_parts = 1024
+
 -- where a number lies in a ring: its position, as the words have it
 abbrev pub at_number : ℕ → ℕ → ℕ
 at_number cap n = pos cap (2 * ring_mark cap) n
@@ -237,7 +241,7 @@ module _ {T W : Type 0} where
 
   -- the first seat: it has all parts and all lists, and a handle of each kind
   abbrev pub everything : View T W
-  everything = pass 1024 0 (handed (hands 1 1 0) idle_lines) (rolls (listing []) (listing []) (listing []) (listing [])) []
+  everything = pass all_parts 0 (handed (hands 1 1 0) idle_lines) (rolls (listing []) (listing []) (listing []) (listing [])) []
 
   -- with another line and another list on a side
   abbrev pub changed : Side → View T W → Line → List (Listener W) → View T W
@@ -452,7 +456,7 @@ pub data IsSlot {T : Type 0} (base : ℕ) (slot : home.Option (Option T)) (locks
 
 -- what holds of all seats beside such a queue
 pub record Law {T W : Type 0} (p : Picture) (views : List (View T W)) : Type 0 where
-  pub whole : total parts_of views ≡ 1024
+  pub whole : total parts_of views ≡ all_parts
   pub one : (s : Side) → total (here_of s) views ≡ 1
   pub owed : (d : Duty) (s : Side) (key : ℕ) → Owed (wanted d s p) (total (waits_of s key) views) (total (answered_of d s) views) (total (holds_of d s key) views)
   pub tickets : (s : Side) (key : ℕ) → total (tickets_of s key) views ≤ total (listed_of s key) views
@@ -487,7 +491,7 @@ Known T W = Me (Option T) (View T W)
 -- the seat has every part and the list of this side, and no call is under way
 abbrev pub HasAll : {T W : Type 0} → Side → View T W → Type 0
 HasAll s v =
-    (v.parts ≡ 1024) × ((roll s v.rolls).here ≡ 1) × ((of s v.calls).answers ≡ 0) × (((of s v.calls).holds ≡ 0) × ((of s v.calls).fresh ≡ 0)) × (v.owns ≡ 0) × ((of s v.calls).tells ≡ 0) × (v.calls.hands.closes ≡ 0) × (v.turn ≡ Rest)
+    (v.parts ≡ all_parts) × ((roll s v.rolls).here ≡ 1) × ((of s v.calls).answers ≡ 0) × (((of s v.calls).holds ≡ 0) × ((of s v.calls).fresh ≡ 0)) × (v.owns ≡ 0) × ((of s v.calls).tells ≡ 0) × (v.calls.hands.closes ≡ 0) × (v.turn ≡ Rest)
 
 -- WHAT IS KNOWN AT REST of a side, beside so many messages and free places: where a listener waits untold, no more is owed than are told; whose
 -- ticket the seat has is in the list; and the log of all passes accounts for the messages, for the closing and for the handles

@@ -4,7 +4,7 @@ ghost use Rattle.std.specs.Prelude.{◌≡◌, ◌⊎◌, ◌+◌, ◌-◌, ◌<
 ghost use Rattle.channel_wakeups.specs.Calls.{held, key_next};
 ghost use Rattle.channel_wakeups.specs.Log.{each, puts, takes, AccountsBalance, Looked, ReceivedWasSent};
 ghost use Rattle.channel_wakeups.specs.Seats.{IsIdle, IsPass, IsWhole};
-ghost use Rattle.channel_wakeups.specs.Views.{besides, calling};
+ghost use Rattle.channel_wakeups.specs.Views.{all_parts, besides, calling};
 
 use crate::cells::{Place, SlotTable};
 use crate::channel::Ticket;
@@ -133,7 +133,7 @@ pub(crate) fn look<T: Drop, W: Wake, B: Room, F: Form, R: Wait>(
     requires table { (table.now.shared.table_id ≡ B.table) × (0 < B.table.words) }
     requires fits { F.fits form B.table }
     requires pass { IsIdle B.table pass.old pass.old.me.0.parts }
-    requires parts { pass.old.me.0.parts + held (is_some waiting.receive) + held (is_some waiting.send) + held (is_some waiting.stream) + held (is_some waiting.closing) ≡ 1024 }
+    requires parts { pass.old.me.0.parts + held (is_some waiting.receive) + held (is_some waiting.send) + held (is_some waiting.stream) + held (is_some waiting.closing) ≡ all_parts }
     ensures pass { IsIdle B.table pass.new pass.old.me.0.parts }
     ensures receive { is_some result.1.receive ≡ is_some waiting.receive }
     ensures send { is_some result.1.send ≡ is_some waiting.send }

@@ -8,7 +8,7 @@ ghost use Rattle.channel_wakeups.specs.Log.{each, puts, takes, Looked};
 ghost use Rattle.channel_wakeups.specs.Seats.{IsIdle, IsTicket};
 ghost use Rattle.channel_wakeups.specs.Sends.{DisplacedIn, OffersIn, SentIn};
 ghost use Rattle.channel_wakeups.specs.Several.{Gathered, NoneGathered};
-ghost use Rattle.channel_wakeups.specs.Views.{everything};
+ghost use Rattle.channel_wakeups.specs.Views.{all_parts, everything};
 
 use crate::at_rest::{Rest, Tickets};
 use crate::cells::{Place, SlotTable};
@@ -171,7 +171,7 @@ impl<T: Drop, W: Drop, F: Form> Opening<T, W, F> {
     /// The channel, its first pass and its first handles, in a room: values of a room fit one another and no other's.
     pub fn enter<B: Room>(self) -> (Channel<T, W, B, F>, Pass<T, W, B>, FirstHandles<T, W, B>)
         requires { self ≡ B.table }
-        ensures parts { result.1.parts ≡ 1024 }
+        ensures parts { result.1.parts ≡ all_parts }
         ensures log { result.1.log ≡ [] }
     {
         let Opening {
@@ -236,7 +236,8 @@ impl<T: Drop, W: Drop, B: Room, F: Form> Channel<T, W, B, F> {
 }
 
 impl<T: Drop, W: Wake, B: Room, F: Form> Channel<T, W, B, F> {
-    /// A new pass, which gets half of the parts of this one.
+    /// A new pass, which gets half of the parts of this one. It waits for nobody, and takes no memory. This one has to have two parts at
+    /// least: of the 1,024 that the first pass has, ten such calls on it leave it one. Parts come back by [`absorb`](Channel::absorb).
     pub fn another(&self, pass: &mut Pass<T, W, B>) -> Pass<T, W, B>
         requires { 1 < pass.old.parts }
         ensures same { pass.new.parts ≡ pass.old.parts - pass.old.parts / 2 }
@@ -533,7 +534,7 @@ impl<T: Drop, W: Wake, B: Room, F: Form> Channel<T, W, B, F> {
         stream: &mut Streaming<T, W, B>,
         closing: &mut Closing<T, W, B>,
     ) -> Rest
-        requires { pass.old.parts + receive.old + send.old + stream.old + closing.old ≡ 1024 }
+        requires { pass.old.parts + receive.old + send.old + stream.old + closing.old ≡ all_parts }
         ensures same { (pass.new.parts ≡ pass.old.parts) × (pass.new.log ≡ pass.old.log) }
         ensures waiting { (receive.new ≡ receive.old) × (send.new ≡ send.old) × (stream.new ≡ stream.old) × (closing.new ≡ closing.old) }
         ensures receives { 0 < receive.old → (0 < result.messages) ⊎ (result.closed ≡ true) → result.receive_told ≡ true }

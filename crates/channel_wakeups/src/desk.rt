@@ -4,7 +4,7 @@ ghost use Rattle.std.specs.Prelude.{◌≡◌, ◌⊎◌, ℕ, ◌+◌, ◌-◌,
 ghost use Rattle.channel_wakeups.specs.Lists.{told, waits, listed};
 ghost use Rattle.channel_wakeups.specs.Log.{Looked};
 ghost use Rattle.channel_wakeups.specs.Seats.{IsCall, IsPass, IsTicket, IsList};
-ghost use Rattle.channel_wakeups.specs.Views.{of, besides, roll, calling, telling, due, idle_lines, line_of};
+ghost use Rattle.channel_wakeups.specs.Views.{all_parts, of, besides, roll, calling, telling, due, idle_lines, line_of};
 
 use crate::cells::{Place, SlotTable};
 use crate::form::Form;
@@ -220,7 +220,7 @@ impl<T: Drop, W: Drop, B: Room, S: Waiting> Desk<T, W, B, S> {
     ) -> (Stock, bool, Place<T, W>)
         requires table { (table.now.shared.table_id ≡ B.table) × (0 < B.table.words) }
         requires fits { F.fits form B.table }
-        requires call { IsPass S.side B.table call 1024 (calling 0 0 (of S.side call.me.0.calls).ticket) (besides S.side call.me.0.calls) }
+        requires call { IsPass S.side B.table call all_parts (calling 0 0 (of S.side call.me.0.calls).ticket) (besides S.side call.me.0.calls) }
         requires owes { call.me.0.calls.hands.closes ≡ 0 }
         ensures same { (result.2.table_id ≡ B.table) × (result.2.me ≡ call.me) }
         ensures whole { result.0.messages + result.0.places ≡ B.table.slots }

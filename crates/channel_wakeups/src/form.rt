@@ -12,10 +12,11 @@ ghost use Rattle.channel_wakeups.specs.Seats.{IsCall, IsPass, IsIdle};
 ghost use Rattle.channel_wakeups.specs.Views.{of, roll, is_key, due, of_receives, of_sends, of_closings, hands, only_on, calling, telling, HasAll};
 
 use crate::cells::{Place, SlotTable};
+use crate::made::{make_ask, make_close, make_force, make_pop, make_pop_more, make_push};
 use crate::rule::{Taking, Waiting};
+use crate::stock;
 use crate::stock::Stock;
-use crate::{made, stock};
-use concurrent_queue::{ForcePushError, PopError, PushError};
+use concurrent_queue::{ForcePushError, PopError, PushError, QueueReply};
 use std::sync::Wait;
 
 /// How a channel keeps its messages. Each method is a call of its queue, made with a pass.
@@ -160,8 +161,17 @@ impl Form for OneSlot {
         call: Place<T, W>,
         message: T,
     ) -> (Result<(), PushError<T>>, Place<T, W>, bool) {
-        let (sent, call) = made::push(rt, table, call, message);
-        (sent, call, false)
+        let (reply, call) = make_push(rt, table, call, message);
+        match reply {
+            QueueReply::Push(Ok(())) => (Ok(()), call, false),
+            QueueReply::Push(Err(PushError::Full(refused))) => {
+                (Err(PushError::Full(refused)), call, false)
+            }
+            QueueReply::Push(Err(PushError::Closed(refused))) => {
+                (Err(PushError::Closed(refused)), call, false)
+            }
+            _ => unreachable!(),
+        }
     }
 
     #[inline(always)]
@@ -172,8 +182,14 @@ impl Form for OneSlot {
         call: Place<T, W>,
         message: T,
     ) -> (Result<Option<T>, ForcePushError<T>>, Place<T, W>, bool) {
-        let (sent, call) = made::force(rt, table, call, message);
-        (sent, call, false)
+        let (reply, call) = make_force(rt, table, call, message);
+        match reply {
+            QueueReply::Force(Ok(old)) => (Ok(old), call, false),
+            QueueReply::Force(Err(ForcePushError::Closed(refused))) => {
+                (Err(ForcePushError::Closed(refused)), call, false)
+            }
+            _ => unreachable!(),
+        }
     }
 
     #[inline(always)]
@@ -183,7 +199,13 @@ impl Form for OneSlot {
         table: &SlotTable<T, W>,
         call: Place<T, W>,
     ) -> (Result<T, PopError>, Place<T, W>) {
-        made::pop::<T, W, S, R>(rt, table, call)
+        let (reply, call) = make_pop::<T, W, S, R>(rt, table, call);
+        match reply {
+            QueueReply::Pop(Ok(message)) => (Ok(message), call),
+            QueueReply::Pop(Err(PopError::Empty)) => (Err(PopError::Empty), call),
+            QueueReply::Pop(Err(PopError::Closed)) => (Err(PopError::Closed), call),
+            _ => unreachable!(),
+        }
     }
 
     #[inline(always)]
@@ -193,7 +215,13 @@ impl Form for OneSlot {
         table: &SlotTable<T, W>,
         call: Place<T, W>,
     ) -> (Result<T, PopError>, Place<T, W>) {
-        made::pop_more(rt, table, call)
+        let (reply, call) = make_pop_more(rt, table, call);
+        match reply {
+            QueueReply::Pop(Ok(message)) => (Ok(message), call),
+            QueueReply::Pop(Err(PopError::Empty)) => (Err(PopError::Empty), call),
+            QueueReply::Pop(Err(PopError::Closed)) => (Err(PopError::Closed), call),
+            _ => unreachable!(),
+        }
     }
 
     #[inline(always)]
@@ -203,7 +231,12 @@ impl Form for OneSlot {
         table: &SlotTable<T, W>,
         call: Place<T, W>,
     ) -> (bool, Place<T, W>) {
-        made::shut(rt, table, call)
+        let (reply, call) = make_close(rt, table, call);
+        match reply {
+            QueueReply::Close(true) => (true, call),
+            QueueReply::Close(false) => (false, call),
+            _ => unreachable!(),
+        }
     }
 
     #[inline(always)]
@@ -213,7 +246,12 @@ impl Form for OneSlot {
         table: &SlotTable<T, W>,
         call: Place<T, W>,
     ) -> (bool, Place<T, W>) {
-        made::ask(rt, table, call)
+        let (reply, call) = make_ask(rt, table, call);
+        match reply {
+            QueueReply::Flag(true) => (true, call),
+            QueueReply::Flag(false) => (false, call),
+            _ => unreachable!(),
+        }
     }
 
     #[inline(always)]

@@ -1,6 +1,6 @@
 //! Opening a channel whose queue is a ring.
 
-ghost use Rattle.std.specs.Prelude.{◌≡◌, ◌⊎◌, ◌+◌, ◌^◌, ◌<◌, ◌≤◌, IfOk};
+ghost use Rattle.std.specs.Prelude.{◌≡◌, ◌+◌, ◌<◌, IfOk};
 ghost use Rattle.channel_wakeups.specs.NewRings.{AreFirst, first_word};
 
 use crate::channel::{Channel, Opening};

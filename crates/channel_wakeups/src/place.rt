@@ -4,9 +4,9 @@
 ghost use Rattle.std.specs.Prelude.{◌≡◌, ◌+◌, ◌-◌, ◌/◌, ◌<◌, [], ◌++◌};
 ghost use Rattle.channel_wakeups.specs.Counts.{IsHandle};
 ghost use Rattle.channel_wakeups.specs.declared.rule.Kind.TheVariants.{OfReceivers, OfSenders};
-ghost use Rattle.channel_wakeups.specs.Seats.{IsCall, IsIdle, IsPass, IsTicket, IsList, Calls, Lists};
+ghost use Rattle.channel_wakeups.specs.Seats.{IsIdle, IsPass, IsTicket, IsList};
 ghost use Rattle.channel_wakeups.specs.Sections.{Fair};
-ghost use Rattle.channel_wakeups.specs.Views.{of, besides, roll, call_line, calling, changed, line_of, comes_out, entered, stays, alone, without, everything, of_receives, of_sends, of_streams, of_closings, idle_lines};
+ghost use Rattle.channel_wakeups.specs.Views.{all_parts, of, besides, roll, calling, changed, line_of, comes_out, entered, stays, alone, without, everything, of_receives, of_sends, of_streams, of_closings, idle_lines};
 
 use crate::cells::{Place, SlotTable};
 use crate::handles::uncouple;
@@ -120,7 +120,7 @@ pub(crate) fn begin<T: Drop, W: Drop>(
 ) -> (Place<T, W>, ListSeats<T, W>, (Place<T, W>, Place<T, W>))
     requires table { 0 < table.now.shared.table_id.words }
     requires seat { (seat.table_id ≡ table.now.shared.table_id) × (seat.me ≡ (everything, [])) }
-    ensures pass { IsIdle table.now.shared.table_id result.0 1024 × (result.0.me.0.log ≡ []) }
+    ensures pass { IsIdle table.now.shared.table_id result.0 all_parts × (result.0.me.0.log ≡ []) }
     ensures receives { IsList of_receives table.now.shared.table_id result.1.receives × (result.1.receives.me.0.rolls.receives.listeners ≡ []) }
     ensures sends { IsList of_sends table.now.shared.table_id result.1.sends × (result.1.sends.me.0.rolls.sends.listeners ≡ []) }
     ensures streams { IsList of_streams table.now.shared.table_id result.1.streams × (result.1.streams.me.0.rolls.streams.listeners ≡ []) }

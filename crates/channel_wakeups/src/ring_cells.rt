@@ -1,6 +1,6 @@
 //! The words and the slots of a ring, from a pass.
 
-ghost use Rattle.std.specs.Prelude.{◌≡◌, ◌+◌, ◌<◌, ◌≤◌, ◌^◌, true};
+ghost use Rattle.std.specs.Prelude.{◌≡◌, ◌+◌, ◌<◌, ◌≤◌, ◌^◌};
 ghost use Rattle.channel_wakeups.specs.RingStages.{has_shut, IsRingAt};
 
 use crate::cells::{Place, SlotTable};

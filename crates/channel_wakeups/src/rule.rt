@@ -1,5 +1,4 @@
 //! What a seat of the table knows, and the rule of the table. These types are for the proofs alone.
-ghost use Rattle.std.specs.Prelude.{ℕ};
 ghost use Rattle.atomic_table.specs.Seated.{TableId};
 ghost use Rattle.channel_wakeups.specs.declared.rule.View.{View};
 
