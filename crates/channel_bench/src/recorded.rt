@@ -1,7 +1,6 @@
 //! How many recorded calls one thread and two threads make in a second, beside calls of a world without lock and record.
 
 ghost use Rattle.std.specs.Prelude.{◌≡◌};
-ghost use Rattle.channel_world.specs.View.{IsQuiet};
 
 use crate::decimal::Decimal;
 use crate::watch::Watch;

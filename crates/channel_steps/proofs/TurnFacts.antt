@@ -1,6 +1,6 @@
 -- What is known of a call once it has taken its turn.
-use Rattle.std.proofs.Common.{◌≡◌, true, false, List, [], ◌∷◌, ◌++◌, Option, None, Some, refl, sym, ap, ◌∙◌, subst, append-nil}
-use Rattle.channel_steps.proofs.Words.{Phase, trying, Channel, Turned, leaving, ends_by, again, ChannelAsk, Reply, Ending, ListenerRef, Returned, Stage, Finished, NextStep, Tries, Works, Ends, Waiting, Leave, Key, MarkedMoment, Keeps, Row, Met, TriesFor, TriesAt, IsFor, Answered, WorkAt, StageAt, to_tell, ToldAt, Telling, owed}
+use Rattle.std.proofs.Common.{◌≡◌, true, false, List, [], ◌∷◌, ◌++◌, Option, None, Some, sym, ap, ◌∙◌, subst, append-nil}
+use Rattle.channel_steps.proofs.Words.{Phase, trying, Channel, Turned, leaving, ends_by, again, ChannelAsk, Reply, Ending, ListenerRef, Returned, Stage, Finished, NextStep, Tries, Works, Ends, Waiting, Leave, Key, MarkedMoment, Keeps, Met, TriesFor, TriesAt, IsFor, Answered, WorkAt, StageAt, to_tell, ToldAt, Telling, owed}
 use Rattle.channel_calls.specs.declared.ask.ChannelAsk.TheVariants as channel
 use Rattle.channel_calls.specs.declared.stage.Waiting.TheVariants as waiting
 
@@ -38,10 +38,6 @@ module _ {T W : Type 0} where
     -- the answer is fixed: it is given, or a listener is dropped first
     pub ended : (e : Ending T) → Answered x e ds seen → told ++ [] ≡ owed ds → TurnAt (ends_by e)
     ended e h k = held_or_not e e.held h k
-
-  -- the row was met by this very moment
-  pub met : (x : ChannelAsk T W) (ds : List (MarkedMoment T W)) (seen : List (Channel T W)) (y : Reply T) → Row x ds seen y → Met x ds seen y
-  met x ds seen y h = ([], seen, refl, h)
 
   -- and stays met
   pub met_more : (c : Channel T W) (x : ChannelAsk T W) (ds : List (MarkedMoment T W)) (seen : List (Channel T W)) (y : Reply T) → Met x ds seen y → Met x ds (c ∷ seen) y

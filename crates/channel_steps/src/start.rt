@@ -1,6 +1,6 @@
 //! Where runs start, and what is asked between them.
 
-ghost use Rattle.std.specs.Prelude.{◌≡◌, IfOk};
+ghost use Rattle.std.specs.Prelude.{IfOk};
 ghost use Rattle.concurrent_queue.specs.Capacity.{capacity_of};
 ghost use Rattle.concurrent_queue.specs.Made.{CanBeMade};
 ghost use Rattle.channel_calls.specs.Plain.{parts_of};

@@ -1,6 +1,6 @@
 -- What is known of the bytes of a reader and of a writer, over several calls.
 use Rattle.std.proofs.Common.{arith, ◌≡◌, ℕ, ◌-◌, List, [], ◌∷◌, ◌++◌, take, drop, length, Option, Some, None, IfSome, refl, sym, subst, ap, ◌∙◌, append_assoc, append-nil, nat_lt, false, ◌≤◌}
-use Rattle.std.specs.Io.KnownBytes.{Appends, Keeps, Consumes, IsAtEnd}
+use Rattle.std.specs.Io.KnownBytes.{Appends}
 use Rattle.std.proofs.lemmas.List.{take-append-drop, take_all, length-drop}
 use Rattle.channel_world.specs.Script.{Script, script, script_of_lines}
 use Rattle.channel_world_language.specs.Language.{today}
@@ -11,38 +11,11 @@ use Rattle.channel_world.specs.Output.{AppendsFront, IsText, IsReadEnd, WritesTe
 use Rattle.channel_world.specs.declared.script.end.ScriptEnd.{ScriptEnd}
 use Rattle.channel_world.specs.declared.script.end.ScriptEnd.TheVariants.{Done, Unreadable, Capacity, Memory, Fault}
 
-pub consumes_none : (known : Option (List ℕ)) → Consumes known known []
-consumes_none None = tt
-consumes_none (Some xs) = refl
-
-pub consumes_more : (a b c : Option (List ℕ)) (xs ys : List ℕ) → Consumes a b xs → Consumes b c ys → Consumes a c (xs ++ ys)
-consumes_more None b c xs ys h k = tt
-consumes_more (Some ks) None c xs ys h k = absurd h
-consumes_more (Some ks) (Some bs) None xs ys h k = absurd k
-consumes_more (Some ks) (Some bs) (Some cs) xs ys h k = h ∙ (ap (λ zs. xs ++ zs) k ∙ sym (append_assoc xs ys cs))
-
--- what was consumed before the end is all
-pub consumes_all : (a b c : Option (List ℕ)) (xs : List ℕ) → Consumes a b xs → Consumes b c [] → IsAtEnd c → IfSome a (λ known. xs ≡ known)
-consumes_all None b c xs h k e = tt
-consumes_all (Some ks) None c xs h k e = absurd h
-consumes_all (Some ks) (Some bs) None xs h k e = absurd k
-consumes_all (Some ks) (Some bs) (Some cs) xs h k e = sym (h ∙ (ap (λ zs. xs ++ zs) (k ∙ e) ∙ append-nil xs))
-
-pub appends_none : (known : Option (List ℕ)) → Appends known known []
-appends_none None = tt
-appends_none (Some xs) = sym (append-nil xs)
-
 pub appends_more : (a b c : Option (List ℕ)) (xs ys : List ℕ) → Appends a b xs → Appends b c ys → Appends a c (xs ++ ys)
 appends_more None b c xs ys h k = tt
 appends_more (Some ks) None c xs ys h k = absurd h
 appends_more (Some ks) (Some bs) None xs ys h k = absurd k
 appends_more (Some ks) (Some bs) (Some cs) xs ys h k = k ∙ (ap (λ zs. zs ++ ys) h ∙ append_assoc ks xs ys)
-
-pub appends_kept : (a b c : Option (List ℕ)) (xs : List ℕ) → Appends a b xs → Keeps b c → Appends a c xs
-appends_kept None b c xs h k = tt
-appends_kept (Some ks) None c xs h k = absurd h
-appends_kept (Some ks) (Some bs) None xs h k = absurd k
-appends_kept (Some ks) (Some bs) (Some cs) xs h k = k ∙ h
 
 -- a front of the text was written, and this is left of it
 pub record IsWritten (old new : Option (List ℕ)) (text rest : List ℕ) : Type 0 where
@@ -50,28 +23,12 @@ pub record IsWritten (old new : Option (List ℕ)) (text rest : List ℕ) : Type
   pub appends : Appends old new out
   pub parts : text ≡ out ++ rest
 
-pub nothing_written : (known : Option (List ℕ)) (text : List ℕ) → IsWritten known known text text
-nothing_written known text = record { out = []; appends = appends_none known; parts = refl }
-
 pub more_written : {a b c : Option (List ℕ)} {text rest : List ℕ} (n : ℕ) → IsWritten a b text rest → Appends b c (take n rest) → IsWritten a c text (take (length rest - n) (drop n rest))
 more_written {a} {b} {c} {text} {rest} n w k = record {
   out = w.out ++ take n rest;
   appends = appends_more a b c w.out (take n rest) w.appends k;
   parts = w.parts ∙ (ap (λ zs. w.out ++ zs) (sym (take-append-drop n rest)) ∙ (sym (append_assoc w.out (take n rest) (drop n rest)) ∙ ap (λ zs. (w.out ++ take n rest) ++ zs) (sym (take_all (length rest - n) (drop n rest) (omega (arith, length-drop n rest))))));
 }
-
-pub front_written : {a b : Option (List ℕ)} {text rest : List ℕ} → IsWritten a b text rest → AppendsFront a b text
-front_written {a} {b} {text} {rest} w = (w.out, w.appends, (rest, w.parts))
-
-pub front_kept : {a b : Option (List ℕ)} {text rest : List ℕ} (c : Option (List ℕ)) → IsWritten a b text rest → Keeps b c → AppendsFront a c text
-front_kept {a} {b} {text} {rest} c w k = (w.out, appends_kept a b c w.out w.appends k, (rest, w.parts))
-
-empty : (xs : List ℕ) → length xs ≡ 0 → xs ≡ []
-empty [] e = refl
-empty (x ∷ xs) e = absurd (omega arith)
-
-pub all_written : {a b : Option (List ℕ)} {text rest : List ℕ} → IsWritten a b text rest → length rest ≡ 0 → Appends a b text
-all_written {a} {b} {text} {rest} w e = subst (λ (t : List ℕ). Appends a b t) (sym (w.parts ∙ (ap (λ zs. w.out ++ zs) (empty rest e) ∙ append-nil w.out))) w.appends
 
 pub text_of_lines-append : (a b : List (List ℕ)) → text_of_lines (a ++ b) ≡ text_of_lines a ++ text_of_lines b
 text_of_lines-append [] b = refl
@@ -94,9 +51,6 @@ is_text_unread input Capacity h = absurd h
 
 pub appends_two : (a b c : Option (List ℕ)) (xs ys : List ℕ) → Appends a b xs → AppendsFront b c ys → AppendsFront a c (xs ++ ys)
 appends_two a b c xs ys h k = (xs ++ k.0, appends_more a b c xs k.0 h k.1, (k.2.0, ap (λ zs. xs ++ zs) k.2.1 ∙ sym (append_assoc xs k.0 k.2.0)))
-
-pub front_of_first : (a b : Option (List ℕ)) (xs ys : List ℕ) → AppendsFront a b xs → AppendsFront a b (xs ++ ys)
-front_of_first a b xs ys k = (k.0, k.1, (k.2.0 ++ ys, ap (λ zs. zs ++ ys) k.2.1 ∙ append_assoc k.0 k.2.0 ys))
 
 short_script : (input : List ℕ) → length input ≤ 16777216 → script_of_lines today (lines_of input) ≡ script input
 short_script input h = let fits : nat_lt 16777216 (length input) ≡ false = grind (arith, nat_tests) in rw fits refl

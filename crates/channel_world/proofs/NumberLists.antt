@@ -90,11 +90,6 @@ module _ {X : Type 0} (test : Option X → Bool) (name : ℕ → Waiter) where
           ]
     ]
 
-    -- under a name that no entry has nothing is looked up
-    gone : (n : ℕ) (es : Directory X) → AllByRecursion (λ m. nat_eq n m ≡ false) (keys_of es) → at n es ≡ None
-    gone n [] h = refl
-    gone n (e ∷ es) h = rw h.0 (gone n es h.1)
-
     none_behind : (n : ℕ) (es : Directory X) → AllByRecursion (λ m. nat_eq n m ≡ false) (keys_of es) → times (name n) (named es) ≡ 0
     none_behind n [] h = refl
     none_behind n (e ∷ es) h = elim (decided (test e.1)) [

@@ -1,6 +1,6 @@
 -- The names that a command uses, and those that its call uses: a call of a world is refused for an unknown name where a name of its
 -- command was given to what lives no more. So each name is looked for once.
-use Rattle.std.proofs.Common.{◌≡◌, ℕ, [], ◌∷◌, Bool, true, false, not, ◌&&◌, if◌then◌else◌, Option, None, Some, Ok, Err, is_some, option_and_then, refl, ◌∙◌}
+use Rattle.std.proofs.Common.{◌≡◌, ℕ, [], ◌∷◌, Bool, true, false, ◌&&◌, Option, None, Some, Ok, Err, is_some, option_and_then, refl, ◌∙◌}
 use Rattle.std.specs.List.{list_all}
 use Rattle.std.specs.Option.{option_map, option_map_or}
 use Rattle.channel_world_model.specs.Names.{Names, at}
@@ -135,7 +135,3 @@ module _ (scene : ScriptScene) (command : Command) where
   pub nothing_refuses : (c : Call ℕ) → Some c ≡ call_of scene.table command → refusal scene.state c ≡ None
       → is_given_before scene.table command ≡ false → checked scene command ≡ Ok c
   nothing_refuses c e fine new = checked_by_call c e ∙ rw (fine, new) refl
-
-  pub is_uncalled : call_of scene.table command ≡ None
-      → checked scene command ≡ (if not (list_all (is_known scene.state.names scene.table) (used command)) then Err why.UnknownName else Err why.WrongKind)
-  is_uncalled e = rw e refl

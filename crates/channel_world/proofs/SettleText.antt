@@ -1,9 +1,9 @@
 -- The text of a settling; and that where no growth was refused, settling is what the definitions compute.
-use Rattle.std.proofs.Common.{arith, ◌≡◌, ◌≤◌, ◌+◌, ◌*◌, ◌/◌, ◌||◌, ℕ, zero, suc, List, [], ◌∷◌, ◌++◌, take, length, Bool, true, false, Some, slice_get, codes, refl, sym, ap, subst, ◌∙◌, append_assoc, append-nil}
-use Rattle.std.proofs.lemmas.List.{length-map, map-append}
+use Rattle.std.proofs.Common.{arith, ◌≡◌, ◌≤◌, ◌+◌, ◌*◌, ◌/◌, ◌||◌, ℕ, zero, suc, List, [], ◌∷◌, ◌++◌, length, Bool, true, false, slice_get, codes, refl, sym, ap, subst, ◌∙◌}
+use Rattle.std.proofs.lemmas.List.{length-map}
 use Rattle.std.specs.Fmt.{decimal}
 use Rattle.std.specs.Option.{option_map_or}
-use Rattle.std.specs.List.{flat_map, list_any}
+use Rattle.std.specs.List.{list_any}
 use Rattle.channel_calls.specs.declared.reply.Reply.{Reply}
 use Rattle.channel_world_model.specs.Answer.{Answer, answer}
 use Rattle.channel_world_model.specs.Settling.{poll_of, Settles, pending_count}
@@ -12,61 +12,14 @@ use Rattle.channel_world_model.specs.declared.name.Waiter.{Waiter}
 use Rattle.channel_world.specs.Script.{ScriptScene, Obeyed, settled, settles, waiting_count}
 use Rattle.channel_world.specs.Settled.{polls_in}
 use Rattle.channel_world_language.specs.Table.{Table}
-use Rattle.channel_world_language.specs.Text.{poll_text, parted, settle_text, part_before, wants_growth}
+use Rattle.channel_world_language.specs.Text.{parted, settle_text, wants_growth}
 use Rattle.channel_world.specs.Settled.{AreAmple}
 use Rattle.channel_world.specs.declared.settle.Settled.{Settled}
 use Rattle.channel_world.proofs.GrowthLemmas.{is_ample}
 
 -- ---- lists
 
-take_more : {A : Type 0} (xs : List A) (k : ℕ) (x : A) → slice_get xs k ≡ Some x → take (suc k) xs ≡ take k xs ++ x ∷ []
-take_more [] k x e = cc e
-take_more (y ∷ ys) zero x e = let same : y ≡ x = cc e in ap (λ z. z ∷ []) same
-take_more (y ∷ ys) (suc k) x e = ap (λ zs. y ∷ zs) (take_more ys k x e)
-
-taken : {A : Type 0} (xs : List A) (k : ℕ) (x : A) → slice_get xs k ≡ Some x → length (take k xs) ≡ k
-taken [] k x e = cc e
-taken (y ∷ ys) zero x e = refl
-taken (y ∷ ys) (suc k) x e = ap (λ n. suc n) (taken ys k x e)
-
-flat_more : {A B : Type 0} (f : A → List B) (xs : List A) (x : A) → flat_map f (xs ++ x ∷ []) ≡ flat_map f xs ++ f x
-flat_more f [] x = append-nil (f x)
-flat_more f (y ∷ ys) x = ap (λ zs. f y ++ zs) (flat_more f ys x) ∙ sym (append_assoc (f y) (flat_map f ys) (f x))
-
-any_more : {A : Type 0} (p : A → Bool) (xs : List A) (x : A) → list_any p xs ≡ false → p x ≡ false → list_any p (xs ++ x ∷ []) ≡ false
-any_more p [] x h e = rw e refl
-any_more p (y ∷ ys) x h e = by (λ k. any_more p ys x k e) (p y) h
-  where
-    by : (list_any p ys ≡ false → list_any p (ys ++ x ∷ []) ≡ false) → (b : Bool) → (b || list_any p ys) ≡ false → (b || list_any p (ys ++ x ∷ [])) ≡ false
-    by on true i = i
-    by on false i = on i
-
 -- ---- the text
-
-parted_more : (table : Table) (ps : List (Waiter × Reply ℕ)) (p : Waiter × Reply ℕ)
-    → parted table (ps ++ p ∷ []) ≡ parted table ps ++ (part_before (length ps) ++ poll_text table p)
-parted_more table [] p = ap (λ zs. codes ": " ++ zs) (append-nil (poll_text table p))
-parted_more table (q ∷ qs) p =
-    let each : Waiter × Reply ℕ → List ℕ = λ y. codes ", " ++ poll_text table y in
-    ap (λ zs. codes ": " ++ (poll_text table q ++ zs)) (flat_more each qs p)
-    ∙ sym (append_assoc (codes ": ") (poll_text table q ++ flat_map each qs) (each p) ∙ ap (λ zs. codes ": " ++ zs) (append_assoc (poll_text table q) (flat_map each qs) (each p)))
-
--- one more poll is written
-pub written_more : (table : Table) (polls : List (Settled ℕ)) (k : ℕ) (p : Settled ℕ) → slice_get polls k ≡ Some p
-    → parted table (polls_in (take (suc k) polls)) ≡ parted table (polls_in (take k polls)) ++ (part_before k ++ poll_text table (p.name, p.reply))
-written_more table polls k p e =
-    let f : Settled ℕ → Waiter × Reply ℕ = λ q. (q.name, q.reply) in
-    let count : length (polls_in (take k polls)) ≡ k = length-map (take k polls) f ∙ taken polls k p e in
-    ap (λ ps. parted table (polls_in ps)) (take_more polls k p e)
-    ∙ (ap (λ ps. parted table ps) (map-append f (take k polls) (p ∷ []))
-    ∙ (parted_more table (polls_in (take k polls)) (f p)
-    ∙ ap (λ n. parted table (polls_in (take k polls)) ++ (part_before n ++ poll_text table (f p))) count))
-
-pub ample_more : (polls : List (Settled ℕ)) (k : ℕ) (p : Settled ℕ) → slice_get polls k ≡ Some p → AreAmple (take k polls)
-    → wants_growth p.reply ≡ false → AreAmple (take (suc k) polls)
-ample_more polls k p e h w =
-    subst (λ (ps : List (Settled ℕ)). AreAmple ps) (sym (take_more polls k p e))
-    (any_more (λ (q : Settled ℕ). wants_growth q.reply) (take k polls) p h w)
 
 pub written : (table : Table) (polls : List (Settled ℕ))
     → codes "polls " ++ decimal (length polls) ++ parted table (polls_in polls) ≡ settle_text table (polls_in polls)

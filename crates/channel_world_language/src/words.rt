@@ -3,7 +3,7 @@ ghost use Rattle.std.specs.Prelude.{◌≡◌, ◌<◌, ◌∷◌, [], length, M
 ghost use Rattle.std.specs.Char.{is_ascii_digit};
 ghost use Rattle.std.specs.List.{list_all};
 ghost use Rattle.std.specs.Option.{option_map};
-ghost use Rattle.channel_world_language.specs.Words.{lines_of, words_of, words_after, number_of, name_of, is_name_byte, is_name, is_plain_decimal, first_name, first_number};
+ghost use Rattle.channel_world_language.specs.Words.{lines_of, words_of, words_after, number_of, is_name_byte, is_name, is_plain_decimal, first_name, first_number};
 
 /// The first place of a byte.
 fn place_of(byte: u8, text: &[u8]) -> Option<usize>

@@ -1,11 +1,8 @@
 -- What layers above may use: of a channel with no call under way, of what leads on from one configuration to another, how few steps
 -- are left to the calls under way, that each party has one call, and what is owed to those who are pending, and
 -- that only sends bring messages.
-use Rattle.std.proofs.Common.{◌≡◌, false, true, List, [], ◌∷◌, ◌++◌, None, subst}
+use Rattle.std.proofs.Common.{◌≡◌, false, List, [], ◌∷◌, ◌++◌, None, subst}
 use Rattle.channel_calls.specs.declared.reply.Reply.{Reply}
-use Rattle.channel_calls.specs.declared.stage.WaitList.TheVariants.{Sends}
-use Rattle.channel_world_model.specs.Laws.{is_line, line_at}
-use Rattle.channel_world_model.specs.Settling.{poll_of}
 use Rattle.channel_world_model.specs.declared.call.Call.{Call}
 use Rattle.channel_world_model.specs.declared.name.Waiter.{Waiter}
 use Rattle.channel_steps.specs.Answers.{asks_first}
@@ -15,10 +12,7 @@ use Rattle.channel_world_runs.specs.WorldInvariant.{WorldInvariant, AllTry, Name
 use Rattle.channel_world_runs.specs.Left.{calls_of_others}
 use Rattle.channel_world_runs.specs.Owed.{Owed}
 use Rattle.channel_world_runs.specs.Owners.{All, status}
-use Rattle.channel_world_runs.specs.Positions.{brings}
 use Rattle.channel_world_runs.specs.Refusal.{step_refusal}
-use Rattle.channel_world_runs.specs.NameTable.{names_of}
-use Rattle.channel_world_runs.specs.declared.name_table.NameTable.{NameTable}
 use Rattle.channel_world_runs.specs.Run.{NameState}
 use Rattle.channel_world_runs.specs.Runs.{Moment, FewLeft, LeadsBy, RanTo, moment_of}
 use Rattle.channel_world_runs.specs.ObservationAt.{observation_at}
@@ -34,7 +28,6 @@ use Rattle.channel_world_runs.proofs.LeftFacts as left_facts
 use Rattle.channel_world_runs.proofs.LoneFacts as facts
 use Rattle.channel_world_runs.proofs.OwnerRuns.{idle_and_free}
 use Rattle.channel_world_runs.proofs.OwnerTogether.{all_right}
-use Rattle.channel_world_runs.proofs.PlaceFacts as place_facts
 use Rattle.channel_world_runs.proofs.ObservationFacts as observation_facts
 use Rattle.channel_world_runs.proofs.ReachesFacts as reaches_facts
 use Rattle.channel_world_runs.proofs.ReachesFacts.{no_way, ways_on}
@@ -53,10 +46,6 @@ module _ {T : Type 0} where
       → asks_first u.ask ≡ false
   tries_at b s before u behind kept there =
       (all_right (λ (v : ActiveCall T Waiter). asks_first v.ask ≡ false) before (u ∷ behind) (subst AllTry there kept.tries)).0
-
-  -- a poll that may bring a message is that of a send
-  pub only_sends_bring : (r : NameTable T) (w : Waiter) → brings r (poll_of w) ≡ true → is_line Sends (line_at (names_of r) w) ≡ true
-  only_sends_bring r w e = place_facts.only_sends_bring r w e
 
   -- nothing done leads on
   pub leads_nowhere : (f : WorldState T) → LeadsOn f [] f

@@ -160,19 +160,6 @@ module _ (T W : Type 0) where
   taken x at (Works w) (Some z) s has d h k = absurd (let no : Some z ≡ None = h.0 in cc)
   taken x at (Ends y kept) None s has d h k = absurd (let no : None ≡ Some y = h.0 in cc)
 
-  no_task : (h : Option ListenerRef) (o : Option W) (t : NextStep T W) → Has T W h None t → Has T W h o t
-  no_task h o (Tries a y) k = (k.0, fewer k.1)
-    where
-      fewer : {u : Option W} → MayBear u None → MayBear u o
-      fewer (inl e) = inl e
-      fewer (inr e) = inl e
-  no_task h o (Works w) k = (k.0, fewer k.1)
-    where
-      fewer : {u : Option W} → MayBear u None → MayBear u o
-      fewer (inl e) = inl e
-      fewer (inr e) = inl e
-  no_task h o (Ends y kept) k = k
-
   -- ---- the stages
 
   module _ (x : ChannelAsk T W) (c : Channel T W) where

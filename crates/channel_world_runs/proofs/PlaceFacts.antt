@@ -21,9 +21,6 @@ use Rattle.channel_calls.specs.declared.stage.WaitList.TheVariants.{Sends, Recei
 use Rattle.channel_calls.specs.declared.stage.Waiting.{Waiting}
 use Rattle.channel_calls.specs.declared.stage.Waiting.TheVariants as waiting
 use Rattle.channel_world_model.specs.Asked.{poll_asked}
-use Rattle.channel_world_model.specs.Laws.{is_line, line_of_operation}
-use Rattle.channel_world_model.specs.Laws as laws
-use Rattle.channel_world_model.specs.Settling.{poll_of}
 use Rattle.channel_world_model.specs.Names.{at, own_message}
 use Rattle.channel_world_model.specs.declared.call.Call.{Call}
 use Rattle.channel_world_model.specs.declared.call.Call.TheVariants as call
@@ -77,22 +74,6 @@ module _ {T : Type 0} where
   no_message r (call.TryClone handle new) e = of_cloned BringsNone refl (λ side. refl) (at handle.0 (names_of r).handles)
   no_message r (call.Upgrade weak new) e = of_upgraded BringsNone refl (λ side. refl) (at weak.0 (names_of r).handles)
   no_message r c e = refl
-
-  -- a poll that may bring one is that of a send
-  pub only_sends_bring : (r : NameTable T) (w : Waiter) → brings r (poll_of w) ≡ true → is_line Sends (laws.line_at (names_of r) w) ≡ true
-  only_sends_bring r (Stream receiver) e = absurd (let no : false ≡ true = e in cc)
-  only_sends_bring r (Op op) e =
-      ap (λ (o : Option (Operation T)). is_line Sends (line_of_operation o)) (refusals.operation_at r op.0)
-      ∙ by (at op.0 r.operations) e
-    where
-      brings_one : (x : Operation T) → is_some (own_message x) ≡ true → is_line Sends (line_of_operation (Some x)) ≡ true
-      brings_one (live.Send h (Some m)) has = refl
-      brings_one x has = absurd (let no : false ≡ true = has in cc)
-
-      by : (o : Option (OperationEntry T)) → option_map_or (λ (x : OperationEntry T). is_some (own_message x.operation)) o false ≡ true
-          → is_line Sends (line_of_operation (option_map (λ (x : OperationEntry T). x.operation) o)) ≡ true
-      by None has = absurd (let no : false ≡ true = has in cc)
-      by (Some x) has = brings_one x.operation has
 
   -- ---- what a call made alone brings in, its reply says
 

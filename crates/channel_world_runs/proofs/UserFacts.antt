@@ -131,12 +131,6 @@ set_length n (f ∷ d) v = set_length_at (nat_eq n f.0) n f d v (set_length n d 
 one_there : (handle : HandleId) → one handle.0 handle ≡ 1
 one_there handle = ap (λ (t : Bool). cond t 1 0) (own_number handle.0)
 
-one_most : (name : ℕ) (handle : HandleId) → one name handle ≤ 1
-one_most name handle = by (nat_eq name handle.0) where
-  by : (t : Bool) → cond t 1 0 ≤ 1
-  by true = omega arith
-  by false = omega arith
-
 one_other : (name : ℕ) (handle : HandleId) → (name ≡ handle.0 → ⊥) → one name handle ≡ 0
 one_other name handle f = by (nat_eq name handle.0) refl where
   by : (t : Bool) → nat_eq name handle.0 ≡ t → (let n : ℕ = cond t 1 0 in n ≡ 0)

@@ -23,4 +23,3 @@ pub mod Dropping
 pub mod NewOperations
 pub mod Calls
 pub mod Opening
-pub mod Interface

@@ -28,7 +28,7 @@ pub struct Activity {
 
 impl Activity {
     ghost use Rattle.std.specs.Prelude.{◌≡◌};
-    ghost use Rattle.channel_world_runs.specs.Activity.{role_of, activity_begun, activity_after};
+    ghost use Rattle.channel_world_runs.specs.Activity.{activity_begun, activity_after};
 
     /// A call that has made no step.
     pub(crate) fn begun<T, W>(ask: &ChannelAsk<T, W>) -> Activity

@@ -16,7 +16,7 @@ pub struct NameTable<T> {
 }
 
 impl<T> NameTable<T> {
-    ghost use Rattle.std.specs.Prelude.{◌≡◌, [], IfOk};
+    ghost use Rattle.std.specs.Prelude.{◌≡◌, IfOk};
     ghost use Rattle.channel_world_runs.specs.NameTable.{first_name_table, with_lent, with_given_back, with_handed_over, with_poll_state};
 
     /// The first sender and the first receiver, and no operations.

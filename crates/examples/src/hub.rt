@@ -1,5 +1,5 @@
-//! A hub that sends each message to all who listen. It keeps weak senders, so that a listener which goes takes its channel with it,
-//! and the hub forgets it at the next message.
+//! A hub that sends each message to all who listen. It keeps weak senders, so that a listener which goes closes its channel, and the hub
+//! forgets it at the next message.
 
 use async_channel::{Receiver, Sender, WeakSender, unbounded};
 use event_listener::id::EventIds;
@@ -30,16 +30,20 @@ impl<R: Wait + Copy> Hub<R> {
         })
     }
 
-    /// Sends a message to all who are still there, and says how many they were.
-    fn send_all(&self, message: u64) -> u64 {
+    /// Sends a message to all who are still there, forgets those who went, and says how many it reached.
+    fn send_all(&mut self, message: u64) -> u64 {
         let mut reached = 0u64;
-        for weak in &self.listeners {
-            if let Ok(Some(sender)) = weak.upgrade() {
+        self.listeners.retain(|weak| match weak.upgrade() {
+            Ok(Some(sender)) => {
                 if sender.try_send(message).is_ok() {
                     reached = reached.wrapping_add(1);
                 }
+                true
             }
-        }
+            Ok(None) => false,
+            // Too many handles, or no memory for one more: it is there, and is asked again at the next message.
+            Err(_) => true,
+        });
         reached
     }
 }
@@ -54,7 +58,9 @@ pub(crate) fn reached<R: Wait + Copy>(rt: R, alloc: Global, ids: &mut EventIds) 
     let both = hub.send_all(1);
     drop(goes);
     let one = hub.send_all(2);
-    let kept = stays.messages.len() == 2 && !stays.keeps_open.is_closed();
+    let kept = stays.messages.len() == 2
+        && !stays.keeps_open.is_closed()
+        && hub.listeners.len() == 1;
     if kept {
         Some(both.wrapping_mul(10).wrapping_add(one))
     } else {

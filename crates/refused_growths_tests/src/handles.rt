@@ -3,6 +3,7 @@
 use crate::checks::{expect_equal, expect_seen, expect_true};
 use crate::scarcity::{Attempt, Scarcity, Seen, Tried, made, refused};
 use async_channel::{Closed, OpenError, Receiver, Recv, Refused, Send, Sender, bounded, unbounded};
+use channel_test_helpers::{Ends, opened};
 use event_listener::error::ListenError;
 use event_listener::id::EventIds;
 use futures::Stream;
@@ -10,19 +11,6 @@ use futures::task::Poll;
 use futures::test::MockTask;
 use std::alloc::Global;
 use std::sync::Wait;
-
-/// The first two handles of a channel.
-type Ends<R> = (Sender<u64, R>, Receiver<u64, R>);
-
-/// A channel that holds so many messages at most, or any number where that is 0.
-fn opened<R: Wait + Copy>(rt: R, alloc: Global, capacity: usize) -> Option<Ends<R>> {
-    let mut ids = EventIds::new();
-    if capacity == 0 {
-        unbounded(rt, alloc, &mut ids).ok()
-    } else {
-        bounded(rt, alloc, capacity, &mut ids).ok()
-    }
-}
 
 /// The opening of a channel with so many places, or without a bound where that is 0.
 #[derive(Drop)]

@@ -3,11 +3,11 @@
 ghost use Rattle.std.specs.Prelude.{◌<◌};
 
 use crate::checks::{expect_right, expect_seen, expect_true};
-use crate::scarcity::{Attempt, Scarcity, Seen, Tried, made, refused};
+use crate::scarcity::{Attempt, Scarcity, Seen, Tried, is_out_of_memory, made, refused};
 use concurrent_queue::error::{ForcePushError, NoMemory, PopError, PushError};
 use concurrent_queue::exclusive::Exclusive;
 use concurrent_queue::shared::queue::ConcurrentQueue;
-use std::alloc::{AllocError, Global};
+use std::alloc::Global;
 use std::sync::Wait;
 
 /// How many messages are pushed: as many as need four blocks of a shared queue.
@@ -105,17 +105,11 @@ impl Passing {
         let is_in = self.queue.push(message) == Ok(());
         is_in & (self.queue.pop() == Ok(message))
     }
-
-    /// Whether the process gets no byte more.
-    fn is_out_of_memory(&self) -> bool {
-        let byte: Result<Vec<u8>, AllocError> = Vec::with_capacity(self.alloc, 1);
-        byte.is_err()
-    }
 }
 
 impl Attempt for Passing {
     fn make(&mut self) -> Tried {
-        made(self.is_out_of_memory() && self.pass() && self.is_out_of_memory())
+        made(is_out_of_memory(self.alloc) && self.pass() && is_out_of_memory(self.alloc))
     }
 }
 

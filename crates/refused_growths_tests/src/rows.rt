@@ -3,13 +3,13 @@
 //! send without a bound. Whatever is refused, the row answers as it always does.
 
 use crate::checks::{expect_equal, expect_true};
-use crate::scarcity::{Scarcity, Seen};
+use crate::scarcity::{Scarcity, Seen, is_out_of_memory};
 use async_channel::{
     Closed, Receiver, Recv, RecvError, Refused, Send, SendError, Sender, TryRecvError, TrySendError,
 };
 use channel_test_helpers::{Said, closes, opened, receives, sends, streams};
 use futures::test::MockTask;
-use std::alloc::{AllocError, Global};
+use std::alloc::Global;
 use std::mem;
 use std::sync::Wait;
 
@@ -574,17 +574,11 @@ impl<'t, R: Wait + Copy> Place<'t, R> {
             } else {
                 self.scarcity.relent();
             }
-            if is_refused && !self.is_out_of_memory() || calls.make(*deed) != *answer {
+            if is_refused && !is_out_of_memory(self.alloc) || calls.make(*deed) != *answer {
                 return Some(place);
             }
         }
         None
-    }
-
-    /// Whether the process gets no byte more.
-    fn is_out_of_memory(&self) -> bool {
-        let byte: Result<Vec<u8>, AllocError> = Vec::with_capacity(self.alloc, 1);
-        byte.is_err()
     }
 
     /// Plays a row over a new channel.

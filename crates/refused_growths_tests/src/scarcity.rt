@@ -13,7 +13,7 @@
 //! A process that has started a thread gets memory from more than one heap, and what a hole leaves may stand in another one than the
 //! call asks: the tests start none. `rt try` has an allocator of its own, which doesn't run out so.
 
-use std::alloc::Global;
+use std::alloc::{AllocError, Global};
 
 /// The largest block that is asked for: half of what a process may address.
 const GREATEST: usize = 1 << 46;
@@ -78,6 +78,12 @@ pub fn made(right: bool) -> Tried {
 /// `Tried::Refused` where that is right.
 pub fn refused(right: bool) -> Tried {
     if right { Tried::Refused } else { Tried::Wrong }
+}
+
+/// Whether the process gets no byte more.
+pub fn is_out_of_memory(alloc: Global) -> bool {
+    let byte: Result<Vec<u8>, AllocError> = Vec::with_capacity(alloc, 1);
+    byte.is_err()
 }
 
 /// A call that is made until it isn't refused.

@@ -1,6 +1,6 @@
 //! What stands behind the lock: a world with the record of its calls.
 
-ghost use Rattle.std.specs.Prelude.{◌≡◌, ◌⊎◌, ◌<◌, ◌≤◌, ◌+◌, ◌^◌, ◌∷◌, ◌++◌, [], IfSome, IfNone, IsOk, IfOk, IfErr, OnOk, OnErr, length, vec_len, vec_capacity};
+ghost use Rattle.std.specs.Prelude.{◌≡◌, ◌⊎◌, ◌<◌, ◌≤◌, ◌+◌, ◌^◌, ◌∷◌, ◌++◌, [], IfSome, IsOk, IfOk, IfErr, OnOk, OnErr, length, vec_len, vec_capacity};
 ghost use Rattle.channel_world.specs.Listed.{listed, most_listed};
 ghost use Rattle.channel_world.specs.World.{most_woken};
 ghost use Rattle.channel_world.specs.View.{at_rest};

@@ -1,12 +1,11 @@
 //! Scripts, from bytes to bytes.
-ghost use Rattle.std.specs.Prelude.{◌≡◌, ◌≤◌, ◌<◌, ◌^◌, ◌++◌, ◌∷◌, [], length, Some, None, IfOk, OnOk, OnErr, OnSome, IfSome};
+ghost use Rattle.std.specs.Prelude.{◌≡◌, ◌≤◌, ◌<◌, ◌^◌, ◌++◌, ◌∷◌, [], Some, None, IfOk, OnOk, OnErr, OnSome, IfSome};
 ghost use Rattle.std.specs.Option.{option_map};
 ghost use Rattle.std.specs.Result.{result_unwrap_or};
 ghost use Rattle.channel_world_model.specs.State.{start};
 ghost use Rattle.channel_world_language.specs.Words.{lines_of};
 ghost use Rattle.channel_world_language.specs.Language.{today};
 ghost use Rattle.channel_world_language.specs.Said.{said_line};
-ghost use Rattle.channel_world.specs.Staged.{scene_of};
 ghost use Rattle.channel_world.specs.Script.{readable, ending, first_names, opened, script_of_lines};
 ghost use Rattle.channel_world.specs.Added.{Extends};
 ghost use Rattle.channel_world.specs.View.{at_rest, IsQuiet};

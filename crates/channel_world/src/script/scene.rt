@@ -1,13 +1,10 @@
 //! One command of a script.
-ghost use Rattle.std.specs.Prelude.{◌≡◌, ◌<◌, ◌≤◌, ◌+◌, ◌^◌, ◌∷◌, [], ℕ, length, false, Ok, Err, IfOk, IfErr, OnOk, option_and_then, option_copied};
-ghost use Rattle.std.specs.Option.{option_map, option_to_list};
+ghost use Rattle.std.specs.Prelude.{◌≡◌, ◌<◌, ◌≤◌, ◌+◌, ◌^◌, length, false, Ok, Err, IfOk, IfErr, OnOk};
 ghost use Rattle.std.specs.List.{list_all};
 ghost use Rattle.channel_world_model.specs.Refusal.{refusal};
-ghost use Rattle.channel_world_language.specs.Table.{named_in};
-ghost use Rattle.channel_world_language.specs.Asked.{used, given, lives, is_known, is_given_before, with_given, handle_of, question_call, call_of};
+ghost use Rattle.channel_world_language.specs.Asked.{used, given, lives, is_known, is_given_before, with_given, call_of};
 ghost use Rattle.channel_world.specs.Script.{checked, answered, obeyed, settles};
-ghost use Rattle.channel_world_language.specs.Said.{said, said_line, asked_as};
-ghost use Rattle.channel_world_language.specs.Said.{sort_of, sending_call, making_call, handle_call, op_call};
+ghost use Rattle.channel_world_language.specs.Said.{said, said_line};
 ghost use Rattle.channel_world.specs.Staged.{scene_of};
 ghost use Rattle.channel_world.specs.View.{at_rest, IsQuiet};
 

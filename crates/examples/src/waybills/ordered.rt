@@ -1,7 +1,7 @@
 //! Numbered messages of two senders, through a queue or a channel of which nothing is believed, to one receiver and to two: what each
 //! receiver got of a sender is in that sender's order, and the only one got a beginning of what that sender sent.
 
-ghost use Rattle.std.specs.Prelude.{◌≡◌, ◌<◌, ◌-◌, List, [], ◌∷◌, true, IfOk, IfSome};
+ghost use Rattle.std.specs.Prelude.{◌≡◌, ◌<◌, ◌-◌, [], ◌∷◌, true, IfOk, IfSome};
 ghost use Rattle.waybill.specs.Accounts.{all_parts, fresh, account};
 ghost use Rattle.waybill.specs.Order.{numbered, IsRising, IsGapless, AreBeginnings, AreInOrder};
 ghost use Rattle.waybill.specs.Sides.{sends, takes};

@@ -1,6 +1,6 @@
 //! A pool of workers: jobs come by one channel, results go by another. The results are, in some order, one for each job.
 
-ghost use Rattle.std.specs.Prelude.{◌≡◌, ℕ, ◌-◌, ◌*◌, ◌<◌, [], length, map, IfSome, IsPermutation};
+ghost use Rattle.std.specs.Prelude.{◌≡◌, ◌-◌, ◌*◌, ◌<◌, [], length, IfSome, IsPermutation};
 ghost use Rattle.waybill.specs.Accounts.{all_parts, fresh, account, IsPartOf};
 ghost use Rattle.examples.specs.Pool.{squares};
 

@@ -1,7 +1,7 @@
 //! One thread sends, another receives until the channel is closed: what it received was sent, and each message came once.
 
-ghost use Rattle.std.specs.Prelude.{◌≡◌, ◌<◌, [], take, IfSome};
-ghost use Rattle.waybill.specs.Accounts.{all_parts, fresh, account, IsPartOf};
+ghost use Rattle.std.specs.Prelude.{◌≡◌, ◌<◌, [], IfSome};
+ghost use Rattle.waybill.specs.Accounts.{fresh, account, IsPartOf};
 
 use async_channel::{Receiver, Sender, bounded};
 use event_listener::id::EventIds;
