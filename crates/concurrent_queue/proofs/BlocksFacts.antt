@@ -112,7 +112,7 @@ module _ {T : Type 0} where
         (⊎_elim (λ g. inl (let e = means.stands.removed in omega arith)) (λ g. inr (sym (seats_without l r) ∙ none_left (l ++ r) g)) (quiet.1 means.stands.capacity))
         moved.2))
 
-  mine_of : (chain : List ℕ) (c : Contents T) (q : Queue T) (l r : List (Place (UnboundedCall T) T)) (a : UnboundedCall T) (p : Phase T) (m : UnboundedMeans chain c q (l ++ place a p ∷ r))
+  pub mine_of : (chain : List ℕ) (c : Contents T) (q : Queue T) (l r : List (Place (UnboundedCall T) T)) (a : UnboundedCall T) (p : Phase T) (m : UnboundedMeans chain c q (l ++ place a p ∷ r))
       → BlocksMeans m.0 q (map seat_of l ++ seat_at (act_of a.action) p ∷ map seat_of r)
   mine_of chain c q l r a p m = subst (λ (ps : List (BlocksSeat T)). BlocksMeans m.0 q ps) (seats_with l r (place a p)) m.2
 

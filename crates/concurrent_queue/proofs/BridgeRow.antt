@@ -1,8 +1,8 @@
 -- A push and a pop of one slot, merged.
-use Rattle.std.proofs.Common.{◌≡◌, ℕ, ◌==◌, Bool, true, false, [], ◌∷◌, None, Some, Ok, Err, refl, subst, arith}
+use Rattle.std.proofs.Common.{◌≡◌, ℕ, ◌==◌, Bool, true, false, [], ◌∷◌, take, None, Some, Ok, Err, inl, refl, subst, arith}
 use Rattle.std.proofs.lemmas.Bool.Decides.{nat_tests}
-use Rattle.concurrent_queue.specs.Bridge.{Acts, own, InOneOrder}
-use Rattle.concurrent_queue.specs.BridgeRow.{push_beside_pop, replies_of_two, TwoCallsMerge}
+use Rattle.concurrent_queue.specs.Bridge.{Acts, EventsLead, own, InOneOrder}
+use Rattle.concurrent_queue.specs.BridgeRow.{push_at_slot, led_of_two, pop_waiting, push_beside_pop, replies_of_two, FourEventsLead, TwoCallsMerge}
 use Rattle.concurrent_queue.specs.Contents.{Contents, write_slot}
 use Rattle.concurrent_queue.specs.Made.{new_cells}
 use Rattle.concurrent_queue.specs.machine.Single.{set_state, marks, stays, finishes}
@@ -91,6 +91,27 @@ module _ {T : Type 0} (v : T) where
       ),
     ),
   )
+
+  -- and where the first four have led
+  led : (p : ℕ) (a b : Bool) → (1 == p) ≡ a → (2 == p) ≡ b → EventsLead (Bounded 1) None (own p (take 4 (push_beside_pop v))) (led_of_two v p)
+  led p true b e f =
+      subst (λ (n : ℕ). EventsLead (Bounded 1) None (own n (take 4 (push_beside_pop v))) (led_of_two v n)) (is_same 1 p e)
+      (push_at_slot v, None, (marks (slot.PushPut v) Append, (Ok 0, refl, refl), refl), refl)
+  led p false true e f =
+      subst (λ (n : ℕ). EventsLead (Bounded 1) None (own n (take 4 (push_beside_pop v))) (led_of_two v n)) (is_same 2 p f)
+      (pop_waiting v, None, (stays (slot.Pop 2), (Err 3, refl, refl), refl), refl)
+  led p false false e f = rw (e, f) refl
+
+pub four_events_lead : {T : Type 0} → FourEventsLead T
+four_events_lead v = (
+  record {
+    has = (omega arith, omega arith);
+    lasts = inl refl;
+    led = λ p. led v p (1 == p) (2 == p) refl refl;
+    order = (new v, refl, (new v, refl, (set_state (new v) 3, (refl, refl, refl), (set_state (new v) 3, (refl, λ e. absurd cc, refl), refl))));
+  },
+  refl,
+)
 
 pub two_calls_merge : {T : Type 0} → TwoCallsMerge T
 two_calls_merge v = (λ p. each v p (1 == p) (2 == p) refl refl, in_turn v)

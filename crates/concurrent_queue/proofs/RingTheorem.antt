@@ -51,7 +51,7 @@ pub record CutAt {A B : Type 0} (f : A → B) (l r : List B) (x : B) (xs : List 
   pub is : x ≡ f mine
   pub rights : r ≡ map f right
 
-cut_at : {A B : Type 0} (f : A → B) (l r : List B) (x : B) (xs : List A) → l ++ x ∷ r ≡ map f xs → CutAt f l r x xs
+pub cut_at : {A B : Type 0} (f : A → B) (l r : List B) (x : B) (xs : List A) → l ++ x ∷ r ≡ map f xs → CutAt f l r x xs
 cut_at f [] r x [] e = absurd cc
 cut_at f [] r x (y ∷ ys) e = record { left = []; mine = y; right = ys; there = refl; lefts = refl; is = cc; rights = cc }
 cut_at f (z ∷ l) r x [] e = absurd cc
@@ -61,7 +61,7 @@ cut_at f (z ∷ l) r x (y ∷ ys) e =
     let g = cut_at f l r x ys t in
     record { left = y ∷ g.left; mine = g.mine; right = g.right; there = ap (λ zs. y ∷ zs) g.there; lefts = (let i = g.lefts in cc); is = g.is; rights = g.rights }
 
-map_joined : {A B : Type 0} (f : A → B) (xs ys : List A) → map f (xs ++ ys) ≡ map f xs ++ map f ys
+pub map_joined : {A B : Type 0} (f : A → B) (xs ys : List A) → map f (xs ++ ys) ≡ map f xs ++ map f ys
 map_joined f [] ys = refl
 map_joined f (x ∷ xs) ys = ap (λ zs. f x ∷ zs) (map_joined f xs ys)
 

@@ -48,7 +48,7 @@ pub each_last : {X : Type 0} (P : X → Type 0) (xs ys : List X) → Each P (xs 
 each_last P [] ys h = h
 each_last P (x ∷ xs) ys h = each_last P xs ys h.1
 
-map_join : {A B : Type 0} (f : A → B) (xs ys : List A) → map f (xs ++ ys) ≡ map f xs ++ map f ys
+pub map_join : {A B : Type 0} (f : A → B) (xs ys : List A) → map f (xs ++ ys) ≡ map f xs ++ map f ys
 map_join f [] ys = refl
 map_join f (x ∷ xs) ys = ap (λ zs. f x ∷ zs) (map_join f xs ys)
 

@@ -6,7 +6,11 @@ use Rattle.concurrent_queue.specs.Contents.{Contents}
 use Rattle.concurrent_queue.specs.Deeds.{Deed}
 use Rattle.concurrent_queue.specs.Effects.{Does}
 use Rattle.concurrent_queue.specs.Made.{new_cells}
-use Rattle.concurrent_queue.specs.Run.{IsCounted, RanTo}
+use Rattle.concurrent_queue.specs.Parties.{call_under, id_of, under_way_of}
+use Rattle.concurrent_queue.specs.Queue.{Phase}
+use Rattle.concurrent_queue.specs.Run.{Config, IsCounted, RanTo}
+use Rattle.concurrent_queue.specs.Scene.{CallUnderWay}
+use Rattle.concurrent_queue.specs.Step.{ActiveQueueCall, seat, FitsAt}
 use Rattle.concurrent_queue.specs.Walked.{CallMakes, WalkedAsking}
 use Rattle.concurrent_queue.specs.declared.call.QueueAsk.{QueueAsk}
 use Rattle.concurrent_queue.specs.declared.call.QueueEntry.{QueueEntry}
@@ -16,6 +20,7 @@ use Rattle.concurrent_queue.specs.declared.cells.QueueForm.{QueueForm}
 use Rattle.concurrent_queue.specs.declared.cells.QueueForm.TheVariants.{Bounded, Unbounded}
 use Rattle.concurrent_queue.specs.declared.queue_call.CallState.TheVariants.{Asked}
 use Rattle.concurrent_queue.specs.declared.queue_call.QueueCall.{QueueCall}
+use Rattle.concurrent_queue.specs.declared.run.Party.{Party}
 use Rattle.concurrent_queue.specs.declared.run.QueueStep.{QueueStep}
 use Rattle.concurrent_queue.specs.declared.run.QueueStep.TheVariants.{Begin, Step}
 
@@ -28,6 +33,11 @@ pub data Event (T : Type 0) : Type 0 where
 pub record Happening (T : Type 0) : Type 0 where
   pub party : ℕ
   pub event : Event T
+
+-- a party's call under way, and how far it has come
+pub record Caller (T : Type 0) : Type 0 where
+  pub party : Party T
+  pub phase : Phase T
 
 module _ {T : Type 0} where
   -- ---- what is asked of each party
@@ -48,6 +58,19 @@ module _ {T : Type 0} where
       (next : QueueCall T) × (answer : Option (QueueReply T)) × CallMakes Notes form None call o next answer
       × MatchOption answer (Acts form (Some next) xs replies) (λ r. (more : List (QueueReply T)) × (replies ≡ r ∷ more) × Acts form None xs more)
   Acts form at xs replies = ⊥
+
+  -- the call that a step leaves under way: none, once it has replied
+  abbrev pub left_under_way : QueueCall T → Option (QueueReply T) → Option (QueueCall T)
+  left_under_way next None = Some next
+  left_under_way next (Some r) = None
+
+  -- these events of a party lead its machine from the one call to the other, or from or to none
+  abbrev pub EventsLead : QueueForm → Option (QueueCall T) → List (Event T) → Option (QueueCall T) → Type 0
+  EventsLead form at [] to = to ≡ at
+  EventsLead form None (begins a ∷ xs) to = EventsLead form (Some (asking a)) xs to
+  EventsLead form (Some call) (does o ∷ xs) to =
+      (next : QueueCall T) × (answer : Option (QueueReply T)) × CallMakes Notes form None call o next answer × EventsLead form (left_under_way next answer) xs to
+  EventsLead form at xs to = ⊥
 
   -- the events of one party, in their order
   abbrev pub own : ℕ → List (Happening T) → List (Event T)
@@ -81,13 +104,36 @@ module _ {T : Type 0} where
   replies_to p (x ∷ xs) (e ∷ es) = if x.party == p then option_to_list e.reply ++ replies_to p xs es else replies_to p xs es
   replies_to p _ _ = []
 
+  abbrev pub caller_party : Caller T → Party T
+  caller_party x = x.party
+
+  abbrev pub caller_seat : Caller T → ActiveQueueCall T
+  caller_seat x = seat x.party.call x.phase
+
+  -- whose a call is, and what it asks
+  abbrev pub asked_by : Caller T → ℕ × QueueAsk T
+  asked_by x = (x.party.id, x.phase.ask)
+
+  abbrev pub seen_asking : CallUnderWay T → ℕ × QueueAsk T
+  seen_asking u = (u.party, u.ask)
+
+  -- the calls under way at this moment of a run are those of these parties, with which the cells mean its queue
+  pub record AreUnderWay (parties : List (Party T)) (f : Config T) : Type 0 where
+    pub callers : List (Caller T)
+    pub parties_are : map caller_party callers ≡ parties
+    pub under_way : map seen_asking f.scene.under_way ≡ map asked_by callers
+    pub fits : FitsAt f.chain f.cells f.scene.now (map caller_seat callers)
+
   -- a run of a new queue, as `run_queue_steps` promises it, made just these steps, gave each party these replies and left these
-  -- cells
+  -- cells. The call that a party has under way at its end is where the party's own events have led its machine
   pub record IsRunOf (form : QueueForm) (events : List (Happening T)) (replies : ℕ → List (QueueReply T)) (last : Contents T) : Type 0 where
     pub trace : List (QueueEntry T)
     pub ran : RanTo form (steps_of events) [] trace None
     pub answers : (p : ℕ) → replies_to p events trace ≡ replies p
     pub cells : (counted : IsCounted form trace) → (ran.run counted).last.cells ≡ last
+    pub parties : List (Party T)
+    pub stands : (p : ℕ) → EventsLead form None (own p events) (call_under id_of under_way_of p parties)
+    pub under_way : (counted : IsCounted form trace) → AreUnderWay parties (ran.run counted).last
 
 -- a bounded queue has a slot at least, and 2^58 at most
 abbrev pub HasCells : QueueForm → Type 0
@@ -100,6 +146,11 @@ MergesAreRuns T =
     (form : QueueForm) (events : List (Happening T)) (replies : ℕ → List (QueueReply T)) (last : Contents T)
     → HasCells form → ((p : ℕ) → Acts form None (own p events) (replies p)) → InOneOrder events (new_cells form) last
     → IsRunOf form events replies last
+
+-- a party's events lead its machine to one place and no other
+abbrev pub EventsLeadToOnePlace : Type 0 → Type 0
+EventsLeadToOnePlace T =
+    (form : QueueForm) (at : Option (QueueCall T)) (xs : List (Event T)) (to other : Option (QueueCall T)) → EventsLead form at xs to → EventsLead form at xs other → other ≡ to
 
 -- ---- whole calls over cells of any kind, as their contracts say it
 

@@ -1,5 +1,5 @@
 -- The parties of a run, as the code keeps them.
-use Rattle.std.specs.Prelude.{◌≡◌, ℕ, List, [], ◌∷◌, ◌++◌, Option, None, Some, slice_get, slice_set}
+use Rattle.std.specs.Prelude.{◌≡◌, ℕ, ◌==◌, List, [], ◌∷◌, ◌++◌, Option, None, Some, slice_get, slice_set, if◌then◌else◌}
 use Rattle.std.specs.List.{remove}
 use Rattle.concurrent_queue.specs.Contents.{Contents}
 use Rattle.concurrent_queue.specs.Step.{IsQueueStep, Starts, mark_of}
@@ -13,7 +13,18 @@ use Rattle.concurrent_queue.specs.declared.run.QueueStep.TheVariants.{Begin, Ste
 use Rattle.concurrent_queue.specs.declared.run.QueueRefusal.{QueueRefusal}
 use Rattle.concurrent_queue.specs.declared.run.QueueRefusal.TheVariants.{Busy, Idle, NoMemory}
 
+-- what a party has under way, in a list of parties, each under its number
+abbrev pub call_under : {P C : Type 0} → (P → ℕ) → (P → C) → ℕ → List P → Option C
+call_under id of p [] = None
+call_under id of p (x ∷ xs) = if id x == p then Some (of x) else call_under id of p xs
+
 module _ {T : Type 0} where
+  abbrev pub id_of : Party T → ℕ
+  id_of x = x.id
+
+  abbrev pub under_way_of : Party T → QueueCall T
+  under_way_of x = x.call
+
   abbrev pub party : ℕ → QueueCall T → Party T
   party p call = record { id = p; call = call }
 

@@ -4,8 +4,9 @@ ghost use Rattle.concurrent_queue.specs.Accounts.{NothingIsLost};
 ghost use Rattle.concurrent_queue.specs.Lone.{LoneCallsEnd};
 ghost use Rattle.concurrent_queue.specs.Bounds.{NeverOverfull, ClosesOnce};
 ghost use Rattle.concurrent_queue.specs.Whole.{NeverWholeAtOnce};
-ghost use Rattle.concurrent_queue.specs.Bridge.{MergesAreRuns, WalksAct};
-ghost use Rattle.concurrent_queue.specs.BridgeRow.{TwoCallsMerge};
+ghost use Rattle.concurrent_queue.specs.Bridge.{EventsLeadToOnePlace, MergesAreRuns, WalksAct};
+ghost use Rattle.concurrent_queue.specs.BridgeRow.{FourEventsLead, TwoCallsMerge};
+ghost use Rattle.concurrent_queue.specs.Touched.{BlocksAreGivenBackAlone, EachTouchesItsOwn, PartiesAreAmongOthers, SlotsAreAsExpected, SlotsAreTouchedAlone, TouchedBlocksAreInUse};
 
 use crate::cells::Cells;
 use crate::seen::Trace;
@@ -54,9 +55,14 @@ pub fn never_whole_at_once<T>()
 /// what their machines do next, and go by the answers. So what holds of every run holds of calls on threads, whose
 /// operations are atomic and so come in one order.
 ///
+/// At the end of the run each party has that call under way to which its own operations have led its machine, or none, and the cells
+/// with these calls mean the run's queue. A party's operations lead to one place alone: so whoever knows where its call stands knows
+/// where it stands in the run, among the calls of all others.
+///
 /// Own to this project.
 pub fn merges_are_runs<T>()
     ensures runs { MergesAreRuns T }
+    ensures one_place { EventsLeadToOnePlace T }
 {}
 
 /// What the contract of a whole call says, over cells of any kind, is what `merges_are_runs` asks of its party: the call has
@@ -75,9 +81,49 @@ pub fn seen_walks_act<T, S: Trace<T>>()
     ensures acts { WalksAct S.did }
 {}
 
-/// There are such merges: a push and a pop of one slot whose operations come in turn, as they would between two threads.
+/// There are such merges: a push and a pop of one slot whose operations come in turn, as they would between two threads. Its first four
+/// operations lead the push to where it is about to fill the slot, and the pop to where it looks again.
 ///
 /// Own to this project.
 pub fn two_calls_merge<T>()
     ensures merge { TwoCallsMerge T }
+    ensures lead { FourEventsLead T }
+{}
+
+/// Wherever the operations of any number of parties have led, all in one order, each call that is not at its end stands among those of
+/// all other parties, and the cells with these calls mean a queue: as the laws of touched blocks and slots ask it. So who knows that
+/// the history of a queue's cells is such an order, and where its own call and another one stand, knows what these laws say of both.
+///
+/// Own to this project.
+pub fn parties_are_among_others<T>()
+    ensures among { PartiesAreAmongOthers T }
+{}
+
+/// A call that is about to touch a block, by one of its words, by a slot of it or by giving it back, touches one that was made and is
+/// not spare. And where a call is about to give a block back, no other is about to touch that block. So whoever takes a block from the
+/// spare ones may blank it by as many operations as that takes, while it is still spare: nobody is there.
+///
+/// Own to this project.
+pub fn blocks_are_left_alone<T>()
+    ensures in_use { TouchedBlocksAreInUse T }
+    ensures given_back { BlocksAreGivenBackAlone T }
+{}
+
+/// A slot that a call is about to put into or take from no other call is about to touch, and it is as the call has to find it: empty,
+/// where a message is put in, and with a message, where one is taken out. This holds in each form of queue. So a slot needs no lock of
+/// its own, and nobody tries again there, where all who are at it are calls that have done what their machines do.
+///
+/// Own to this project.
+pub fn slots_are_touched_alone<T>()
+    ensures alone { SlotsAreTouchedAlone T }
+    ensures expected { SlotsAreAsExpected T }
+{}
+
+/// The same of the parties of a history, wherever their operations have led them, all in one order: no other party is about to touch the
+/// slot that a party's call is about to put into or take from, and the slot is as the call has to find it. A block that it is about to
+/// touch is in use, and one that it is about to give back no other party is about to touch.
+///
+/// Own to this project.
+pub fn each_touches_its_own<T>()
+    ensures own { EachTouchesItsOwn T }
 {}
