@@ -1,3 +1,4 @@
+mod OwnPlaces
 pub mod Refusing
 mod BlocksBasics
 mod BlocksSteps
@@ -27,6 +28,13 @@ pub mod Callers
 mod BridgeSteps
 pub mod Bridge
 mod BridgeRow
+mod Among
+mod Targets
+mod BlocksAmong
+mod BlocksTouched
+mod BlocksSlots
+mod SlotsTouched
+mod ItsOwn
 pub mod SingleSteps
 pub mod RingShape
 pub mod RingPlaces

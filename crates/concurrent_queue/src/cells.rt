@@ -6,6 +6,7 @@ ghost use Rattle.concurrent_queue.specs.Contents.{Contents};
 ghost use Rattle.concurrent_queue.specs.Effects.{Does};
 
 use crate::error::NoMemory;
+use std::thread;
 
 /// Which kind of queue the cells are of.
 #[derive(Clone, Copy, PartialEq, Eq, Debug)]
@@ -126,6 +127,12 @@ pub trait Cells<T> {
     fn retire(&mut self, block: u64)
         ensures deed { did (retired block) self.old self.new }
         ensures form { form_of self.new ≡ form_of self.old };
+
+    /// Lets other threads go first; it is called before a call makes an action again. It is no operation, and touches nothing that the
+    /// cells hold. Cells whose other calls run on no thread of their own let these go on here.
+    fn give_way(&self) {
+        thread::yield_now();
+    }
 
     /// No operation makes cells of one form into cells of another.
     ghost keeps_form: { (d : Deed T) (a b : Self) → did d a b → form_of b ≡ form_of a };

@@ -17,7 +17,7 @@ use crate::queue_call::{QueueCall, fast_path, whole};
 use crate::seen::{Seen, Trace};
 use std::sync::Wait;
 
-/// One step of a call.
+/// One step of a call. It yields where the call is to make an action again.
 #[inline(always)]
 pub(crate) fn step<T: Drop, C: Cells<T> + Drop, S: Trace<T>>(
     call: &mut QueueCall<T>,
@@ -27,7 +27,7 @@ pub(crate) fn step<T: Drop, C: Cells<T> + Drop, S: Trace<T>>(
     ensures answers { Follows (C.form_of seen.cells) call.old call.new (result.0) }
 {
     let mut seen = seen;
-    let reply = call.step(&mut seen);
+    let reply = whole::step(call, &mut seen);
     (reply, seen.into_trace())
 }
 

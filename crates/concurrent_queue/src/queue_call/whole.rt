@@ -1,15 +1,14 @@
 //! Calls of a queue made up to their answers, over cells of any kind. Each does to the cells what the machine of their form
 //! does, and nothing else.
 
-ghost use Rattle.concurrent_queue.specs.Walked.{Walked, WalkedAsking};
-ghost use Rattle.concurrent_queue.specs.Replies.{MayCall, MayAnswer, AsksWords};
+ghost use Rattle.concurrent_queue.specs.Walked.{CallMakes, Walked, WalkedAsking};
+ghost use Rattle.concurrent_queue.specs.Replies.{AsksWords, Follows, MayAnswer, MayCall};
 
 use crate::call::{QueueAsk, QueueReply};
 use crate::cells::Cells;
 use crate::queue_call::QueueCall;
 use crate::queue_call::fast_path::call_fast;
 use std::sync::Wait;
-use std::thread;
 
 /// Makes the steps of a call up to its answer, and nothing else. A push or a pop that has made no step is made at once where
 /// nothing stands against it. It yields where the call has to make an action again. The call is used up: nothing can be asked of
@@ -58,11 +57,13 @@ pub(crate) fn finish<T: Drop, R: Wait, C: Cells<T>>(
     ensures walked { Walked C.did (C.form_of cells.old) call cells.old result cells.new }
     ensures answers { MayCall (C.form_of cells.old) call.state result }
 {
-    give_way(call.has_begun());
+    if call.has_begun() {
+        cells.give_way();
+    }
     step_on(rt, call, cells)
 }
 
-/// Steps a call to its end. It yields before an action is made again.
+/// Steps a call to its end.
 fn step_on<T: Drop, R: Wait, C: Cells<T>>(
     rt: &R,
     mut call: QueueCall<T>,
@@ -72,19 +73,26 @@ fn step_on<T: Drop, R: Wait, C: Cells<T>>(
     ensures answers { MayCall (C.form_of cells.old) call.state result }
 {
     for _ in rt.forever() {
-        let place = call.place();
-        if let Some(reply) = call.step(cells) {
+        if let Some(reply) = step(&mut call, cells) {
             drop(call);
             return reply;
         }
-        give_way(call.place() <= place);
     }
     unreachable!()
 }
 
-/// Lets other threads go first where an action is to be made again.
-pub(crate) fn give_way(again: bool) {
-    if again {
-        thread::yield_now();
+/// One step. It yields where the call is to make an action again.
+pub(crate) fn step<T: Drop, C: Cells<T>>(
+    call: &mut QueueCall<T>,
+    cells: &mut C,
+) -> Option<QueueReply<T>>
+    ensures answers { Follows (C.form_of cells.old) call.old call.new result }
+    ensures deed { CallMakes C.did (C.form_of cells.old) cells.old call.old cells.new call.new result }
+{
+    let place = call.place();
+    let reply = call.step(cells);
+    if reply.is_none() && call.place() <= place {
+        cells.give_way();
     }
+    reply
 }

@@ -1,10 +1,19 @@
 //! The blocks of a shared unbounded queue.
 
+ghost use Rattle.std.specs.Prelude.{◌≡◌, ◌≤◌, ◌+◌, [], MatchResult};
+ghost use Rattle.std.specs.VecDeque.{deque_capacity};
+ghost use Rattle.concurrent_queue.specs.Contents.{spare_in, others_of, with_spare};
+ghost use Rattle.concurrent_queue.specs.Blocks.{made_of};
+
 use crate::error::NoMemory;
 use crate::pool::SLOTS;
 use crate::shared::table::{APART, SeatedTable, SharedTable};
+use boxcar::Anything;
+use boxcar::table::Table;
+use boxcar::tag::Tag;
 use std::alloc::{AllocError, Global};
-use std::sync::{Mutex, Wait};
+use std::collections::VecDeque;
+use std::sync::{Mutex, MutexGuard, Wait};
 
 /// The words of a block by their indices: the next block, how many messages were read, and apart from these a bit for each
 /// slot whose message is written.
@@ -14,13 +23,22 @@ pub(crate) const READS: usize = 1;
 
 pub(crate) const WRITTEN: usize = APART;
 
-/// All blocks that were made, under their numbers, and under a lock the numbers of those that are spare. A block is kept
-/// until its queue is dropped, so any thread may step on it at any time.
+/// The numbers of the blocks that are spare, and how many blocks were made. There is a place for each of them from the moment at
+/// which it is made, so that giving one back takes no memory.
+#[derive(Drop)]
+pub(crate) struct Stock {
+    spares: VecDeque<u64>,
+    made: usize,
+    ghost placed: { made ≤ deque_capacity spares },
+}
+
+/// All blocks that were made, under their numbers, and under a lock which of them are spare. A block is kept until its queue is
+/// dropped, so any thread may step on it at any time.
 #[derive(Drop)]
 pub(crate) struct Blocks<T> {
     alloc: Global,
-    made: boxcar::Vec<SharedTable<T>>,
-    spares: Mutex<Vec<u64>>,
+    made: Table<SharedTable<T>, Anything, Global>,
+    stock: Mutex<Stock>,
 }
 
 impl<T: Drop> Blocks<T> {
@@ -28,8 +46,11 @@ impl<T: Drop> Blocks<T> {
     pub(crate) fn new(alloc: Global) -> Result<Blocks<T>, AllocError> {
         Ok(Blocks {
             alloc,
-            made: boxcar::Vec::new(alloc)?,
-            spares: Mutex::new(Vec::new(alloc)),
+            made: Table::new(alloc, Tag::empty())?,
+            stock: Mutex::new(Stock {
+                spares: VecDeque::new(alloc),
+                made: 0,
+            }),
         })
     }
 
@@ -39,35 +60,65 @@ impl<T: Drop> Blocks<T> {
         Some(self.made.get(block as usize)?.seat())
     }
 
-    /// The spare block that was given back last, or a new one, which is made together with its place in the spare list.
-    pub(crate) fn spare<R: Wait>(&self, rt: &R) -> Result<u64, NoMemory> {
-        let mut spares = self.spares.lock(rt);
-        if let Some(block) = spares.pop() {
-            return Ok(block);
+    /// Takes the lock.
+    pub(crate) fn stock<R: Wait>(&self, rt: &R) -> MutexGuard<'_, Stock> {
+        self.stock.lock(rt)
+    }
+
+    /// The spare block that was given back last, or where none is spare a new one, under the next number that was never given.
+    /// `Err`, and nothing is changed, where there is no memory for it.
+    pub(crate) fn spare<R: Wait>(&self, rt: &R, stock: &mut Stock) -> Result<u64, NoMemory>
+        ensures gives { MatchResult result
+            (λ b. (b ≡ spare_in stock.old.spares.items stock.old.made) × (stock.new.spares.items ≡ others_of stock.old.spares.items) × (stock.new.made ≡ made_of stock.old.spares.items stock.old.made))
+            (λ _. (stock.old.spares.items ≡ []) × (stock.new.spares.items ≡ []) × (stock.new.made ≡ stock.old.made)) }
+    {
+        match stock.spares.pop_front() {
+            Some(block) => Ok(block),
+            None => self.make(rt, stock),
         }
-        if spares.reserve(self.made.count().saturating_add(1)).is_err() {
+    }
+
+    /// A new block, with its place among the spare ones.
+    fn make<R: Wait>(&self, rt: &R, stock: &mut Stock) -> Result<u64, NoMemory>
+        requires { stock.old.spares.items ≡ [] }
+        ensures spares { stock.new.spares.items ≡ [] }
+        ensures gives { MatchResult result
+            (λ b. (b ≡ stock.old.made) × (stock.new.made ≡ stock.old.made + 1))
+            (λ _. stock.new.made ≡ stock.old.made) }
+    {
+        let number = stock.made;
+        let Some(wanted) = number.checked_add(1) else {
+            return Err(NoMemory);
+        };
+        if stock.spares.reserve(wanted).is_err() {
             return Err(NoMemory);
         }
-        match SharedTable::new(self.alloc, SLOTS as usize, WRITTEN + 1, None) {
-            Ok(block) => match self.made.push(rt, block) {
-                Ok(number) => Ok(number as u64),
-                Err(_) => Err(NoMemory),
-            },
-            Err(_) => Err(NoMemory),
+        let Ok(block) = SharedTable::new(self.alloc, SLOTS as usize, WRITTEN + 1, None) else {
+            return Err(NoMemory);
+        };
+        if self.made.set_placed(rt, number, block).is_err() {
+            return Err(NoMemory);
         }
+        stock.made = wanted;
+        Ok(number as u64)
     }
 
     /// Sets the words of a block to 0 and puts its number on the spare list, which has a place for it. Its slots are empty,
     /// since each message of it was taken or never put.
-    pub(crate) fn retire<R: Wait>(&self, rt: &R, block: u64) {
-        let mut spares = self.spares.lock(rt);
+    pub(crate) fn retire(&self, stock: &mut Stock, block: u64)
+        ensures spares { stock.new.spares.items ≡ with_spare stock.old.spares.items stock.old.made block }
+        ensures made { stock.new.made ≡ stock.old.made }
+    {
+        // Nobody sees the first of these stores without the last: only a call that won one of the block's positions touches its words,
+        // a push up to the flag of its slot and a pop up to its count of reads, and the pop that counted the last of them gives the
+        // block back. Who wins a position of it later has its number by way of `spare`, and so from behind this section of the lock.
         if let Some(mut words) = self.seat(block) {
             words.store(NEXT, 0);
             words.store(READS, 0);
             words.store(WRITTEN, 0);
-            if spares.len() < self.made.count() {
-                let _ = spares.push(block);
-            }
+        }
+        if stock.spares.len() < stock.made {
+            stock.spares.push_front_reserved(block);
         }
     }
 }

@@ -1,6 +1,9 @@
 //! The cells of a shared queue, on which a call steps: one form with the runtime value, and one of words alone for the calls
 //! that wait for nobody. Nothing is known of what they hold, since any thread may step on them at any time.
 
+ghost use Rattle.std.specs.Prelude.{◌≡◌, ◌<◌};
+ghost use Rattle.concurrent_queue.specs.Places.{place_of, flag_of, IsNear, OwnPlaces, OwnFlags};
+
 use crate::cells::{Cells, QueueForm, Slot, Word};
 use crate::error::NoMemory;
 use crate::pool::SLOTS;
@@ -24,20 +27,29 @@ pub(crate) const STAMPS: usize = 2 * APART;
 
 /// Where a word lies: among the queue's own words, among those of a block, or as a bit of a block's word of written slots.
 /// Such a bit is loaded and stored, and takes part in no other step.
-enum Place {
+pub(crate) enum Place {
     Own(usize),
     InBlock(u64, usize),
-    Bit(u64, u64),
+    Bit(u64, usize, u64),
 }
 
-/// The bit of a slot; none where a block has no such slot.
+/// The flag of a slot in its block's word of written slots; none where a block has no such slot.
 #[inline(always)]
-fn bit_of(offset: u64) -> u64 {
+#[tactic(auto, using(crate::proofs::OwnPlaces::own_flags))]
+fn flag_of(offset: u64) -> u64
+    ensures flag { offset < 31 → result ≡ flag_of offset }
+    ensures own { OwnFlags }
+{
     if offset < SLOTS { 1 << offset } else { 0 }
 }
 
+/// Where a word lies.
 #[inline(always)]
-fn place_of(at: Word) -> Place {
+#[tactic(auto, using(crate::proofs::OwnPlaces::own_places))]
+fn place_of(at: Word) -> Place
+    ensures place { IsNear at → result ≡ place_of at }
+    ensures own { OwnPlaces }
+{
     match at {
         Word::State => Place::Own(STATE),
         Word::Head => Place::Own(HEAD),
@@ -47,7 +59,7 @@ fn place_of(at: Word) -> Place {
         Word::TailBlock => Place::Own(TAIL_BLOCK),
         Word::Next(block) => Place::InBlock(block, NEXT),
         Word::Reads(block) => Place::InBlock(block, READS),
-        Word::Written(block, offset) => Place::Bit(block, offset),
+        Word::Written(block, offset) => Place::Bit(block, WRITTEN, offset),
     }
 }
 
@@ -86,7 +98,8 @@ impl<'a, T: Drop> WordCells<'a, T> {
     /// Looks up the block of this number.
     #[inline(always)]
     fn look_up(&mut self, block: u64)
-        ensures { self.new.form ≡ self.old.form }
+        ensures form { self.new.form ≡ self.old.form }
+        ensures number { self.new.number ≡ block }
     {
         if self.near.is_none() || self.number != block {
             self.near = match self.blocks {
@@ -132,10 +145,10 @@ impl<'a, T: Drop> Cells<T> for WordCells<'a, T> {
                     None => 0,
                 }
             }
-            Place::Bit(block, offset) => {
+            Place::Bit(block, word, offset) => {
                 self.look_up(block);
                 match &mut self.near {
-                    Some(words) => u64::from(words.load(WRITTEN) & bit_of(offset) != 0),
+                    Some(words) => u64::from(words.load(word) & flag_of(offset) != 0),
                     None => 0,
                 }
             }
@@ -152,13 +165,13 @@ impl<'a, T: Drop> Cells<T> for WordCells<'a, T> {
                     words.store(word, value);
                 }
             }
-            Place::Bit(block, offset) => {
+            Place::Bit(block, word, offset) => {
                 self.look_up(block);
                 if let Some(words) = &mut self.near {
                     if value == 0 {
-                        words.fetch_and(WRITTEN, !bit_of(offset));
+                        words.fetch_and(word, !flag_of(offset));
                     } else {
-                        words.fetch_or(WRITTEN, bit_of(offset));
+                        words.fetch_or(word, flag_of(offset));
                     }
                 }
             }
@@ -176,7 +189,7 @@ impl<'a, T: Drop> Cells<T> for WordCells<'a, T> {
                     None => Err(0),
                 }
             }
-            Place::Bit(_, _) => Err(0),
+            Place::Bit(_, _, _) => Err(0),
         }
     }
 
@@ -191,7 +204,7 @@ impl<'a, T: Drop> Cells<T> for WordCells<'a, T> {
                     None => 0,
                 }
             }
-            Place::Bit(_, _) => 0,
+            Place::Bit(_, _, _) => 0,
         }
     }
 
@@ -206,7 +219,7 @@ impl<'a, T: Drop> Cells<T> for WordCells<'a, T> {
                     None => 0,
                 }
             }
-            Place::Bit(_, _) => 0,
+            Place::Bit(_, _, _) => 0,
         }
     }
 
@@ -221,7 +234,7 @@ impl<'a, T: Drop> Cells<T> for WordCells<'a, T> {
                     None => 0,
                 }
             }
-            Place::Bit(_, _) => 0,
+            Place::Bit(_, _, _) => 0,
         }
     }
 
@@ -333,7 +346,7 @@ impl<'a, T: Drop, R: Wait> Cells<T> for SharedCells<'a, T, R> {
     #[inline(always)]
     fn spare(&mut self) -> Result<u64, NoMemory> {
         match self.words.blocks {
-            Some(blocks) => blocks.spare(self.rt),
+            Some(blocks) => blocks.spare(self.rt, &mut blocks.stock(self.rt)),
             None => Err(NoMemory),
         }
     }
@@ -341,7 +354,7 @@ impl<'a, T: Drop, R: Wait> Cells<T> for SharedCells<'a, T, R> {
     #[inline(always)]
     fn retire(&mut self, block: u64) {
         if let Some(blocks) = self.words.blocks {
-            blocks.retire(self.rt, block);
+            blocks.retire(&mut blocks.stock(self.rt), block);
         }
     }
 }

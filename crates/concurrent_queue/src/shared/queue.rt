@@ -7,7 +7,7 @@ use crate::bounded::{GREATEST, at_most_greatest};
 use crate::call::{QueueAsk, QueueReply};
 use crate::cells::QueueForm;
 use crate::error::{NoMemory, PopError, PushError};
-use crate::queue_call::{QueueCall, seen, whole};
+use crate::queue_call::{QueueCall, seen};
 use crate::seen::{Lent, NoTrace, Seen, Trace, see_cells, see_words};
 use crate::shared::blocks::Blocks;
 use crate::shared::cells::{STAMPS, SharedCells, WordCells};
@@ -222,10 +222,7 @@ impl<T: Drop, W: Copy> ConcurrentQueue<T, W> {
         ensures deed { CallMakes S.did (form_in self.now) trace call.old (result.1) call.new (result.0) }
         ensures answers { IsSharedStep self.now call.old call.new (result.0) }
     {
-        let place = call.place();
-        let (reply, trace) = seen::step(call, self.cells(rt, trace));
-        whole::give_way(reply.is_none() && call.place() <= place);
-        (reply, trace)
+        seen::step(call, self.cells(rt, trace))
     }
 
     /// The steps of a call up to its answer, as `complete`: the trace sees each operation, with the answers by which this one

@@ -97,7 +97,7 @@ impl<'a, T> SeatedTable<'a, T> {
     #[inline(always)]
     fn place(&self, word: usize) -> Option<usize>
         ensures { IfSome result
-            (λ i. (self.now.table.now.shared.table_id.slots ≤ i) × (i < self.now.table.now.shared.table_id.words)) }
+            (λ i. (self.now.table.now.shared.table_id.slots ≤ i) × (i < self.now.table.now.shared.table_id.words) × (i ≡ self.now.table.now.shared.table_id.slots + word)) }
     {
         let first = self.table.slot_count();
         let end = self.table.word_count();

@@ -10,7 +10,7 @@ loop-init g c = ((λ r may. may), refl, (0, (refl, refl)))
 pub returns-in-Some-step-clause-walked : goal.returns-in-Some-step-clause-walked
 returns-in-Some-step-clause-walked g c =
     let l = c.loop in
-    let last = c.step.new.self in
+    let last = c.step.new.call in
     let t = c.step.new.cells in
     let ends = subst (λ (f : QueueForm). CallMakes g.C.Cells.did f l.cells l.call t last (Some c.in-Some-step.reply)) l.invariant.1 c.in-Some-step.ensures.deed in
     (l.invariant.2.0, (l.cells, l.call.state, last.state, last.mark, l.invariant.2.1, ends))
@@ -23,7 +23,7 @@ loop-preserved g c =
     let did = g.C.Cells.did in
     let form = g.C.Cells.form_of c.args.cells.now in
     let l = c.loop in
-    let next = c.step.new.self in
+    let next = c.step.new.call in
     let t = c.step.new.cells in
     let made = subst (λ (f : QueueForm). CallMakes did f l.cells l.call t next None) l.invariant.1 c.in_default.ensures.deed in
     let same = step_keeps did g.C.Cells.form_of g.met.C.Cells.keeps_form form l.cells l.call.state t (record { action = next.state; mark = next.mark; reply = None }) made in (

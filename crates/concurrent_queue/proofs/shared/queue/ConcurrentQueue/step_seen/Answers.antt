@@ -7,8 +7,8 @@ use Rattle.concurrent_queue.proofs.shared.queue.ConcurrentQueue.step_seen.Goals 
 
 pub returns-clause-deed : goal.returns-clause-deed
 returns-clause-deed g c =
-    step_here g.S.Trace.did (form_in c.args.self.now) c.cells.result.cells.words.form c.cells.result.trace c.args.trace c.cells.ensures.form c.cells.ensures.trace c.args.call.now c.step-reply.new.call c.step-reply.result.0 c.step-reply.result.1 c.step-reply.ensures.deed
+    step_here g.S.Trace.did (form_in c.args.self.now) c.cells.result.cells.words.form c.cells.result.trace c.args.trace c.cells.ensures.form c.cells.ensures.trace c.args.call.now c.step.new.call c.step.result.0 c.step.result.1 c.step.ensures.deed
 
 pub returns-clause-answers : goal.returns-clause-answers
 returns-clause-answers g c =
-    subst (λ (f : QueueForm). Follows f c.args.call.now c.step-reply.new.call c.step-reply.result.0) c.cells.ensures.form c.step-reply.ensures.answers
+    subst (λ (f : QueueForm). Follows f c.args.call.now c.step.new.call c.step.result.0) c.cells.ensures.form c.step.ensures.answers
