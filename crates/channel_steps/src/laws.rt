@@ -1,7 +1,7 @@
 //! Laws of every run of a channel's steps. Each is the contract of a function that does nothing. Begins and steps of parties, one after
 //! another, are such a run: [`begin`](crate::party::begin) and [`step_at`](crate::party::step_at) promise each.
 
-ghost use Rattle.channel_steps.specs.every_run.Bridge.{InCells, MergesAreRuns, StandsAct, WalksAct};
+ghost use Rattle.channel_steps.specs.every_run.Bridge.{InCells, MergesAreRuns, PartiesStandWhereTheyWent, StandsAct, WalksAct};
 ghost use Rattle.channel_steps.specs.every_run.BridgeBlocks.{BlocksInCalls, Rested};
 ghost use Rattle.channel_steps.specs.every_run.BridgeHeadline.{MergesKeepTheHeadline};
 ghost use Rattle.channel_steps.specs.every_run.BridgeRow.{TwoClonesMerge};
@@ -150,9 +150,14 @@ pub fn one_close_at_most<T, W>()
 /// but that its calls do what their machines do next, and go by the answers. So what holds of every run holds of calls on threads,
 /// whose operations are atomic and whose sections are under one lock each, and so come in one order.
 ///
+/// At the end of the run each party's call stands where its own events have led its machine. A machine may make a step in several ways;
+/// whichever way each party went, there is such a run at whose end it stands there. So whoever knows where a call stands knows where it
+/// stands in the run, among the calls of all others.
+///
 /// Own to this project.
 pub fn merges_are_runs<T, W, S: Wakes<W>>()
     ensures runs { MergesAreRuns T W S S.wakes }
+    ensures stand { PartiesStandWhereTheyWent T W S S.wakes }
 {}
 
 /// The headline holds of what any number of parties do to a new channel, if each call does what its machine does and goes by the

@@ -6,16 +6,17 @@ use Rattle.channel_steps.proofs.every_run.Words.{Contents, asked, QueueReply, Qu
 use Rattle.concurrent_queue.specs.Deeds as cell
 use Rattle.concurrent_queue.specs.declared.call.QueueAsk.TheVariants as queue_ask
 use Rattle.concurrent_queue.proofs.Bridge.{call_noted, change_keeps_form}
-use Rattle.concurrent_queue.proofs.Callers.{is_same, is_other, itself, either, call_of, place_of, AllApart, has_at, begun_mine, begun_other, begun_apart, set_mine, set_other, set_apart, gone_other, gone_mine, gone_apart}
+use Rattle.concurrent_queue.proofs.Callers.{is_same, is_other, itself, either, place_of, AllApart, has_at, begun_mine, begun_other, begun_apart, set_mine, set_other, set_apart, gone_other, gone_mine, gone_apart}
 use Rattle.channel_calls.proofs.Interface.{carried, exact_step}
 use Rattle.channel_calls.proofs.Walking.{taken_of}
 use Rattle.channel_calls.specs.declared.mark.Mark.TheVariants.{Nothing}
 use Rattle.channel_steps.specs.declared.run.Step.TheVariants as step
 use Rattle.channel_steps.proofs.RunFacts as runs
 use Rattle.channel_steps.proofs.ConfigurationFacts.{party_steps}
-use Rattle.channel_steps.specs.every_run.Bridge.{does}
+use Rattle.channel_steps.specs.every_run.Bridge.{does, ActsTo, id_of, stage_of, stage_at}
+use Rattle.concurrent_queue.specs.Parties.{call_under}
 use Rattle.channel_steps.specs.every_run.Ends.{Each}
-use Rattle.channel_steps.proofs.every_run.BridgeLeads.{id_of, of, StepLeadsOn, GoThrough, leads_begun, leads_stepped, through_none, through_more}
+use Rattle.channel_steps.proofs.every_run.BridgeLeads.{StepLeadsOn, GoThrough, leads_begun, leads_stepped, through_none, through_more}
 
 -- ---- a step that was noted, over cells that it changes
 
@@ -111,34 +112,46 @@ module _ {T W : Type 0} where
   pub own_other : (p q : ℕ) (x : Event T W) (xs : List (Happening T W)) → (p == q) ≡ false → own q (happens p x ∷ xs) ≡ own q xs
   own_other p q x xs e = rw e refl
 
-module _ {T W S : Type 0} (wakes : S → W → S → Type 0) (form : QueueForm) where
+module _ {T W : Type 0} (form : QueueForm) where
+  -- who acts is left somewhere
+  pub acts_to : (at : Option (Stage (QueueCall T) T W)) (xs : List (Event T W)) (given : List (Completed T)) → Acts form at xs given → (to : Option (Stage (QueueCall T) T W)) × ActsTo form at xs given to
+  acts_to at [] given h = (at, (h, refl))
+  acts_to None (begins ask ∷ xs) given (at, takes, h) = let g = acts_to (Some at) xs given h in (g.0, (at, takes, g.1))
+  acts_to None (does o ∷ xs) given h = absurd h
+  acts_to (Some at) (begins ask ∷ xs) given h = absurd h
+  acts_to (Some at) (does o ∷ xs) given (m, next, None, makes, h) = let g = acts_to (Some next) xs given h in (g.0, (m, next, None, makes, g.1))
+  acts_to (Some at) (does o ∷ xs) given (m, next, Some r, makes, (more, is, h)) = let g = acts_to None xs more h in (g.0, (m, next, Some r, makes, (more, is, g.1)))
+
+-- each party is left at `to` of it
+module _ {T W S : Type 0} (wakes : S → W → S → Type 0) (form : QueueForm) (to : ℕ → Option (Stage (QueueCall T) T W)) where
   -- what the run is that goes on so
   pub record Merged (events : List (Happening T W)) (c : Parts T W × S) (before : List (Party T W)) (given : ℕ → List (Completed T)) (last : Parts T W × S) : Type 0 where
     pub more : List (Entry T)
     pub parties : List (Party T W)
     pub through : GoThrough wakes (steps_of events) more c before last parties
     pub answers : (p : ℕ) → given_to p events more ≡ given p
+    pub stands : (p : ℕ) → stage_at p parties ≡ to p
 
   abbrev AllAct : List (Party T W) → List (Happening T W) → (ℕ → List (Completed T)) → Type 0
-  AllAct parties events given = (p : ℕ) → Acts form (call_of id_of of p parties) (own p events) (given p)
+  AllAct parties events given = (p : ℕ) → ActsTo form (call_under id_of stage_of p parties) (own p events) (given p) (to p)
 
   -- how the run goes on behind one event
   abbrev GoesOn : List (Happening T W) → Parts T W × S → Type 0
   GoesOn xs last =
       (c : Parts T W × S) (parties : List (Party T W)) (given : ℕ → List (Completed T))
-      → c.0.cells.form ≡ form → AllApart id_of of parties → AllAct parties xs given → InOneOrder wakes xs c last → Merged xs c parties given last
+      → c.0.cells.form ≡ form → AllApart id_of stage_of parties → AllAct parties xs given → InOneOrder wakes xs c last → Merged xs c parties given last
 
   -- the others go on as before
   acts_after : (p : ℕ) (x : Event T W) (xs : List (Happening T W)) (before after : List (Party T W)) (given left : ℕ → List (Completed T)) → AllAct before (happens p x ∷ xs) given
-      → Acts form (call_of id_of of p after) (own p xs) (left p) → ((q : ℕ) → (p == q) ≡ false → call_of id_of of q after ≡ call_of id_of of q before) → ((q : ℕ) → (p == q) ≡ false → left q ≡ given q) → AllAct after xs left
+      → ActsTo form (call_under id_of stage_of p after) (own p xs) (left p) (to p) → ((q : ℕ) → (p == q) ≡ false → call_under id_of stage_of q after ≡ call_under id_of stage_of q before) → ((q : ℕ) → (p == q) ≡ false → left q ≡ given q) → AllAct after xs left
   acts_after p x xs before after given left acts mine calls same q = test (p == q) refl
     where
-      test : (b : Bool) → (p == q) ≡ b → Acts form (call_of id_of of q after) (own q xs) (left q)
-      test true e = subst (λ (n : ℕ). Acts form (call_of id_of of n after) (own n xs) (left n)) (is_same p q e) mine
+      test : (b : Bool) → (p == q) ≡ b → ActsTo form (call_under id_of stage_of q after) (own q xs) (left q) (to q)
+      test true e = subst (λ (n : ℕ). ActsTo form (call_under id_of stage_of n after) (own n xs) (left n) (to n)) (is_same p q e) mine
       test false e =
-          subst (λ (rs : List (Completed T)). Acts form (call_of id_of of q after) (own q xs) rs) (sym (same q e))
-          (subst (λ (o : Option (Stage (QueueCall T) T W)). Acts form o (own q xs) (given q)) (sym (calls q e))
-          (subst (λ (ys : List (Event T W)). Acts form (call_of id_of of q before) ys (given q)) (own_other p q x xs e) (acts q)))
+          subst (λ (rs : List (Completed T)). ActsTo form (call_under id_of stage_of q after) (own q xs) rs (to q)) (sym (same q e))
+          (subst (λ (o : Option (Stage (QueueCall T) T W)). ActsTo form o (own q xs) (given q) (to q)) (sym (calls q e))
+          (subst (λ (ys : List (Event T W)). ActsTo form (call_under id_of stage_of q before) ys (given q) (to q)) (own_other p q x xs e) (acts q)))
 
   joined : (p : ℕ) (x : Event T W) (xs : List (Happening T W)) (e : Entry T) (given left : ℕ → List (Completed T)) (last : Parts T W × S)
       (c d : Parts T W × S) (parties after : List (Party T W)) → StepLeadsOn wakes c parties (step_of p x) e d after
@@ -149,60 +162,61 @@ module _ {T W S : Type 0} (wakes : S → W → S → Type 0) (form : QueueForm) 
         parties = m.parties;
         through = through_more wakes (step_of p x) (steps_of xs) e m.more c parties d after last m.parties one m.through;
         answers = λ q. ap (λ (rs : List (Completed T)). if p == q then given_by e.reply e.kept ++ rs else rs) (m.answers q) ∙ same q;
+        stands = m.stands;
       }
 
   -- whose call isn't among those of the parties has none under way
-  none_of : (p : ℕ) (xs : List (ActiveCallWitness T W)) → call_of id_of of p (map (λ (x : ActiveCallWitness T W). x.party) xs) ≡ None → Each (λ u. u.party ≡ p → ⊥) (map active_call_of xs)
+  none_of : (p : ℕ) (xs : List (ActiveCallWitness T W)) → call_under id_of stage_of p (map (λ (x : ActiveCallWitness T W). x.party) xs) ≡ None → Each (λ u. u.party ≡ p → ⊥) (map active_call_of xs)
   none_of p [] none = tt
   none_of p (x ∷ xs) none = by (none_of p xs) (x.party.id == p) refl none where
-    by : (call_of id_of of p (map (λ (y : ActiveCallWitness T W). y.party) xs) ≡ None → Each (λ u. u.party ≡ p → ⊥) (map active_call_of xs)) → (b : Bool) → (x.party.id == p) ≡ b → (if b then Some x.party.call.stage else call_of id_of of p (map (λ (y : ActiveCallWitness T W). y.party) xs)) ≡ None
+    by : (call_under id_of stage_of p (map (λ (y : ActiveCallWitness T W). y.party) xs) ≡ None → Each (λ u. u.party ≡ p → ⊥) (map active_call_of xs)) → (b : Bool) → (x.party.id == p) ≡ b → (if b then Some x.party.call.stage else call_under id_of stage_of p (map (λ (y : ActiveCallWitness T W). y.party) xs)) ≡ None
         → Each (λ u. u.party ≡ p → ⊥) (map active_call_of (x ∷ xs))
     by more true e h = absurd cc
     by more false e h = (is_other x.party.id p e, more h)
 
-  none_under_way : (p : ℕ) (parts : Parts T W) (parties : List (Party T W)) (s : Configuration T W) → call_of id_of of p parties ≡ None → Represents parts parties s → IsIdle p s
+  none_under_way : (p : ℕ) (parts : Parts T W) (parties : List (Party T W)) (s : Configuration T W) → call_under id_of stage_of p parties ≡ None → Represents parts parties s → IsIdle p s
   none_under_way p parts parties s none sh =
       subst (λ (us : List (ActiveCall T W)). Each (λ u. u.party ≡ p → ⊥) us) (sym sh.under_way)
-      (none_of p sh.witnesses (ap (λ (ps : List (Party T W)). call_of id_of of p ps) (sym sh.parties_are) ∙ none))
+      (none_of p sh.witnesses (ap (λ (ps : List (Party T W)). call_under id_of stage_of p ps) (sym sh.parties_are) ∙ none))
 
   -- a call begins
-  idle : (at : Option (Stage (QueueCall T) T W)) (ask : ChannelAsk T W) (ys : List (Event T W)) (rs : List (Completed T)) → Acts form at (begins ask ∷ ys) rs
-      → (at ≡ None) × ((s : Stage (QueueCall T) T W) × Takes (first ask) s None × Acts form (Some s) ys rs)
-  idle None ask ys rs h = (refl, h)
-  idle (Some s) ask ys rs h = absurd h
+  idle : (at : Option (Stage (QueueCall T) T W)) (ask : ChannelAsk T W) (ys : List (Event T W)) (rs : List (Completed T)) (t : Option (Stage (QueueCall T) T W)) → ActsTo form at (begins ask ∷ ys) rs t
+      → (at ≡ None) × ((s : Stage (QueueCall T) T W) × Takes (first ask) s None × ActsTo form (Some s) ys rs t)
+  idle None ask ys rs t h = (refl, h)
+  idle (Some s) ask ys rs t h = absurd h
 
   begun : (p : ℕ) (ask : ChannelAsk T W) (xs : List (Happening T W)) (c d last : Parts T W × S) (parties : List (Party T W)) (given : ℕ → List (Completed T))
-      → c.0.cells.form ≡ form → AllApart id_of of parties → AllAct parties (happens p (begins ask) ∷ xs) given
+      → c.0.cells.form ≡ form → AllApart id_of stage_of parties → AllAct parties (happens p (begins ask) ∷ xs) given
       → d ≡ c → InOneOrder wakes xs d last → GoesOn xs last → Merged (happens p (begins ask) ∷ xs) c parties given last
   begun p ask xs c d last parties given f apart acts same order further =
-      let mine = idle (call_of id_of of p parties) ask (own p xs) (given p) (subst (λ (ys : List (Event T W)). Acts form (call_of id_of of p parties) ys (given p)) (own_mine p (begins ask) xs) (acts p)) in
+      let mine = idle (call_under id_of stage_of p parties) ask (own p xs) (given p) (to p) (subst (λ (ys : List (Event T W)). ActsTo form (call_under id_of stage_of p parties) ys (given p) (to p)) (own_mine p (begins ask) xs) (acts p)) in
       let at = mine.1.0 in
       let new : Party T W = party p at Nothing in
       let after : List (Party T W) = parties ++ new ∷ [] in
       let is_new : IsNewCall new.call (first ask) = (None, taken_of (first ask) at None mine.1.1) in
       let begins_so : HasBegun p ask parties unmarked after = runs.begun (asked queue_ask.Pop) p ask new.call parties unmarked after is_new refl refl in
-      let here : Acts form (call_of id_of of p after) (own p xs) (given p) = subst (λ (o : Option (Stage (QueueCall T) T W)). Acts form o (own p xs) (given p)) (sym (begun_mine id_of of p parties new refl mine.0)) mine.1.2 in
+      let here : ActsTo form (call_under id_of stage_of p after) (own p xs) (given p) (to p) = subst (λ (o : Option (Stage (QueueCall T) T W)). ActsTo form o (own p xs) (given p) (to p)) (sym (begun_mine id_of stage_of p parties new refl mine.0)) mine.1.2 in
       let leads : StepLeadsOn wakes c parties (step.Begin p ask) unmarked d after =
       subst (λ (x : Parts T W × S). StepLeadsOn wakes c parties (step.Begin p ask) unmarked x after) (sym same)
       (leads_begun wakes p ask c parties unmarked after (λ s sh. none_under_way p c.0 parties s mine.0 sh) begins_so) in
       joined p (begins ask) xs unmarked given given last c d parties after leads
       (further d after given (ap (λ (y : Parts T W × S). y.0.cells.form) same ∙ f)
-      (begun_apart id_of of p parties new refl mine.0 apart)
-      (acts_after p (begins ask) xs parties after given given acts here (λ q e. begun_other id_of of p q parties new refl e) (λ q e. refl))
+      (begun_apart id_of stage_of p parties new refl mine.0 apart)
+      (acts_after p (begins ask) xs parties after given given acts here (λ q e. begun_other id_of stage_of p q parties new refl e) (λ q e. refl))
       order)
       (λ q. either (p == q) (given q))
 
   -- a call makes a step
-  busy : (at : Option (Stage (QueueCall T) T W)) (o : Act T W) (ys : List (Event T W)) (rs : List (Completed T)) → Acts form at (does o ∷ ys) rs
-      → (s : Stage (QueueCall T) T W) × (at ≡ Some s) × Acts form (Some s) (does o ∷ ys) rs
-  busy None o ys rs h = absurd h
-  busy (Some s) o ys rs h = (s, refl, h)
+  busy : (at : Option (Stage (QueueCall T) T W)) (o : Act T W) (ys : List (Event T W)) (rs : List (Completed T)) (t : Option (Stage (QueueCall T) T W)) → ActsTo form at (does o ∷ ys) rs t
+      → (s : Stage (QueueCall T) T W) × (at ≡ Some s) × ActsTo form (Some s) (does o ∷ ys) rs t
+  busy None o ys rs t h = absurd h
+  busy (Some s) o ys rs t h = (s, refl, h)
 
   module _ (p : ℕ) (o : Act T W) (xs : List (Happening T W)) (c d last : Parts T W × S) (parties : List (Party T W)) (given : ℕ → List (Completed T))
-      (f : c.0.cells.form ≡ form) (apart : AllApart id_of of parties) (acts : AllAct parties (happens p (does o) ∷ xs) given)
-      (change : Changes wakes (does o) c d) (order : InOneOrder wakes xs d last) (further : GoesOn xs last) (at next : Stage (QueueCall T) T W) (m : Mark) (there : call_of id_of of p parties ≡ Some at) where
+      (f : c.0.cells.form ≡ form) (apart : AllApart id_of stage_of parties) (acts : AllAct parties (happens p (does o) ∷ xs) given)
+      (change : Changes wakes (does o) c d) (order : InOneOrder wakes xs d last) (further : GoesOn xs last) (at next : Stage (QueueCall T) T W) (m : Mark) (there : call_under id_of stage_of p parties ≡ Some at) where
     abbrev k : ℕ
-    k = place_of id_of of p parties
+    k = place_of id_of stage_of p parties
 
     abbrev mine : Party T W
     mine = party p next m
@@ -212,13 +226,13 @@ module _ {T W S : Type 0} (wakes : S → W → S → Type 0) (form : QueueForm) 
 
     abbrev is_there : HasParty p parties k
     is_there =
-        let h = has_at id_of of p parties at there in
+        let h = has_at id_of stage_of p parties at there in
         let old = h.0 in
         (old.call, h.1 ∙ ap (λ (n : ℕ). let z : Party T W = record { id = n; call = old.call } in Some z) h.2)
 
     steps_so : (answer : Option (Reply T)) → ChannelMakes (Notes form) at on_nothing o m next answer → StepsAt wakes c.0 parties k c.1 (entry answer) d.0 (after_step parties k mine answer) d.1
     steps_so answer makes =
-        let h = has_at id_of of p parties at there in
+        let h = has_at id_of stage_of p parties at there in
         let old = h.0 in
         let has = is_there.1 in
         let one : IsChannelStep wakes c.0 at c.1 d.0 next m answer d.1 = step_noted wakes form c d f at o m next answer makes change in
@@ -230,26 +244,26 @@ module _ {T W S : Type 0} (wakes : S → W → S → Type 0) (form : QueueForm) 
     leads answer makes = leads_stepped wakes p c parties (entry answer) d (after_step parties k mine answer) apart (is_there, steps_so answer makes)
 
     made_on : (answer : Option (Reply T)) → ChannelMakes (Notes form) at on_nothing o m next answer
-        → MatchOption answer (Acts form (Some next) (own p xs) (given p)) (λ x. (more : List (Completed T)) × (given p ≡ record { reply = x; kept = kept_by next } ∷ more) × Acts form None (own p xs) more)
+        → MatchOption answer (ActsTo form (Some next) (own p xs) (given p) (to p)) (λ x. (more : List (Completed T)) × (given p ≡ record { reply = x; kept = kept_by next } ∷ more) × ActsTo form None (own p xs) more (to p))
         → Merged (happens p (does o) ∷ xs) c parties given last
     made_on None makes goes =
         let after : List (Party T W) = slice_set parties k mine in
-        let here : Acts form (call_of id_of of p after) (own p xs) (given p) = subst (λ (y : Option (Stage (QueueCall T) T W)). Acts form y (own p xs) (given p)) (sym (set_mine id_of of p parties at mine refl there)) goes in
+        let here : ActsTo form (call_under id_of stage_of p after) (own p xs) (given p) (to p) = subst (λ (y : Option (Stage (QueueCall T) T W)). ActsTo form y (own p xs) (given p) (to p)) (sym (set_mine id_of stage_of p parties at mine refl there)) goes in
         joined p (does o) xs (entry None) given given last c d parties after (leads None makes)
-        (further d after given (form_after wakes form c d f at o m next None makes change) (set_apart id_of of p parties mine refl apart)
-        (acts_after p (does o) xs parties after given given acts here (λ q e. set_other id_of of p q parties mine refl e) (λ q e. refl))
+        (further d after given (form_after wakes form c d f at o m next None makes change) (set_apart id_of stage_of p parties mine refl apart)
+        (acts_after p (does o) xs parties after given given acts here (λ q e. set_other id_of stage_of p q parties mine refl e) (λ q e. refl))
         order)
         (λ q. either (p == q) (given q))
     made_on (Some x) makes (more, is, goes) =
         let after : List (Party T W) = remove parties k in
         let left : ℕ → List (Completed T) = λ q. if p == q then more else given q in
         let now : left p ≡ more = rw (itself p) refl in
-        let here : Acts form (call_of id_of of p after) (own p xs) (left p) =
-        subst (λ (rs : List (Completed T)). Acts form (call_of id_of of p after) (own p xs) rs) (sym now)
-        (subst (λ (y : Option (Stage (QueueCall T) T W)). Acts form y (own p xs) more) (sym (gone_mine id_of of p parties apart)) goes) in
+        let here : ActsTo form (call_under id_of stage_of p after) (own p xs) (left p) (to p) =
+        subst (λ (rs : List (Completed T)). ActsTo form (call_under id_of stage_of p after) (own p xs) rs (to p)) (sym now)
+        (subst (λ (y : Option (Stage (QueueCall T) T W)). ActsTo form y (own p xs) more (to p)) (sym (gone_mine id_of stage_of p parties apart)) goes) in
         joined p (does o) xs (entry (Some x)) given left last c d parties after (leads (Some x) makes)
-        (further d after left (form_after wakes form c d f at o m next (Some x) makes change) (gone_apart id_of of p parties apart)
-        (acts_after p (does o) xs parties after given left acts here (λ q e. gone_other id_of of p q parties e) (λ q e. rw e refl))
+        (further d after left (form_after wakes form c d f at o m next (Some x) makes change) (gone_apart id_of stage_of p parties apart)
+        (acts_after p (does o) xs parties after given left acts here (λ q e. gone_other id_of stage_of p q parties e) (λ q e. rw e refl))
         order)
         (λ q. told q (p == q) refl)
       where
@@ -259,17 +273,17 @@ module _ {T W S : Type 0} (wakes : S → W → S → Type 0) (form : QueueForm) 
         told q false e = rw e refl
 
   happened : (x : Happening T W) (xs : List (Happening T W)) (c d last : Parts T W × S) (parties : List (Party T W)) (given : ℕ → List (Completed T))
-      → (y : Event T W) → c.0.cells.form ≡ form → AllApart id_of of parties → AllAct parties (happens x.party y ∷ xs) given
+      → (y : Event T W) → c.0.cells.form ≡ form → AllApart id_of stage_of parties → AllAct parties (happens x.party y ∷ xs) given
       → Changes wakes y c d → InOneOrder wakes xs d last → GoesOn xs last → Merged (happens x.party y ∷ xs) c parties given last
   happened x xs c d last parties given (begins ask) f apart acts change order further = begun x.party ask xs c d last parties given f apart acts change order further
   happened x xs c d last parties given (does o) f apart acts change order further =
       let p = x.party in
-      let mine = busy (call_of id_of of p parties) o (own p xs) (given p) (subst (λ (ys : List (Event T W)). Acts form (call_of id_of of p parties) ys (given p)) (own_mine p (does o) xs) (acts p)) in
+      let mine = busy (call_under id_of stage_of p parties) o (own p xs) (given p) (to p) (subst (λ (ys : List (Event T W)). ActsTo form (call_under id_of stage_of p parties) ys (given p) (to p)) (own_mine p (does o) xs) (acts p)) in
       let g = mine.2 in
       made_on p o xs c d last parties given f apart acts change order further mine.0 g.1 g.0 mine.1 g.2 g.3 g.4
 
   pub merge : (events : List (Happening T W)) (last : Parts T W × S) → GoesOn events last
   merge [] last c parties given f apart acts order =
-      record { more = []; parties = parties; through = through_none wakes c parties last order; answers = λ p. sym (acts p) }
+      record { more = []; parties = parties; through = through_none wakes c parties last order; answers = λ p. sym (acts p).0; stands = λ p. sym (acts p).1 }
   merge (x ∷ xs) last c parties given f apart acts (d, change, order) =
       happened x xs c d last parties given x.event f apart acts change order (merge xs last)

@@ -9,7 +9,14 @@ use Rattle.channel_steps.specs.declared.run.Step.TheVariants as step
 use Rattle.channel_steps.proofs.Interface.{each_says, few_left, hold_still}
 use Rattle.channel_steps.proofs.StartFacts.{new_shown}
 use Rattle.channel_steps.proofs.every_run.Bounds.{bound_new, bound_next}
-use Rattle.channel_steps.proofs.every_run.Bridge.{merge}
+use Rattle.channel_steps.proofs.every_run.Bridge.{acts_to, merge}
+use Rattle.channel_steps.specs.every_run.Bridge.{Acts, ActsTo, InOneOrder, PartiesStandWhereTheyWent, own, stage_at}
+use Rattle.channel_steps.specs.every_run.BridgeHeadline.{KeepsTheHeadline}
+use Rattle.concurrent_queue.specs.Bridge.{HasCells}
+use Rattle.concurrent_queue.specs.declared.queue_call.QueueCall.{QueueCall}
+use Rattle.channel_calls.specs.declared.stage.Stage.{Stage}
+use Rattle.channel_calls.specs.declared.whole.Completed.{Completed}
+use Rattle.channel_calls.specs.Parts.{Parts}
 use Rattle.channel_steps.proofs.every_run.BridgeLeads.{Leads, next_moment, configurations_of}
 use Rattle.channel_steps.proofs.every_run.Closings as closings
 use Rattle.channel_steps.proofs.every_run.EndFacts.{may_end}
@@ -264,36 +271,51 @@ lasts : {T W : Type 0} (form : QueueForm) (events : List (Happening T W)) → La
 lasts form events (inl one) = inl one
 lasts form events (inr few) = let e = steps_many events in inr (omega (arith, few, e))
 
-pub merges_keep_the_headline : (T W S : Type 0) (wakes : S → W → S → Type 0) → MergesKeepTheHeadline T W S wakes
-merges_keep_the_headline T W S wakes form events given sink last woken has long acts order =
+pub keeps_the_headline : (T W S : Type 0) (wakes : S → W → S → Type 0) (form : QueueForm) (events : List (Happening T W)) (given : ℕ → List (Completed T)) (at : ℕ → Option (Stage (QueueCall T) T W)) (sink : S) (last : Parts T W) (woken : S)
+    → HasCells form → LastsFor (length events) form → ((p : ℕ) → ActsTo form None (own p events) (given p) (at p)) → InOneOrder wakes events (opened_parts form, sink) (last, woken)
+    → (keeps : KeepsTheHeadline wakes form events given sink last woken) × ((p : ℕ) → stage_at p keeps.is.parties ≡ at p)
+keeps_the_headline T W S wakes form events given at sink last woken has long acts order =
     let new : IsNew {T = T} form (new_cells form) = new_is form has in
     let first : MergeMoment T W S = just_opened form sink in
     let shown : Represents first.parts first.parties first.configuration = new_shown form (opened_parts form) [] new refl refl in
-    let m = merge wakes form events (last, woken) (opened_parts form, sink) [] given new.0 tt acts order in
+    let m = merge wakes form at events (last, woken) (opened_parts form, sink) [] given new.0 tt acts order in
     let g = m.through first.configuration (lasts form events long) shown in
     let r = g.run in
-    let kept = kept_new (capacity_of form) in
-    record {
-      is = record {
-        trace = m.more;
-        parties = m.parties;
-        configuration = g.end;
-        opened = shown;
-        run = record {
-          moments = r.moments;
-          each = each_says (Leads wakes) (λ n. Unit {0}) (NextMoment wakes) (λ a x e b l k. (next_moment wakes a x e b l, tt)) first (steps_of events) m.more r.moments tt r.each;
-          ends = r.ends;
+    let kept = kept_new (capacity_of form) in (
+      record {
+        is = record {
+          trace = m.more;
+          parties = m.parties;
+          configuration = g.end;
+          opened = shown;
+          run = record {
+            moments = r.moments;
+            each = each_says (Leads wakes) (λ n. Unit {0}) (NextMoment wakes) (λ a x e b l k. (next_moment wakes a x e b l, tt)) first (steps_of events) m.more r.moments tt r.each;
+            ends = r.ends;
+          };
+          configurations = configurations_of wakes first (steps_of events) m.more _ r;
+          shown = g.shown;
+          answers = m.answers;
+          stands = λ p. subst (λ (to : Option (Stage (QueueCall T) T W)). ActsTo form None (own p events) (given p) to) (sym (m.stands p)) (acts p);
         };
-        configurations = configurations_of wakes first (steps_of events) m.more _ r;
-        shown = g.shown;
-        answers = m.answers;
-      };
-      at_first = says_moment first shown kept;
-      each = each_says (Leads wakes) (λ (n : MergeMoment T W S). StaysSo n.configuration) (MergeStepSays wakes)
-          (λ a x e b l k. (says wakes a x e b l k, kept_next a.configuration x e l.names b.configuration l.next k)) first (steps_of events) m.more r.moments kept r.each;
-      after_the_end = nothing_comes wakes first (steps_of events) m.more r.moments kept r.each;
-      ends_soon = end_in_a_row wakes first (steps_of events) m.more r.moments shown r.each;
-    }
+        at_first = says_moment first shown kept;
+        each = each_says (Leads wakes) (λ (n : MergeMoment T W S). StaysSo n.configuration) (MergeStepSays wakes)
+            (λ a x e b l k. (says wakes a x e b l k, kept_next a.configuration x e l.names b.configuration l.next k)) first (steps_of events) m.more r.moments kept r.each;
+        after_the_end = nothing_comes wakes first (steps_of events) m.more r.moments kept r.each;
+        ends_soon = end_in_a_row wakes first (steps_of events) m.more r.moments shown r.each;
+      },
+      m.stands,
+    )
+
+pub merges_keep_the_headline : (T W S : Type 0) (wakes : S → W → S → Type 0) → MergesKeepTheHeadline T W S wakes
+merges_keep_the_headline T W S wakes form events given sink last woken has long acts order =
+    let g = λ (p : ℕ). acts_to form None (own p events) (given p) (acts p) in
+    (keeps_the_headline T W S wakes form events given (λ p. (g p).0) sink last woken has long (λ p. (g p).1) order).0
+
+pub parties_stand_where_they_went : (T W S : Type 0) (wakes : S → W → S → Type 0) → PartiesStandWhereTheyWent T W S wakes
+parties_stand_where_they_went T W S wakes form events given at sink last woken has long acts order =
+    let h = keeps_the_headline T W S wakes form events given at sink last woken has long acts order in
+    (h.0.is, h.1)
 
 pub merges_are_runs : (T W S : Type 0) (wakes : S → W → S → Type 0) → MergesAreRuns T W S wakes
 merges_are_runs T W S wakes form events given sink last woken has long acts order =

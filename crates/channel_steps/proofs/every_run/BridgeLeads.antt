@@ -2,26 +2,21 @@
 use Rattle.std.proofs.Common.{◌≡◌, ℕ, zero, suc, ◌<◌, ◌==◌, Bool, true, false, if◌then◌else◌, List, [], ◌∷◌, ◌++◌, map, length, slice_get, None, Some, refl, sym, ap, ◌∙◌, subst}
 use Rattle.channel_steps.proofs.every_run.Words.{QueueCall, Woken, Parts, ChannelAsk, Stage, HasBegun, Next, NextConfiguration, HasRange, IsRun, Configuration, OthersQuiet, Represents, StepsAt, HasParty, ActiveCall, ActiveCallWitness, active_call_of, Entry, Party, Step, IsInRange, Touches, blocks_after, MergeMoment, NextMoment, left_to, IsIdle}
 use Rattle.concurrent_queue.proofs.Callers.{AllApart, is_same, is_other, none_has, place_of}
+use Rattle.channel_steps.specs.every_run.Bridge.{id_of, stage_of}
 use Rattle.channel_steps.specs.declared.run.Step.TheVariants as step
 use Rattle.channel_steps.proofs.Interface.{blocks_begun, run_seen}
 use Rattle.channel_steps.proofs.MoveFacts.{in_range}
 use Rattle.channel_steps.proofs.RunFacts.{next_range}
 
 module _ {T W : Type 0} where
-  abbrev pub id_of : Party T W → ℕ
-  id_of x = x.id
-
-  abbrev pub of : Party T W → Stage (QueueCall T) T W
-  of x = x.call.stage
-
   -- which is at one place
-  at_one_place : (p : ℕ) (xs : List (Party T W)) → AllApart id_of of xs → (k : ℕ) (x : Party T W) → slice_get xs k ≡ Some x → x.id ≡ p → k ≡ place_of id_of of p xs
+  at_one_place : (p : ℕ) (xs : List (Party T W)) → AllApart id_of stage_of xs → (k : ℕ) (x : Party T W) → slice_get xs k ≡ Some x → x.id ≡ p → k ≡ place_of id_of stage_of p xs
   at_one_place p [] apart k x there his = absurd cc
   at_one_place p (y ∷ ys) apart k x there his = by (at_one_place p ys apart.1) (y.id == p) refl k there where
-    by : ((j : ℕ) (z : Party T W) → slice_get ys j ≡ Some z → z.id ≡ p → j ≡ place_of id_of of p ys) → (b : Bool) → (y.id == p) ≡ b
-        → (j : ℕ) → slice_get (y ∷ ys) j ≡ Some x → j ≡ (if b then 0 else suc (place_of id_of of p ys))
+    by : ((j : ℕ) (z : Party T W) → slice_get ys j ≡ Some z → z.id ≡ p → j ≡ place_of id_of stage_of p ys) → (b : Bool) → (y.id == p) ≡ b
+        → (j : ℕ) → slice_get (y ∷ ys) j ≡ Some x → j ≡ (if b then 0 else suc (place_of id_of stage_of p ys))
     by more true e zero h = refl
-    by more true e (suc j) h = absurd (none_has id_of of y.id ys apart.0 j x h (his ∙ sym (is_same y.id p e)))
+    by more true e (suc j) h = absurd (none_has id_of stage_of y.id ys apart.0 j x h (his ∙ sym (is_same y.id p e)))
     by more false e zero h = absurd (is_other y.id p e (let same : y ≡ x = cc in ap id_of same ∙ his))
     by more false e (suc j) h = ap (λ (n : ℕ). suc n) (more j x h his)
 
@@ -32,8 +27,8 @@ module _ {T W : Type 0} where
   party_at (x ∷ xs) zero u e = (x.party, refl, (let same : active_call_of x ≡ u = cc in ap (λ (v : ActiveCall T W). v.party) same))
   party_at (x ∷ xs) (suc k) u e = party_at xs k u e
 
-  only_one : (p : ℕ) (parts : Parts T W) (parties : List (Party T W)) (s : Configuration T W) → Represents parts parties s → AllApart id_of of parties
-      → (k : ℕ) (u : ActiveCall T W) → slice_get s.under_way k ≡ Some u → u.party ≡ p → k ≡ place_of id_of of p parties
+  only_one : (p : ℕ) (parts : Parts T W) (parties : List (Party T W)) (s : Configuration T W) → Represents parts parties s → AllApart id_of stage_of parties
+      → (k : ℕ) (u : ActiveCall T W) → slice_get s.under_way k ≡ Some u → u.party ≡ p → k ≡ place_of id_of stage_of p parties
   only_one p parts parties s sh apart k u there his =
       let x = party_at sh.witnesses k u (subst (λ (us : List (ActiveCall T W)). slice_get us k ≡ Some u) sh.under_way there) in
       at_one_place p parties apart k x.0 (subst (λ (ps : List (Party T W)). slice_get ps k ≡ Some x.0) (sym sh.parties_are) x.1) (x.2 ∙ his)
@@ -89,7 +84,7 @@ module _ {T W S : Type 0} (wakes : S → W → S → Type 0) where
       }
 
   pub leads_stepped : (p : ℕ) (c : Parts T W × S) (parties : List (Party T W)) (e : Entry T) (d : Parts T W × S) (after : List (Party T W))
-      → AllApart id_of of parties → (let k = place_of id_of of p parties in HasParty p parties k × StepsAt wakes c.0 parties k c.1 e d.0 after d.1)
+      → AllApart id_of stage_of parties → (let k = place_of id_of stage_of p parties in HasParty p parties k × StepsAt wakes c.0 parties k c.1 e d.0 after d.1)
       → StepLeadsOn c parties (step.Step p) e d after
   leads_stepped p c parties e d after apart (has, steps) s range sh =
       let h = steps s (record { id = p; call = has.0 }) range sh has.1 in

@@ -9,6 +9,7 @@ use Rattle.concurrent_queue.specs.Capacity.{capacity_of}
 use Rattle.concurrent_queue.specs.Deeds as cell
 use Rattle.concurrent_queue.specs.Effects as cell_effect
 use Rattle.concurrent_queue.specs.Made.{new_cells}
+use Rattle.concurrent_queue.specs.Parties.{call_under}
 use Rattle.concurrent_queue.specs.machine.FastPath.{Leads}
 use Rattle.concurrent_queue.specs.Walked.{CallMakes, StateMakes}
 use Rattle.concurrent_queue.specs.Walked as whole
@@ -85,6 +86,26 @@ module _ {T W : Type 0} where
       (λ r. (more : List (Completed T)) × (given ≡ record { reply = r; kept = kept_by next } ∷ more) × Acts form None xs more)
   Acts form at xs given = ⊥
 
+  -- the same, of a party that is left at this stage by the last of them, or with no call under way
+  abbrev pub ActsTo : QueueForm → Option (Stage (QueueCall T) T W) → List (Event T W) → List (Completed T) → Option (Stage (QueueCall T) T W) → Type 0
+  ActsTo form at [] given to = (given ≡ []) × (to ≡ at)
+  ActsTo form None (begins ask ∷ xs) given to = (at : Stage (QueueCall T) T W) × Takes (first ask) at None × ActsTo form (Some at) xs given to
+  ActsTo form (Some at) (does o ∷ xs) given to =
+      (m : Mark) × (next : Stage (QueueCall T) T W) × (answer : Option (Reply T)) × ChannelMakes (Notes form) at on_nothing o m next answer
+      × MatchOption answer (ActsTo form (Some next) xs given to)
+      (λ r. (more : List (Completed T)) × (given ≡ record { reply = r; kept = kept_by next } ∷ more) × ActsTo form None xs more to)
+  ActsTo form at xs given to = ⊥
+
+  -- at which stage a party's call stands, by the parties of a moment
+  abbrev pub id_of : Party T W → ℕ
+  id_of x = x.id
+
+  abbrev pub stage_of : Party T W → Stage (QueueCall T) T W
+  stage_of x = x.call.stage
+
+  abbrev pub stage_at : ℕ → List (Party T W) → Option (Stage (QueueCall T) T W)
+  stage_at p parties = call_under id_of stage_of p parties
+
   -- the events of one party, in their order
   abbrev pub own : ℕ → List (Happening T W) → List (Event T W)
   own p [] = []
@@ -135,7 +156,7 @@ module _ {T W : Type 0} where
       pub touches : Touches x m.parts n.parts
 
     -- a run from a channel that was opened over a queue of this form, with nobody at work, made just these steps, gave each party
-    -- this, and left these cells and this sink
+    -- this, and left these cells and this sink. At its end each party stands where its own events have led its machine
     pub record IsRunOf (form : QueueForm) (events : List (Happening T W)) (given : ℕ → List (Completed T)) (sink : S) (last : Parts T W) (woken : S) : Type 0 where
       pub trace : List (Entry T)
       pub parties : List (Party T W)
@@ -146,6 +167,7 @@ module _ {T W : Type 0} where
       pub configurations : IsRun NextConfiguration (new_configuration (capacity_of form)) (steps_of events) trace configuration
       pub shown : Represents last parties configuration
       pub answers : (p : ℕ) → given_to p events trace ≡ given p
+      pub stands : (p : ℕ) → ActsTo form None (own p events) (given p) (stage_at p parties)
 
 -- the positions of a queue of this form last for so many steps; one slot counts none
 abbrev pub LastsFor : ℕ → QueueForm → Type 0
@@ -157,6 +179,15 @@ MergesAreRuns T W S wakes =
     (form : QueueForm) (events : List (Happening T W)) (given : ℕ → List (Completed T)) (sink : S) (last : Parts T W) (woken : S)
     → HasCells form → LastsFor (length events) form → ((p : ℕ) → Acts form None (own p events) (given p))
     → InOneOrder wakes events (opened_parts form, sink) (last, woken) → IsRunOf wakes form events given sink last woken
+
+-- by whichever steps of its machine each party goes to `at` of it, there is such a run at whose end it stands there. A machine may make
+-- a step in several ways, as a call of many messages does that has no room for a message more
+abbrev pub PartiesStandWhereTheyWent : (T W S : Type 0) → (S → W → S → Type 0) → Type 0
+PartiesStandWhereTheyWent T W S wakes =
+    (form : QueueForm) (events : List (Happening T W)) (given : ℕ → List (Completed T)) (at : ℕ → Option (Stage (QueueCall T) T W)) (sink : S) (last : Parts T W) (woken : S)
+    → HasCells form → LastsFor (length events) form → ((p : ℕ) → ActsTo form None (own p events) (given p) (at p))
+    → InOneOrder wakes events (opened_parts form, sink) (last, woken)
+    → (run : IsRunOf wakes form events given sink last woken) × ((p : ℕ) → stage_at p run.parties ≡ at p)
 
 -- ---- whole calls over cells of any kind, as their contracts say it
 
