@@ -13,11 +13,9 @@ use concurrent_queue::call::QueueMark;
 use concurrent_queue::cells::{Cells, QueueForm, Slot, Word};
 use concurrent_queue::error::NoMemory;
 use concurrent_queue::queue_call::QueueCall;
+use std::cell::Cell;
 
-/// So many operations after the others came between, they go on, one step before each operation: a call may wait for them.
-const LATE: u32 = 40;
-
-/// A call that has made so many operations waits for what never comes.
+/// A call that has made so many operations waits for what never comes. Then the others go on whether it gives way or not.
 const ENDLESS: u32 = 400;
 
 /// What such a call is told, so that it ends and is seen.
@@ -93,7 +91,8 @@ impl Events {
     }
 }
 
-/// The cells of one owner, on which two others step before the operation of this number.
+/// The cells of one owner, on which two others step before the operation of this number. Then they go on where the call gives way, a step
+/// each time: so one that waits for them and gives way to nobody waits for ever.
 #[derive(Drop)]
 struct Beside {
     form: QueueForm,
@@ -101,6 +100,7 @@ struct Beside {
     cells: Scarce,
     made: u32,
     turn: u32,
+    ways: Cell<u32>,
     first: Other,
     second: Other,
     events: Events,
@@ -115,12 +115,17 @@ impl Beside {
         ensures { self.new.form ≡ self.old.form }
     {
         self.made = self.made.wrapping_add(1);
+        let ways = if self.is_endless() {
+            1
+        } else {
+            self.ways.replace(0)
+        };
         if self.made == self.turn {
             self.let_on(self.first.steps, 0);
             self.came_whole = self.first.said.is_some();
             self.let_on(0, self.second.steps);
-        } else if self.made > self.turn.saturating_add(LATE) {
-            self.let_on(1, 1);
+        } else if self.made > self.turn {
+            self.let_on(ways, ways);
         }
     }
 
@@ -225,5 +230,9 @@ impl Cells<u64> for Beside {
     fn retire(&mut self, block: u64) {
         self.before();
         self.cells.retire(block);
+    }
+
+    fn give_way(&self) {
+        self.ways.set(self.ways.get().wrapping_add(1));
     }
 }

@@ -10,13 +10,21 @@ use std::sync::atomic::{AtomicUsize, Ordering};
 use std::thread;
 use std::thread::Threads;
 
+mod drops;
 mod examples;
 mod logged;
+mod neighbours;
 mod standing;
 mod watched;
 
-/// How many messages each of two threads pushes.
-const EACH: u64 = 2_000;
+/// How many messages all threads push.
+const TOTAL: u64 = 10_000;
+
+/// How many each of two threads pushes.
+const EACH: u64 = TOTAL / 2;
+
+/// How often a thread pushes a message and pops one then.
+const TURNS: u64 = 2_500;
 
 /// After so many messages one of two threads closes the queue.
 const BEFORE: u64 = 300;
@@ -33,10 +41,15 @@ pub(crate) fn opened<T: Drop>(alloc: Global, capacity: usize) -> Option<Concurre
 /// What threads do at once.
 #[derive(Clone, Copy)]
 enum Working {
-    /// Two push so many messages each, the later one closes the queue then, and two pop.
+    /// Half of them push all messages, the last one closes the queue then, and the others pop.
     All,
+    /// The same, but where there is no place the oldest message leaves.
+    Displacing,
     /// Two push what goes in until one of them closes the queue, after so many, and two pop.
     UntilClosed,
+    /// Each pushes a message and then pops one, again and again; half of them displace another, where there is no place, and
+    /// pop none then.
+    InTurn,
     /// Each pushes and pops in turn, and looks at the logs.
     Logged,
 }
@@ -79,24 +92,90 @@ fn pop_all<R: Wait>(rt: &R, alloc: Global, queue: &ConcurrentQueue<u64>) -> Vec<
     messages
 }
 
-/// What one of the threads does: how many messages it pushed, or how many logs were wrong, or the messages that it popped.
+/// Pushes so many messages, beginning with this one, where there is no place for one in the place of the oldest: those that left.
+fn displace_from<R: Wait>(
+    rt: &R,
+    alloc: Global,
+    queue: &ConcurrentQueue<u64>,
+    first: u64,
+    most: u64,
+) -> Vec<u64> {
+    let mut messages = Vec::new(alloc);
+    for number in 0..most {
+        if let Ok(Some(message)) = queue.force_push(rt, first.wrapping_add(number)) {
+            let _ = messages.push(message);
+        }
+    }
+    messages
+}
+
+/// Pushes a message, or displaces one, and pops one where it displaced none, again and again: how often there was none to pop.
+fn push_and_pop<R: Wait>(rt: &R, queue: &ConcurrentQueue<u64>, displaces: bool) -> u64 {
+    let mut missed = 0u64;
+    for message in 0..TURNS {
+        let owed = if displaces {
+            queue.force_push(rt, message) == Ok(None)
+        } else {
+            push_from(rt, queue, message, 1) == 1
+        };
+        if owed && queue.pop(rt).is_err() {
+            missed = missed.wrapping_add(1);
+        }
+    }
+    missed
+}
+
+/// One of so many threads, and what they do.
+#[derive(Clone, Copy)]
+struct Job {
+    working: Working,
+    threads: usize,
+    thread: usize,
+}
+
+impl Job {
+    /// Whether it is one of those that push.
+    fn pushes(self) -> bool {
+        self.thread < self.threads / 2
+    }
+
+    /// Pushes this thread's share of all messages, and closes the queue after the last thread's: how many are in, and those that
+    /// left for them.
+    fn push_share<R: Wait>(
+        self,
+        rt: &R,
+        alloc: Global,
+        queue: &ConcurrentQueue<u64>,
+        ended: &AtomicUsize,
+    ) -> (u64, Vec<u64>) {
+        let most = if self.threads < 4 { TOTAL } else { EACH };
+        let first = most.wrapping_mul(self.thread as u64);
+        let done = match self.working {
+            Working::Displacing => (most, displace_from(rt, alloc, queue, first, most)),
+            _ => (push_from(rt, queue, first, most), Vec::new(alloc)),
+        };
+        if ended.fetch_add(1, Ordering::SeqCst).saturating_add(1) == self.threads / 2 {
+            queue.close();
+        }
+        done
+    }
+}
+
+/// What one of the threads does: how many messages it pushed, or how often something was wrong, and the messages that it got.
 fn work<R: Wait>(
     rt: &R,
     alloc: Global,
     queue: &ConcurrentQueue<u64>,
-    (working, thread): (Working, usize),
+    job: Job,
     ended: &AtomicUsize,
 ) -> (u64, Vec<u64>) {
-    let count = match (working, thread) {
-        (Working::All, 0 | 1) => {
-            let accepted = push_from(rt, queue, EACH.wrapping_mul(thread as u64), EACH);
-            if ended.fetch_add(1, Ordering::SeqCst) == 1 {
-                queue.close();
-            }
-            accepted
+    let count = match (job.working, job.thread) {
+        (Working::All | Working::Displacing, _) if job.pushes() => {
+            return job.push_share(rt, alloc, queue, ended);
         }
         (Working::UntilClosed, 0) => push_and_close(rt, queue),
         (Working::UntilClosed, 1) => push_from(rt, queue, 0, u64::MAX),
+        (Working::InTurn, _) => push_and_pop(rt, queue, job.pushes()),
         (Working::Logged, _) => wrong_logs(rt, alloc, queue),
         _ => return (0, pop_all(rt, alloc, queue)),
     };
@@ -115,7 +194,14 @@ fn at_once<R: Threads + Wait + Sync>(
         rt,
         alloc,
         threads,
-        &|thread| { work(rt, alloc, queue, (working, thread), &ended) },
+        &|thread| {
+            let job = Job {
+                working,
+                threads,
+                thread,
+            };
+            work(rt, alloc, queue, job, &ended)
+        },
     )
 }
 
@@ -141,37 +227,33 @@ fn count(found: &mut [u8], messages: &[u64]) {
     }
 }
 
-/// Whether each message stands once in one of the lists, and in its pusher's order.
-fn are_all(one: &[u64], other: &[u64]) -> bool {
-    let mut found = [0u8; 4_000];
-    count(&mut found, one);
-    count(&mut found, other);
-    found == [1; 4_000] && is_in_order(one) && is_in_order(other)
-}
-
-/// Whether two threads that pop got just what two others pushed, as far as that is known.
+/// Whether the threads got just what was pushed: as many, and but for those that push until the queue is closed each message once,
+/// and each thread those of one pusher in order.
 fn got_all(working: Working, done: &[(u64, Vec<u64>)]) -> bool {
-    let [first, second, third, fourth] = done else {
-        return false;
-    };
-    let (one, other) = (third.1.as_slice(), fourth.1.as_slice());
-    let popped = one.len().saturating_add(other.len()) as u64;
-    popped == first.0.wrapping_add(second.0)
-        && match working {
-            Working::UntilClosed => first.0 == BEFORE,
-            _ => are_all(one, other),
+    let mut found = [0u8; 10_000];
+    let (mut pushed, mut got, mut is_right) = (0u64, 0u64, true);
+    for (accepted, messages) in done {
+        pushed = pushed.wrapping_add(*accepted);
+        got = got.wrapping_add(messages.len() as u64);
+        count(&mut found, messages.as_slice());
+        is_right = is_right & is_in_order(messages.as_slice());
+    }
+    pushed == got
+        && match (working, done.first()) {
+            (Working::UntilClosed, Some(first)) => first.0 == BEFORE,
+            _ => is_right && found == [1; 10_000],
         }
 }
 
-/// Two threads push and two pop: whether these get what the others push, and then find the queue closed.
-fn four_threads<R: Threads + Wait + Sync>(
+/// So many threads push and pop: whether these get what the others push, and then find the queue closed.
+fn cross<R: Threads + Wait + Sync>(
     rt: &R,
     alloc: Global,
     queue: &ConcurrentQueue<u64>,
-    working: Working,
+    work: (Working, usize),
 ) -> bool {
-    let got = match &at_once(rt, alloc, queue, (working, 4)) {
-        Ok(done) => got_all(working, done.as_slice()),
+    let got = match &at_once(rt, alloc, queue, work) {
+        Ok(done) => got_all(work.0, done.as_slice()),
         Err(AllocError) => false,
     };
     got && queue.pop(rt) == Err(PopError::Closed) && queue.push(rt, 7) == Err(PushError::Closed(7))
@@ -191,30 +273,65 @@ fn passes<R: Threads + Wait + Sync>(
     rt: &R,
     alloc: Global,
     capacity: usize,
-    working: Working,
+    work: (Working, usize),
 ) -> bool {
     let Some(queue) = opened(alloc, capacity) else {
         return false;
     };
-    queue_crosses(&queue) && four_threads(rt, alloc, &queue, working)
+    queue_crosses(&queue) && cross(rt, alloc, &queue, work)
 }
 
 #[test]
 fn each_message_is_found_once_and_in_order(rt: HostRuntime) {
     for capacity in 1..5 {
-        expect_true(&rt, passes(&rt, rt.alloc(), capacity, Working::All));
+        expect_true(&rt, passes(&rt, rt.alloc(), capacity, (Working::All, 4)));
     }
 }
 
 #[test]
 fn the_same_in_an_unbounded_queue(rt: HostRuntime) {
-    expect_true(&rt, passes(&rt, rt.alloc(), 0, Working::All));
+    expect_true(&rt, passes(&rt, rt.alloc(), 0, (Working::All, 4)));
 }
 
 /// In queues with one place, with two, with three and without a bound.
 #[test]
 fn a_closed_queue_gives_the_rest_and_then_closed(rt: HostRuntime) {
     for capacity in 0..4 {
-        expect_true(&rt, passes(&rt, rt.alloc(), capacity, Working::UntilClosed));
+        let work = (Working::UntilClosed, 4);
+        expect_true(&rt, passes(&rt, rt.alloc(), capacity, work));
+    }
+}
+
+/// Of a thread that pushes beside one that pops, and of two beside two, in queues with one place, with three and without a bound.
+#[test]
+fn each_message_is_popped_or_displaced_once(rt: HostRuntime) {
+    for threads in [2, 4] {
+        for capacity in [0, 1, 3] {
+            let work = (Working::Displacing, threads);
+            expect_true(&rt, passes(&rt, rt.alloc(), capacity, work));
+        }
+    }
+}
+
+/// Whether four threads each of which pops as many as it pushed never find the queue empty.
+fn all_find_one<R: Threads + Wait + Sync>(rt: &R, alloc: Global, capacity: usize) -> bool {
+    let Some(queue) = opened(alloc, capacity) else {
+        return false;
+    };
+    let done = at_once(rt, alloc, &queue, (Working::InTurn, 4));
+    let mut is_right = done.is_ok();
+    if let Ok(done) = &done {
+        for (missed, _) in done {
+            is_right = is_right & (*missed == 0);
+        }
+    }
+    is_right && queue.is_empty()
+}
+
+/// Whoever has a message in the queue finds one to pop, whatever three others push, displace and pop.
+#[test]
+fn who_pushed_has_one_to_pop(rt: HostRuntime) {
+    for capacity in [1, 4] {
+        expect_true(&rt, all_find_one(&rt, rt.alloc(), capacity));
     }
 }

@@ -2,13 +2,14 @@
 
 use crate::beside::plain::{CHANGES, KINDS, Kind, Plain};
 use crate::beside::{ALL, Beside, Events, Other};
-use crate::checks::expect_none;
+use crate::checks::{expect_equal, expect_none};
 use crate::said::{Said, replied};
 use crate::scarce::{Scarce, asked, cells_with};
 use crate::turns::form_of;
 use concurrent_queue::call::QueueAsk;
 use concurrent_queue::queue_call::{QueueCall, whole};
 use std::alloc::{AllocError, Global};
+use std::cell::Cell;
 use std::process::Abort;
 use std::sync::Wait;
 
@@ -60,7 +61,7 @@ struct Outcome {
     others: [Said; 2],
     events: Events,
     left: Plain,
-    came: bool,
+    made: u32,
     came_whole: bool,
 }
 
@@ -105,6 +106,7 @@ fn make<R: Wait>(rt: &R, start: Start, cells: Scarce, case: Case) -> Outcome {
         cells,
         made: 0,
         turn: case.turn,
+        ways: Cell::new(0),
         first: Other::new(case.first, 8, case.steps),
         second: Other::new(case.second, 9, ALL),
         events: Events::new(),
@@ -112,6 +114,7 @@ fn make<R: Wait>(rt: &R, start: Start, cells: Scarce, case: Case) -> Outcome {
     };
     let call = QueueCall::new(case.kind.ask(7));
     let said = replied(&whole::complete(rt, call, &mut beside));
+    let made = beside.made;
     beside.let_on(ALL, ALL);
     beside.let_on(ALL, ALL);
     let closed = asked(&mut beside.cells, QueueAsk::Close) == ("was closed", 0);
@@ -121,14 +124,14 @@ fn make<R: Wait>(rt: &R, start: Start, cells: Scarce, case: Case) -> Outcome {
         beside.first.said.unwrap_or(("nothing", 0)),
         beside.second.said.unwrap_or(("nothing", 0)),
     ];
-    let (events, came, came_whole) = (beside.events, beside.made >= case.turn, beside.came_whole);
+    let (events, came_whole) = (beside.events, beside.came_whole);
     drop(beside);
     Outcome {
         said,
         others,
         events,
         left,
-        came,
+        made,
         came_whole,
     }
 }
@@ -197,8 +200,9 @@ fn wrong_at<R: Wait + Abort>(
         if !outcome.is_explained(case.kind, plain) {
             return (Some(case.wrong(&outcome)), true);
         }
-        if !outcome.came || outcome.came_whole {
-            return (None, outcome.came);
+        let came = outcome.made >= case.turn;
+        if !came || outcome.came_whole {
+            return (None, came);
         }
     }
     (None, true)
@@ -283,4 +287,36 @@ fn blocks_beside_others(rt: HostRuntime) {
     for (passed, messages) in [(0, 0), (0, 1), (29, 1)] {
         check(&rt, rt.alloc(), 0, 9, passed, messages);
     }
+}
+
+/// How many operations a pop makes beside a push that stood still after so many steps, and has to write its message yet.
+fn made_beside<R: Wait>(rt: &R, alloc: Global, capacity: usize, steps: u32) -> Option<u32> {
+    let [push, _, pop, close] = CHANGES;
+    let start = Start {
+        capacity,
+        bound: 9,
+        passed: 0,
+        messages: 0,
+        closed: false,
+    };
+    let case = Case {
+        kind: pop,
+        first: push,
+        second: close,
+        turn: 1,
+        steps,
+    };
+    let (cells, _) = start.begin(alloc).ok()?;
+    Some(make(rt, start, cells, case).made)
+}
+
+/// The push makes a step each time that the pop gives way, so one that gave way less often would make more operations.
+#[test]
+fn a_call_that_waits_gives_way(rt: HostRuntime) {
+    let made = [
+        made_beside(&rt, rt.alloc(), 1, 1),
+        made_beside(&rt, rt.alloc(), 2, 3),
+        made_beside(&rt, rt.alloc(), 0, 6),
+    ];
+    expect_equal(&rt, &made, &[Some(5), Some(11), Some(9)]);
 }
