@@ -1,5 +1,6 @@
 pub mod Lists
 pub mod Nodes
+pub mod Writes
 pub mod Chain
 pub mod Inside
 pub mod Notices

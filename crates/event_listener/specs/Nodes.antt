@@ -5,6 +5,7 @@ use Rattle.event_listener.specs.declared.node.State.{State}
 use Rattle.event_listener.specs.declared.node.State.TheVariants.{Waiting, Told}
 use Rattle.event_listener.specs.declared.node.Node.{Node}
 use Rattle.event_listener.specs.declared.node.Nodes.{Nodes}
+use Rattle.event_listener.specs.declared.node.Seen.{Seen}
 
 -- a number of 64 bits after one more, which is 0 after the greatest
 abbrev pub more : ℕ → ℕ
@@ -23,15 +24,26 @@ module _ {T W : Type 0} where
   found None serial = None
   found (Some node) serial = if node.serial == serial then Some (is_told node.state) else None
 
+  -- what a read of a place gives
+  abbrev pub seen : Option (Node T W) → Option Seen
+  seen None = None
+  seen (Some node) = Some (record { serial = node.serial; after = node.after; is_told = is_told node.state })
+
+  -- the visits after a read, where the node of the call's own serial counts for nothing, nor does a free place
+  abbrev pub read_visits : Bool → Option ℕ → Option (Node T W) → ℕ → ℕ
+  read_visits counted own None visits = visits
+  read_visits counted None (Some node) visits = more_if counted visits
+  read_visits counted (Some serial) (Some node) visits = more_if (counted && not (node.serial == serial)) visits
+
   -- the looks after one for a listener, where a free place counts for nothing
   abbrev pub found_looks : Option (Node T W) → ℕ → ℕ
   found_looks None looks = looks
   found_looks (Some node) looks = more looks
 
-  -- the looks after one for a listener whose task is stored where it waits, which is a read and a write besides
+  -- the looks after one for a listener whose task is stored where it waits, which is a write besides
   abbrev pub stored_looks : Option (Node T W) → ℕ → ℕ → ℕ
   stored_looks None serial looks = looks
-  stored_looks (Some node) serial looks = if (node.serial == serial) && not (is_told node.state) then more (more (more looks)) else more looks
+  stored_looks (Some node) serial looks = if (node.serial == serial) && not (is_told node.state) then more (more looks) else more looks
 
   -- the visits after a look, where the listener's own node counts for nothing either
   abbrev pub found_visits : Bool → Option (Node T W) → ℕ → ℕ → ℕ

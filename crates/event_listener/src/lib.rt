@@ -26,6 +26,7 @@ mod links;
 pub mod list;
 pub mod listener;
 mod node;
+mod node_calls;
 pub mod notify;
 pub mod parker;
 mod place;

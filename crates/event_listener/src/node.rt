@@ -1,14 +1,13 @@
 //! The nodes of a list. Each look at a node, and each change of one, is counted.
-ghost use Rattle.std.specs.Prelude.{◌≡◌, ◌+◌, ◌^◌, ◌<◌, ◌≤◌, IfSome, [], IsOk, IfOk, OnOk, OnErr, ◌≢◌, ℕ, None, Some, true, false};
-ghost use Rattle.slab.specs.Slab.{get, slab_len, Updates, HasRoomFor, ContainsKey, with_value};
-ghost use Rattle.event_listener.specs.Nodes.{found, found_looks, found_visits, stored_looks, more, more_if, Stays};
-ghost use Rattle.event_listener.specs.declared.node.State.TheVariants.{Waiting};
+ghost use Rattle.std.specs.Prelude.{◌≡◌, ◌+◌, ◌^◌, ◌<◌, ◌≤◌, [], IsOk, IfOk, OnOk, OnErr, ◌≢◌, ℕ, None, Some};
+ghost use Rattle.std.specs.Borrow.{sem};
+ghost use Rattle.slab.specs.Slab.{get, slab_len, Updates, HasRoomFor, ContainsKey};
+ghost use Rattle.event_listener.specs.Nodes.{seen, read_visits, found_looks, more, more_if};
+ghost use Rattle.event_listener.specs.Writes.{lends_node};
 
 use crate::error::NoMemory;
-use crate::key::Key;
 use slab::Slab;
 use std::alloc::Global;
-use std::mem;
 
 /// Whether a listener was told, and what came with it.
 #[derive(Drop)]
@@ -26,6 +25,14 @@ pub(crate) struct Node<T, W> {
     pub(crate) state: State<T, W>,
 }
 
+/// What a read of a node gives.
+#[derive(Clone, Copy)]
+pub(crate) struct Seen {
+    pub(crate) serial: u64,
+    pub(crate) after: Option<usize>,
+    pub(crate) is_told: bool,
+}
+
 /// The first and the last of a chain.
 #[derive(Clone, Copy)]
 pub(crate) struct Ends {
@@ -35,9 +42,10 @@ pub(crate) struct Ends {
 
 /// The nodes, and how often they were read or written.
 ///
-/// There is no other way to a node than the calls below. Each but the making of one counts in `looks`, whosever the node is, and no
-/// call sets that back: so the bound on it holds of what was really looked at. Those that are said to be counted, which are the
-/// visits of a call with a number to nodes that are not its own, count in `last` besides, which each such call begins.
+/// A node is reached by [`Nodes::read`] and [`Nodes::write`] alone, and all other calls on one are made of these in another file. Both
+/// count in `looks`, whosever the node is, and no call sets that back: so the bound on it holds of what was really looked at. Those that
+/// are said to be counted, which are the visits of a call with a number to nodes that are not its own, count in `last` besides, which each
+/// such call begins. A node is made uncounted, and read where it is taken out.
 /// Both count modulo 2^64, which takes centuries to come round: so to count is one addition in memory. They stand apart,
 /// since side by side they are added to as a pair, and such a read waits until the writes of each by itself are done.
 #[derive(Drop)]
@@ -86,136 +94,34 @@ impl<T: Drop, W: Drop> Nodes<T, W> {
         }
     }
 
-    /// Looks whether the key's node is there, and then whether it is told.
+    /// Reads the node in a place, where one stands.
     ///
-    /// The node in its place is the call's own, or that of another listener, whose number the look may count in.
+    /// It is a visit where that is counted and the node is another's: not that of the call's own serial.
     #[inline(always)]
-    pub(crate) fn find(&mut self, key: Key, counted: bool) -> Option<bool>
-        ensures answer { result ≡ found (get self.old.slab key.slot) key.serial }
-        ensures uncounted { counted ≡ false → self.new.last ≡ self.old.last }
-        ensures most { self.new.last ≤ self.old.last + 1 }
-        ensures most_looks { self.new.looks ≤ self.old.looks + 1 }
-        ensures rest { self.new ≡ record self.old { last = found_visits counted (get self.old.slab key.slot) key.serial self.old.last; looks = found_looks (get self.old.slab key.slot) self.old.looks } }
+    pub(crate) fn read(&mut self, at: usize, own: Option<u64>, counted: bool) -> Option<Seen>
+        ensures seen { result ≡ seen (get self.old.slab at) }
+        ensures rest { self.new ≡ record self.old { last = read_visits counted own (get self.old.slab at) self.old.last; looks = found_looks (get self.old.slab at) self.old.looks } }
     {
-        let node = self.slab.get(key.slot)?;
-        let is_own = node.serial == key.serial;
-        let told = matches!(node.state, State::Told { .. });
-        self.count(counted && !is_own);
-        if is_own { Some(told) } else { None }
-    }
-
-    /// Begins the number of a call that stores a task, and stores it where the key's node is there and waits.
-    ///
-    /// Answers as [`Nodes::find`] does. The node is sought once, and its state is tested once; yet to store counts as a
-    /// look, and then as a read and a write of the state. The older task is dropped.
-    #[inline(always)]
-    pub(crate) fn store(&mut self, key: Key, task: W) -> Option<bool>
-        ensures answer { result ≡ found (get self.old.slab key.slot) key.serial }
-        ensures stored { result ≡ Some false → IfSome (get self.old.slab key.slot) (λ node. self.new.slab ≡ with_value self.old.slab key.slot (record node { state = Waiting (Some task) })) }
-        ensures kept { result ≢ Some false → self.new.slab ≡ self.old.slab }
-        ensures len { slab_len self.new.slab ≡ slab_len self.old.slab }
-        ensures capacity { self.new.slab.capacity ≡ self.old.slab.capacity }
-        ensures last { self.new.last ≡ found_visits true (get self.old.slab key.slot) key.serial 0 }
-        ensures looks { self.new.looks ≡ stored_looks (get self.old.slab key.slot) key.serial self.old.looks }
-    {
-        self.start();
-        let Some(node) = self.slab.get_mut(key.slot) else {
-            return None;
+        let node = self.slab.get(at)?;
+        let seen = Seen {
+            serial: node.serial,
+            after: node.after,
+            is_told: matches!(node.state, State::Told { .. }),
         };
-        if node.serial != key.serial {
-            self.count(true);
-            return None;
-        }
-        match &mut node.state {
-            State::Waiting(held) => {
-                *held = Some(task);
-                self.count(false);
-                self.count(false);
-                self.count(false);
-                Some(false)
-            }
-            State::Told { .. } => {
-                self.count(false);
-                Some(true)
-            }
-        }
+        self.count(counted && own != Some(seen.serial));
+        Some(seen)
     }
 
-    /// Lets a node be followed by another.
+    /// Writes the node in a place, in any of its parts.
     #[inline(always)]
-    pub(crate) fn set_after(&mut self, at: usize, to: Option<usize>, counted: bool)
+    pub(crate) fn write(&mut self, at: usize, counted: bool) -> &mut Node<T, W>
         requires present { ContainsKey self.old.slab at }
-        ensures node { IfSome (get self.old.slab at) (λ node. self.new.slab ≡ with_value self.old.slab at (record node { after = to })) }
-        ensures last { self.new.last ≡ more_if counted self.old.last }
-        ensures looks { self.new.looks ≡ more self.old.looks }
-        ensures stays { Stays counted self.old self.new 1 }
+        ensures* lends { sem 𝓛 (lends_node T.row W.row self.entry at counted result) }
+        ensures node { get self.old.slab at ≡ Some result.now }
     {
         self.count(counted);
         match self.slab.get_mut(at) {
-            Some(node) => node.after = to,
-            None => unreachable!(),
-        }
-    }
-
-    /// Lets a node stand behind another.
-    #[inline(always)]
-    pub(crate) fn set_before(&mut self, at: usize, to: Option<usize>, counted: bool)
-        requires present { ContainsKey self.old.slab at }
-        ensures node { IfSome (get self.old.slab at) (λ node. self.new.slab ≡ with_value self.old.slab at (record node { before = to })) }
-        ensures last { self.new.last ≡ more_if counted self.old.last }
-        ensures looks { self.new.looks ≡ more self.old.looks }
-        ensures stays { Stays counted self.old self.new 1 }
-    {
-        self.count(counted);
-        match self.slab.get_mut(at) {
-            Some(node) => node.before = to,
-            None => unreachable!(),
-        }
-    }
-
-    /// Lets a node stand between these two, by one write.
-    #[inline(always)]
-    pub(crate) fn set_both(
-        &mut self,
-        at: usize,
-        before: Option<usize>,
-        after: Option<usize>,
-        counted: bool,
-    )
-        requires present { ContainsKey self.old.slab at }
-        ensures node { IfSome (get self.old.slab at) (λ node. self.new.slab ≡ with_value self.old.slab at (record node { before = before; after = after })) }
-        ensures last { self.new.last ≡ more_if counted self.old.last }
-        ensures looks { self.new.looks ≡ more self.old.looks }
-        ensures stays { Stays counted self.old self.new 1 }
-    {
-        self.count(counted);
-        match self.slab.get_mut(at) {
-            Some(node) => {
-                node.before = before;
-                node.after = after;
-            }
-            None => unreachable!(),
-        }
-    }
-
-    /// Gives a node another state, and gives back the one that it had and the node behind it: a read and a write.
-    #[inline(always)]
-    pub(crate) fn restate(
-        &mut self,
-        at: usize,
-        state: State<T, W>,
-        counted: bool,
-    ) -> (State<T, W>, Option<usize>)
-        requires present { ContainsKey self.old.slab at }
-        ensures node { IfSome (get self.old.slab at) (λ node. self.new.slab ≡ with_value self.old.slab at (record node { state = state })) }
-        ensures was { IfSome (get self.old.slab at) (λ node. result ≡ (node.state, node.after)) }
-        ensures last { self.new.last ≡ more_if counted (more_if counted self.old.last) }
-        ensures looks { self.new.looks ≡ more (more self.old.looks) }
-    {
-        self.count(counted);
-        self.count(counted);
-        match self.slab.get_mut(at) {
-            Some(node) => (mem::replace(&mut node.state, state), node.after),
+            Some(node) => node,
             None => unreachable!(),
         }
     }
@@ -255,7 +161,7 @@ impl<T: Drop, W: Drop> Nodes<T, W> {
         ensures last { self.new.last ≡ self.old.last }
         ensures looks { self.new.looks ≡ more self.old.looks }
     {
-        self.count(false);
+        let _ = self.read(at, None, false);
         match self.slab.try_remove(at) {
             Some(node) => node,
             None => unreachable!(),
