@@ -36,7 +36,7 @@ pub(crate) fn task<A: Abort + RandomSource + AllocGlobal>(rt: &A) -> MockTask {
 #[test]
 fn rows(rt: HostRuntime) {
     let all = Listening::of(rt, rt.alloc(), event(&rt, rt.alloc()), task(&rt));
-    expect_rows(&rt, UNIT_ROWS, &mut Units { all }, 9);
+    expect_rows(&rt, UNIT_ROWS, &mut Units { all }, 12);
 }
 
 #[test]

@@ -24,6 +24,34 @@ poll 1 = told
 poll 2 = told
 poll 3 = pending
 
+row all_are_told
+listen
+listen
+poll 0 = pending
+poll 1 = pending
+notify_all = 2
+poll 0 = told
+poll 1 = told
+
+# The notice that it had is for nobody: the other one that was told still is.
+row one_of_two_that_were_told_leaves
+listen
+listen
+listen
+notify u8 2 = 2
+drop 0
+poll 1 = told
+poll 2 = pending
+
+row one_that_waits_leaves
+listen
+listen
+listen
+notify u8 1 = 1
+drop 2
+poll 0 = told
+poll 1 = pending
+
 row discarded
 listen
 listen

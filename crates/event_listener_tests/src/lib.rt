@@ -31,6 +31,8 @@ mod lists;
 #[cfg(test)]
 mod made;
 #[cfg(test)]
+mod many;
+#[cfg(test)]
 mod notices;
 #[cfg(test)]
 mod recorded;

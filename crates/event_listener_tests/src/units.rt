@@ -46,6 +46,7 @@ impl<R: Wait + Clock + Copy> Units<'_, R> {
         let event = self.all.event();
         match words.word() {
             "notify" => notify(&rt, event, words.word(), byte(words)),
+            "notify_all" => notified(event.notify(&rt, usize::MAX)),
             "notify_additional" => Said::count(event.notify_additional(&rt, words.size())),
             "notify_relaxed" => Said::count(event.notify_relaxed(&rt, words.size())),
             "notify_additional_relaxed" => {
