@@ -20,7 +20,7 @@ use Rattle.channel_calls.specs.Asks.{first}
 use Rattle.channel_calls.specs.Blocks.{waiting_of, poll_woken, Asked, Slept, Looks, AnswersAtFirst, Listens, Round, Rounds, Wakens, Blocks}
 use Rattle.channel_calls.specs.Deeds.{Deed, Done, taken_off}
 use Rattle.channel_calls.specs.Filling.{Fills, StandsBehind}
-use Rattle.channel_calls.specs.Taking.{WaitsForNext, TakesNext}
+use Rattle.channel_calls.specs.Taking.{WaitsForNext}
 use Rattle.channel_calls.specs.Turns.{again, leaving, line_of, message_of}
 use Rattle.channel_calls.specs.Walks.{Leaves, WorkMakes, ChannelMakes, Leads, Walked, WalkedFrom, WalkedTo}
 use Rattle.channel_calls.specs.Calls.{send_ask}
@@ -117,11 +117,6 @@ module _ {T W X Y F : Type 0} (did : Deed T W → X → X → Type 0) (seen : De
 
   listens_seen : (b : Blocked T) (s : X) (key : Key) (t : X) → of s ≡ f → Listens did b s key t → Listens seen b (view s) key (view t)
   listens_seen b s key t h listens task = let (a, takes, n, path) = listens task in (a, takes, n, leads_seen n s a t _ h path)
-
-  pub takes_seen : (ended : Bool) (s : X) (item : Option T) (t : X) → of s ≡ f → TakesNext did ended s item t → TakesNext seen ended (view s) item (view t)
-  takes_seen true s item t h (none, e) = (none, ap view e)
-  takes_seen false s None t h (e, walked) = (e, to_seen (first ask.TryRecv) s _ t h walked)
-  takes_seen false s (Some v) t h walked = to_seen (first ask.TryRecv) s _ t h walked
 
   -- where no task was given it is known of the state behind, so it is of that before
   module _ (asked : Option W → X → X → Type 0) (asked_seen : Option W → Y → Y → Type 0) (asked_keeps : (o : Option W) (s t : X) → asked o s t → of t ≡ of s) (shows_asked : (o : Option W) (s t : X) → asked o s t → asked_seen o (view s) (view t))
@@ -227,9 +222,6 @@ module _ {T C K S : Type 0} (form : C → QueueForm) (beside : Deed T Task → C
 
     pub filled : (room : ℕ) (before after : List T) (r : Result ℕ TryRecvError) → Fills sees room before s r after t → Fills saw room before s.0.trace r after y
     filled room before after r fills = given (Fills saw room before s.0.trace r after) (fills_seen sees saw trace_of of (of s) kept_by (showed (of s)) room before s r after t refl fills)
-
-    pub taken : (ended : Bool) (item : Option T) → TakesNext sees ended s item t → TakesNext saw ended s.0.trace item y
-    taken ended item takes = given (TakesNext saw ended s.0.trace item) (takes_seen sees saw trace_of of (of s) kept_by (showed (of s)) ended s item t refl takes)
 
     pub several : (limit : ℕ) (r : Result (Vec T) (Refused TryRecvError Unit)) → ReceivesMany sees limit s r t → ReceivesMany saw limit s.0.trace r y
     several limit (Ok messages) walked = walked_to (first (ask.RecvMany limit)) (reply.RecvMany (Ok messages.items)) walked

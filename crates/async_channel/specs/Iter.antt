@@ -1,11 +1,30 @@
--- How long a walk over a receiver's messages may still be asked for one.
-use Rattle.std.specs.Prelude.{ℕ}
-use Rattle.std.specs.Sync.Forever.{forever_left}
-use Rattle.async_channel.specs.declared.handles.iter.Iter.{Iter}
-use Rattle.async_channel.specs.declared.handles.iter.TryIter.{TryIter}
+-- What a walk over a receiver's messages gives next, as the trace that its channel is watched by was shown, and how often it may still be
+-- asked.
+use Rattle.std.specs.Prelude.{ℕ, Bool, Option, Result, Ok, Err, MatchOption}
+use Rattle.concurrent_queue.specs.Deeds as cell
+use Rattle.event_listener.specs.declared.error.ListenError.{ListenError}
+use Rattle.channel_calls.specs.Asks.{first}
+use Rattle.channel_calls.specs.Deeds.{Deed}
+use Rattle.channel_calls.specs.Taking.{IsNext, WaitsForNext}
+use Rattle.channel_calls.specs.Walks.{WalkedTo}
+use Rattle.channel_calls.specs.declared.ask.ChannelAsk.TheVariants as ask
+use Rattle.channel_calls.specs.declared.error.TryRecvError.{TryRecvError}
+use Rattle.channel_calls.specs.declared.reply.Reply.TheVariants as reply
+use Rattle.async_channel.specs.Handles.{Handle}
+use Rattle.async_channel.specs.Watched.{WasSeen}
+use Rattle.async_channel.specs.declared.handles.turns.Turns.{Turns}
 
-abbrev pub waits_left : {T R S : Type 0} → Iter T R S → ℕ
-waits_left s = forever_left s.turns
+abbrev pub turns_left : Turns → ℕ
+turns_left t = t.left
 
-abbrev pub tries_left : {T R S : Type 0} → TryIter T R S → ℕ
-tries_left s = forever_left s.turns
+module _ {T W X : Type 0} (did : cell.Deed T → X → X → Type 0) (shown : Deed T W → X → X → Type 0) (entered : ℕ → X → X → Type 0) where
+  -- of a walk that waits, which had ended or not: what one receive that blocks answered, and after the end nothing. It has ended then where
+  -- it gave nothing
+  abbrev pub WaitsOnce : (Option W → X → X → Type 0) → (X → X → Type 0) → Handle → Bool → Option (Result T ListenError) → Bool → Type 0
+  WaitsOnce parked slept channel ended item after =
+      WasSeen did shown entered channel (λ saw. WaitsForNext saw parked slept ended) item × IsNext ended item after
+
+  -- of a walk that doesn't wait: what one receive answered. It was refused where there is no item, whatever came before
+  abbrev pub TriesOnce : Handle → Option T → Type 0
+  TriesOnce channel item =
+      MatchOption item ((e : TryRecvError) × WasSeen did shown entered channel (λ saw. WalkedTo saw (first ask.TryRecv)) (reply.TryRecv (Err e))) (λ message. WasSeen did shown entered channel (λ saw. WalkedTo saw (first ask.TryRecv)) (reply.TryRecv (Ok message)))

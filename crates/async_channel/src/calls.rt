@@ -11,7 +11,6 @@ ghost use Rattle.concurrent_queue.specs.Replies.{is_bounded, room_of};
 ghost use Rattle.channel_calls.specs.Asks.{first};
 ghost use Rattle.channel_calls.specs.Filling.{Fills, room_in};
 ghost use Rattle.channel_calls.specs.Replies.{RefusesTrySend, RefusesForceSend, GivesUpTo};
-ghost use Rattle.channel_calls.specs.Taking.{IsNext, TakesNext};
 ghost use Rattle.channel_calls.specs.Walks.{WalkedTo};
 ghost use Rattle.channel_calls.specs.declared.ask.ChannelAsk.TheVariants as ask;
 ghost use Rattle.channel_calls.specs.declared.reply.Reply.TheVariants as reply;
@@ -21,7 +20,7 @@ ghost use Rattle.async_channel.specs.Several.{ReceivesMany};
 use crate::cells::Places;
 use crate::seen::{Seen, Trace};
 use channel_calls::error::{Refused, SendError, TryRecvError, TrySendError};
-use channel_calls::{calls, filling, taking};
+use channel_calls::{calls, filling};
 use event_listener::waking::WakeNow;
 use std::alloc::Global;
 use std::sync::Wait;
@@ -127,19 +126,4 @@ pub(crate) fn recv_many_into<T: Drop, R: Wait, C: Places<T>, S: Trace<T>>(
     let mut seen = seen;
     let received = filling::recv_many_into(rt, into, &mut seen, &mut WakeNow { rt });
     (received, seen.into_trace())
-}
-
-/// The next message of a walk over those that are there, which has ended or not: `None` ends it.
-#[inline(always)]
-pub(crate) fn next_there<T: Drop, R: Wait, C: Places<T>, S: Trace<T>>(
-    rt: &R,
-    ended: &mut bool,
-    seen: Seen<C, S>,
-) -> (Option<T>, S)
-    ensures walked { TakesNext (Saw S.did S.shown (C.form_of seen.cells)) ended.old seen.trace (result.0) (result.1) }
-    ensures end { IsNext ended.old (result.0) ended.new }
-{
-    let mut seen = seen;
-    let next = taking::next_there(rt, ended, &mut seen, &mut WakeNow { rt });
-    (next, seen.into_trace())
 }

@@ -8,4 +8,5 @@ pub(crate) mod recv;
 pub(crate) mod send;
 pub(crate) mod sender;
 mod stream;
+mod turns;
 pub(crate) mod weak;

@@ -67,7 +67,7 @@ pub use event_listener::id::EventIds;
 pub use event_listener::key::Key;
 pub use event_listener::waking::Task;
 pub use handles::closed::Closed;
-pub use handles::iter::{Iter, TryIter};
+pub use handles::iter::{IntoIter, Iter, TryIter};
 pub use handles::receiver::Receiver;
 pub use handles::recv::Recv;
 pub use handles::send::Send;

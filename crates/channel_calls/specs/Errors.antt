@@ -52,6 +52,18 @@ module _ {T : Type 0} where
   was_closed (refused.NoMemory m) = false
   was_closed (refused.SerialsUsedUp m) = false
 
+  -- the same refusal, of no message
+  abbrev pub bare_send : Refused (SendError T) T → Refused (SendError Unit) Unit
+  bare_send (refused.Plain e) = refused.Plain (record { 0 = tt })
+  bare_send (refused.NoMemory m) = refused.NoMemory tt
+  bare_send (refused.SerialsUsedUp m) = refused.SerialsUsedUp tt
+
+  abbrev pub bare_try_send : Refused (TrySendError T) T → Refused (TrySendError Unit) Unit
+  bare_try_send (refused.Plain (try_send.Full m)) = refused.Plain (try_send.Full tt)
+  bare_try_send (refused.Plain (try_send.Closed m)) = refused.Plain (try_send.Closed tt)
+  bare_try_send (refused.NoMemory m) = refused.NoMemory tt
+  bare_try_send (refused.SerialsUsedUp m) = refused.SerialsUsedUp tt
+
 -- the channel's own refusal; none where memory or serials were wanting
 abbrev pub own_refusal : {E K : Type 0} → Refused E K → Option E
 own_refusal (refused.Plain e) = Some e

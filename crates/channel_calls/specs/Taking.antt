@@ -1,18 +1,14 @@
--- A walk over the messages of a channel: the receives that give its items, over any cells, whatever they hold.
-use Rattle.std.specs.Prelude.{◌≡◌, Bool, true, false, Option, None, Some, Result, Ok, Err, MatchOption}
+-- A walk that waits for the messages of a channel: the receives that give its items, over any cells, whatever they hold.
+use Rattle.std.specs.Prelude.{◌≡◌, Bool, true, false, Option, None, Some, Result, Ok, Err}
 use Rattle.event_listener.specs.declared.error.ListenError.{ListenError}
 use Rattle.futures.specs.declared.task.Poll.TheVariants.{Ready}
-use Rattle.channel_calls.specs.Asks.{first}
 use Rattle.channel_calls.specs.Blocks.{Blocks}
 use Rattle.channel_calls.specs.Deeds.{Deed}
 use Rattle.channel_calls.specs.Turns.{want, nothing_kept}
-use Rattle.channel_calls.specs.Walks.{WalkedTo}
-use Rattle.channel_calls.specs.declared.ask.ChannelAsk.TheVariants as ask
 use Rattle.channel_calls.specs.declared.blocked.Blocked.TheVariants.{Receive}
 use Rattle.channel_calls.specs.declared.error.RecvError.{RecvError}
 use Rattle.channel_calls.specs.declared.error.Refused.{Refused}
 use Rattle.channel_calls.specs.declared.error.Refused.TheVariants.{Plain}
-use Rattle.channel_calls.specs.declared.error.TryRecvError.{TryRecvError}
 use Rattle.channel_calls.specs.declared.reply.Reply.TheVariants as reply
 
 -- what a receive that blocks has answered where the walk gives this: only a closed and empty channel ends it
@@ -26,13 +22,6 @@ module _ {T W X : Type 0} (did : Deed T W → X → X → Type 0) (asked : Optio
   abbrev pub WaitsForNext : Bool → X → Option (Result T ListenError) → X → Type 0
   WaitsForNext true s item t = (item ≡ None) × (t ≡ s)
   WaitsForNext false s item t = Blocks did asked slept Receive s (reply.RecvPoll (Ready (waited_for item))) nothing_kept t
-
--- the same by one receive that doesn't wait: where that is refused, there is no item
-module _ {T W X : Type 0} (did : Deed T W → X → X → Type 0) where
-  abbrev pub TakesNext : Bool → X → Option T → X → Type 0
-  TakesNext true s item t = (item ≡ None) × (t ≡ s)
-  TakesNext false s item t =
-      MatchOption item ((e : TryRecvError) × WalkedTo did (first ask.TryRecv) s (reply.TryRecv (Err e)) t) (λ v. WalkedTo did (first ask.TryRecv) s (reply.TryRecv (Ok v)) t)
 
 -- whether a walk has ended before and after it gave this: it ends where it gives nothing, and then gives nothing more
 abbrev pub IsNext : {A : Type 0} → Bool → Option A → Bool → Type 0

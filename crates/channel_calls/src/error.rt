@@ -163,7 +163,26 @@ impl<T> Refused<SendError<T>> {
 
 impl<T> Refused<SendError<T>, T> {
     ghost use Rattle.std.specs.Prelude.{◌≡◌};
-    ghost use Rattle.channel_calls.specs.Errors.{handed_back};
+    ghost use Rattle.channel_calls.specs.Errors.{handed_back, bare_send};
+
+    /// The same refusal without its message, which is dropped. It is an [`Error`] whatever the message is, as `?` asks, where this one is
+    /// an error only for messages with `Debug`.
+    ///
+    /// ```text
+    /// // of messages of type `Job`, in a function that returns `anyhow::Result`
+    /// sender.send_blocking(job).map_err(|refused| refused.without_message())?;
+    /// ```
+    pub fn without_message(self) -> Refused<SendError<()>>
+    where
+        T: Drop,
+        ensures { result ≡ bare_send self }
+    {
+        match self {
+            Refused::Plain(_) => Refused::Plain(SendError(())),
+            Refused::NoMemory(_) => Refused::NoMemory(()),
+            Refused::SerialsUsedUp(_) => Refused::SerialsUsedUp(()),
+        }
+    }
 
     /// The message that wasn't sent, whatever refused it.
     pub fn into_inner(self) -> T
@@ -179,7 +198,22 @@ impl<T> Refused<SendError<T>, T> {
 
 impl<T> Refused<TrySendError<T>, T> {
     ghost use Rattle.std.specs.Prelude.{◌≡◌};
-    ghost use Rattle.channel_calls.specs.Errors.{try_handed_back, was_full, was_closed};
+    ghost use Rattle.channel_calls.specs.Errors.{try_handed_back, bare_try_send, was_full, was_closed};
+
+    /// The same refusal without its message, which is dropped. It is an [`Error`] whatever the message is, as `?` asks, where this one is
+    /// an error only for messages with `Debug`.
+    pub fn without_message(self) -> Refused<TrySendError<()>>
+    where
+        T: Drop,
+        ensures { result ≡ bare_try_send self }
+    {
+        match self {
+            Refused::Plain(TrySendError::Full(_)) => Refused::Plain(TrySendError::Full(())),
+            Refused::Plain(TrySendError::Closed(_)) => Refused::Plain(TrySendError::Closed(())),
+            Refused::NoMemory(_) => Refused::NoMemory(()),
+            Refused::SerialsUsedUp(_) => Refused::SerialsUsedUp(()),
+        }
+    }
 
     /// The message that wasn't sent, whatever refused it.
     pub fn into_inner(self) -> T

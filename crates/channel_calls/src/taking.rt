@@ -1,16 +1,14 @@
-//! A walk over the messages of a channel, over any cells: what gives the next one. All of it is own to this project.
+//! A walk that waits for the messages of a channel, over any cells: what gives the next one. Own to this project.
 //!
 //! Whatever the cells hold: while the walk has not ended, its next item is what one receive answers, and after its end nothing is done
-//! (clauses `deeds`). That it has ended is kept by the walk, so nothing comes after its end.
+//! (clause `deeds`). That it has ended is kept by the walk, so nothing comes after its end.
 
 ghost use Rattle.concurrent_queue.specs.declared.cells.QueueForm.{QueueForm};
 ghost use Rattle.channel_calls.specs.Blocks.{Asked, Slept};
 ghost use Rattle.channel_calls.specs.Deeds.{Done};
-ghost use Rattle.channel_calls.specs.Taking.{WaitsForNext, TakesNext, IsNext};
+ghost use Rattle.channel_calls.specs.Taking.{WaitsForNext, IsNext};
 
 use crate::blocking::recv_blocking;
-use crate::calls::try_recv;
-use crate::cells::ChannelCells;
 use crate::error::{RecvError, Refused};
 use crate::sleeps::Sleeps;
 use event_listener::error::ListenError;
@@ -40,31 +38,6 @@ pub fn next_blocking<T: Drop, W: Drop, R: Wait, C: Sleeps<T, W>, S: Wakes<W>>(
         Err(Refused::SerialsUsedUp(())) => Some(Err(ListenError::SerialsUsedUp)),
         Err(Refused::Plain(RecvError)) => {
             *ended = true; // for good
-            None
-        }
-    }
-}
-
-/// The next message that is there. `None` where there is none, which ends the walk.
-#[inline(always)]
-pub fn next_there<T: Drop, W: Drop, R: Wait, C: ChannelCells<T, W>, S: Wakes<W>>(
-    rt: &R,
-    ended: &mut bool,
-    cells: &mut C,
-    sink: &mut S,
-) -> Option<T>
-    requires form { (f : QueueForm) × C.has_form cells.old f }
-    ensures deeds { TakesNext (Done C.did S.wakes) ended.old (cells.old, sink.old) result (cells.new, sink.new) }
-    ensures end { IsNext ended.old result ended.new }
-    ensures form { (f : QueueForm) → C.has_form cells.old f → C.has_form cells.new f }
-{
-    if *ended {
-        return None;
-    }
-    match try_recv(rt, cells, sink) {
-        Ok(message) => Some(message),
-        Err(_) => {
-            *ended = true;
             None
         }
     }

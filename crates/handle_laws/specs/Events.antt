@@ -9,7 +9,6 @@ use Rattle.channel_calls.specs.Asks.{first}
 use Rattle.channel_calls.specs.Blocks.{Blocks}
 use Rattle.channel_calls.specs.Deeds.{Deed}
 use Rattle.channel_calls.specs.Filling.{Fills}
-use Rattle.channel_calls.specs.Taking.{TakesNext}
 use Rattle.channel_calls.specs.Turns.{leaving}
 use Rattle.channel_calls.specs.Walks.{Takes, Leads, WalkedFrom, WalkedTo}
 use Rattle.channel_calls.specs.declared.ask.ChannelAsk.{ChannelAsk}
@@ -95,13 +94,6 @@ module _ {T W X : Type 0} (did : cell.Deed T → X → X → Type 0) (shown : De
       (channel : Handle) (room : ℕ) (before : List T) (s : X) (r : Result ℕ TryRecvError) (after : List T) (t : X)
       → SeenOn did shown entered channel (λ saw begin a end. Fills saw room before begin a after end) s r t
       → (here : X) × entered channel.seal s here × (answer : Result (List T) (Refused TryRecvError Unit)) × (kept : Returned T) × HasEvents did (Saw did shown channel.form) channel.form (RecvMany room) here (reply.RecvMany answer) kept t
-
-  -- of a message that a walk gives which doesn't wait and has not ended
-  abbrev pub TakesAct : Type 0
-  TakesAct =
-      (channel : Handle) (ended : Bool) (s : X) (item : T) (t : X)
-      → SeenOn did shown entered channel (λ saw. TakesNext saw ended) s (Some item) t
-      → (here : X) × entered channel.seal s here × (kept : Returned T) × HasEvents did (Saw did shown channel.form) channel.form TryRecv here (reply.TryRecv (Ok item)) kept t
 
 module _ {T W X : Type 0} (did : cell.Deed T → X → X → Type 0) (shown : Deed T W → X → X → Type 0) (parked : Option W → X → X → Type 0) (slept : X → X → Type 0) where
   -- what was seen of a call that blocks its thread, a deed on a list behind what the thread rested before it

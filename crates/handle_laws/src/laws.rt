@@ -1,7 +1,7 @@
 //! Laws of what calls of handles show the traces that watch them. Each is the contract of a function that does nothing.
 
 ghost use Rattle.event_listener.specs.declared.waking.Task.{Task as Waiter};
-ghost use Rattle.handle_laws.specs.Events.{WalksAct, CallsAct, PollsAct, SendPollsAct, ClonesAct, UpgradesAct, SeveralAct, FillsAct, TakesAct, BlocksAct, RestedAct, StandsAct};
+ghost use Rattle.handle_laws.specs.Events.{WalksAct, CallsAct, PollsAct, SendPollsAct, ClonesAct, UpgradesAct, SeveralAct, FillsAct, BlocksAct, RestedAct, StandsAct};
 
 use async_channel::Trace;
 
@@ -26,7 +26,6 @@ pub fn walks_of_handles_act<T, S: Trace<T>>()
     ensures upgrades { UpgradesAct {W = Waiter} S.did S.shown S.entered }
     ensures several { SeveralAct {W = Waiter} S.did S.shown S.entered }
     ensures fills { FillsAct {W = Waiter} S.did S.shown S.entered }
-    ensures takes { TakesAct {W = Waiter} S.did S.shown S.entered }
     ensures blocks { BlocksAct {W = Waiter} S.did S.shown S.parked S.slept S.entered }
     ensures rested { RestedAct {W = Waiter} S.did S.shown S.parked S.slept }
     ensures stands { StandsAct {W = Waiter} S.did S.shown S.parked S.slept }

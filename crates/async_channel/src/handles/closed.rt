@@ -1,8 +1,8 @@
 //! The polled wait for a channel's closing.
 
-ghost use Rattle.std.specs.Prelude.{◌≡◌, None, is_some};
-ghost use Rattle.futures.specs.Poll.{OnPending};
-ghost use Rattle.futures.specs.Task.{IsArmed, Keeps};
+ghost use Rattle.std.specs.Prelude.{◌≡◌, None, is_some, ⊤};
+ghost use Rattle.futures.specs.Poll.{IfReady, OnPending};
+ghost use Rattle.futures.specs.Task.{Covers, IsArmed, Keeps};
 ghost use Rattle.channel_calls.specs.Asks.{first};
 ghost use Rattle.channel_calls.specs.Calls.{closed_ask};
 ghost use Rattle.channel_calls.specs.Listed.{is_pending};
@@ -11,7 +11,7 @@ ghost use Rattle.channel_calls.specs.declared.ask.ChannelAsk.TheVariants as ask;
 ghost use Rattle.channel_calls.specs.declared.reply.Reply.TheVariants as reply;
 ghost use Rattle.channel_calls.specs.declared.stage.WaitList.TheVariants as line;
 ghost use Rattle.async_channel.specs.Handles.{new_listening};
-ghost use Rattle.async_channel.specs.Polls.{Polls};
+ghost use Rattle.async_channel.specs.Polls.{MayStillGive, Polls};
 ghost use Rattle.async_channel.specs.Watched.{WasSeen};
 
 use crate::handles::sender::Sender;
@@ -80,7 +80,18 @@ impl<'a, T: Drop, R: Wait + Copy, S: Trace<T> + Copy> Closed<'a, T, R, S> {
 impl<T: Drop, R: Wait + Copy, S: Trace<T> + Copy> Future for Closed<'_, T, R, S> {
     type Output = Result<(), ListenError>;
 
-    fn poll(&mut self, cx: &mut Context<'_>) -> Poll<Result<(), ListenError>> {
+    // The trait's clauses say nothing of the answer, so behind them stand those of the method itself.
+    fn poll(&mut self, cx: &mut Context<'_>) -> Poll<Result<(), ListenError>>
+        ensures value { IfReady result (λ _. ⊤) }
+        ensures polled_on { OnPending result ⊤ }
+        ensures same { MayStillGive result }
+        ensures registered { OnPending result (Covers cx.new (λ _. ⊥)) }
+        ensures walked { WasSeen S.did S.shown S.entered self.old.channel (λ saw begin r end. Polls saw (closed_ask self.old.key) begin r self.new.key end) (reply.ClosedPoll result) }
+        ensures listed { is_some self.new.key ≡ is_pending result }
+        ensures channel { self.new.channel ≡ self.old.channel }
+        ensures armed { OnPending result (IsArmed cx.new) }
+        ensures kept { Keeps cx.old cx.new }
+    {
         Closed::poll(self, cx)
     }
 }

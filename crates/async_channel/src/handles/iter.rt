@@ -1,23 +1,37 @@
 //! Walks over a receiver's messages.
 
-ghost use Rattle.std.specs.Iterator.{at_most};
-ghost use Rattle.channel_calls.specs.Taking.{IsNext, TakesNext, WaitsForNext};
-ghost use Rattle.async_channel.specs.Iter.{waits_left, tries_left};
-ghost use Rattle.async_channel.specs.Watched.{WasSeen};
 ghost use Rattle.std.specs.Prelude.{◌≡◌, false};
+ghost use Rattle.std.specs.Iterator.{at_most};
+ghost use Rattle.async_channel.specs.Iter.{turns_left, WaitsOnce, TriesOnce};
 
 use crate::handles::receiver::Receiver;
+use crate::handles::turns::Turns;
 use crate::open::no_trace::NoTrace;
 use crate::seen::Trace;
 use event_listener::error::ListenError;
-use std::sync::{Forever, Wait};
+use std::sync::Wait;
 
-/// A receiver's messages, one after another: each is waited for. Made by [`iter`](Receiver::iter). Own to this project.
+impl<T: Drop, R: Wait + Copy, S: Trace<T> + Copy> Receiver<T, R, S> {
+    ghost use Rattle.channel_calls.specs.Taking.{IsNext, WaitsForNext};
+    ghost use Rattle.async_channel.specs.Watched.{WasSeen};
+
+    /// The next item of a walk that waits, which has ended or not.
+    #[inline(always)]
+    fn next_item(&self, ended: &mut bool) -> Option<Result<T, ListenError>>
+        ensures walked { WasSeen S.did S.shown S.entered self.now.channel (λ saw. WaitsForNext saw S.parked S.slept ended.old) result }
+        ensures end { IsNext ended.old result ended.new }
+    {
+        self.traced().next_blocking(ended, self.watch).0
+    }
+}
+
+/// A receiver's messages, one after another: each is waited for as by [`recv_blocking`](Receiver::recv_blocking). `None` where the channel
+/// is closed and empty, and from then on. Made by [`iter`](Receiver::iter). Own to this project.
 #[derive(Drop)]
 pub struct Iter<'a, T: Drop, R: Wait + Copy, S: Trace<T> + Copy = NoTrace> {
     receiver: &'a Receiver<T, R, S>,
     ended: bool,
-    turns: Forever<'a, R>,
+    turns: Turns,
 }
 
 impl<'a, T: Drop, R: Wait + Copy, S: Trace<T> + Copy> Iter<'a, T, R, S> {
@@ -28,83 +42,107 @@ impl<'a, T: Drop, R: Wait + Copy, S: Trace<T> + Copy> Iter<'a, T, R, S> {
         Iter {
             receiver,
             ended: false,
-            turns: receiver.rt.forever(),
+            turns: Turns::new(),
         }
-    }
-
-    /// The next message, waited for as by [`recv_blocking`](Receiver::recv_blocking): `None` where the channel is closed and empty, and
-    /// from then on.
-    #[inline(always)]
-    pub fn next(&mut self) -> Option<Result<T, ListenError>>
-        ensures walked { WasSeen S.did S.shown S.entered self.old.receiver.now.channel (λ saw. WaitsForNext saw S.parked S.slept self.old.ended) result }
-        ensures end { IsNext self.old.ended result self.new.ended }
-        ensures turns { waits_left self.new ≡ waits_left self.old }
-    {
-        let receiver = self.receiver;
-        receiver
-            .traced()
-            .next_blocking(&mut self.ended, receiver.watch)
-            .0
     }
 }
 
 impl<'a, T: Drop, R: Wait + Copy, S: Trace<T> + Copy> Iterator for Iter<'a, T, R, S> {
     type Item = Result<T, ListenError>;
 
-    ghost next_gives = { λ s item t. IsNext s.ended item t.ended };
+    // So a `for` over it knows what each item is.
+    ghost next_gives = { λ s item t. (t.receiver.now.channel ≡ s.receiver.now.channel) × WaitsOnce S.did S.shown S.entered S.parked S.slept s.receiver.now.channel s.ended item t.ended };
 
-    ghost remaining = { λ s. at_most (waits_left s) };
+    ghost remaining = { λ s. at_most (turns_left s.turns) };
 
     fn next(&mut self) -> Option<Result<T, ListenError>> {
-        self.turns.next();
-        Iter::next(self)
+        let receiver = self.receiver;
+        self.turns.take(&receiver.rt);
+        receiver.next_item(&mut self.ended)
     }
 }
 
-/// The messages that a receiver finds there, one after another. Made by [`try_iter`](Receiver::try_iter). Own to this project.
+impl<'a, T: Drop, R: Wait + Copy, S: Trace<T> + Copy> IntoIterator for &'a Receiver<T, R, S> {
+    type Item = Result<T, ListenError>;
+
+    type IntoIter = Iter<'a, T, R, S>;
+
+    ghost into_iter_gives = { λ r walk. (walk.receiver.now.channel ≡ r.now.channel) × (walk.ended ≡ false) };
+
+    /// As [`iter`](Receiver::iter).
+    fn into_iter(self) -> Iter<'a, T, R, S> {
+        self.iter()
+    }
+}
+
+/// The messages of a receiver that the walk owns, each waited for as by [`Iter`]. The receiver goes when the walk does: where it was the
+/// last one, that closes the channel. Made by `into_iter` of a receiver. Own to this project.
+#[derive(Drop)]
+pub struct IntoIter<T: Drop, R: Wait + Copy, S: Trace<T> + Copy = NoTrace> {
+    receiver: Receiver<T, R, S>,
+    ended: bool,
+    turns: Turns,
+}
+
+impl<T: Drop, R: Wait + Copy, S: Trace<T> + Copy> Iterator for IntoIter<T, R, S> {
+    type Item = Result<T, ListenError>;
+
+    ghost next_gives = { λ s item t. (t.receiver ≡ s.receiver) × WaitsOnce S.did S.shown S.entered S.parked S.slept s.receiver.channel s.ended item t.ended };
+
+    ghost remaining = { λ s. at_most (turns_left s.turns) };
+
+    fn next(&mut self) -> Option<Result<T, ListenError>> {
+        self.turns.take(&self.receiver.rt);
+        self.receiver.next_item(&mut self.ended)
+    }
+}
+
+impl<T: Drop, R: Wait + Copy, S: Trace<T> + Copy> IntoIterator for Receiver<T, R, S> {
+    type Item = Result<T, ListenError>;
+
+    type IntoIter = IntoIter<T, R, S>;
+
+    ghost into_iter_gives = { λ r walk. (walk.receiver ≡ r) × (walk.ended ≡ false) };
+
+    /// As [`iter`](Receiver::iter), by a walk that owns this receiver, and lets it go when it is dropped itself.
+    fn into_iter(self) -> IntoIter<T, R, S> {
+        IntoIter {
+            receiver: self,
+            ended: false,
+            turns: Turns::new(),
+        }
+    }
+}
+
+/// The messages that a receiver finds there, one after another, each taken as by [`try_recv`](Receiver::try_recv). `None` where none is
+/// there; it goes on where others came since. Made by [`try_iter`](Receiver::try_iter). Own to this project.
 #[derive(Drop)]
 pub struct TryIter<'a, T: Drop, R: Wait + Copy, S: Trace<T> + Copy = NoTrace> {
     receiver: &'a Receiver<T, R, S>,
-    ended: bool,
-    turns: Forever<'a, R>,
+    turns: Turns,
 }
 
 impl<'a, T: Drop, R: Wait + Copy, S: Trace<T> + Copy> TryIter<'a, T, R, S> {
     pub(crate) fn new(receiver: &'a Receiver<T, R, S>) -> TryIter<'a, T, R, S>
-        ensures channel { result.receiver.now.channel ≡ receiver.now.channel }
-        ensures new { result.ended ≡ false }
+        ensures { result.receiver.now.channel ≡ receiver.now.channel }
     {
         TryIter {
             receiver,
-            ended: false,
-            turns: receiver.rt.forever(),
+            turns: Turns::new(),
         }
-    }
-
-    /// The next message that is there, taken as by [`try_recv`](Receiver::try_recv): `None` where none is, and from then on.
-    #[inline(always)]
-    pub fn next(&mut self) -> Option<T>
-        ensures walked { WasSeen S.did S.shown S.entered self.old.receiver.now.channel (λ saw. TakesNext saw self.old.ended) result }
-        ensures end { IsNext self.old.ended result self.new.ended }
-        ensures turns { tries_left self.new ≡ tries_left self.old }
-    {
-        let receiver = self.receiver;
-        receiver
-            .traced()
-            .next_there(&mut self.ended, receiver.watch)
-            .0
     }
 }
 
 impl<'a, T: Drop, R: Wait + Copy, S: Trace<T> + Copy> Iterator for TryIter<'a, T, R, S> {
     type Item = T;
 
-    ghost next_gives = { λ s item t. IsNext s.ended item t.ended };
+    ghost next_gives = { λ s item t. (t.receiver.now.channel ≡ s.receiver.now.channel) × TriesOnce S.did S.shown S.entered s.receiver.now.channel item };
 
-    ghost remaining = { λ s. at_most (tries_left s) };
+    ghost remaining = { λ s. at_most (turns_left s.turns) };
 
     fn next(&mut self) -> Option<T> {
-        self.turns.next();
-        TryIter::next(self)
+        let receiver = self.receiver;
+        self.turns.take(&receiver.rt);
+        receiver.try_recv().ok()
     }
 }

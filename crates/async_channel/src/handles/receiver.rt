@@ -132,7 +132,8 @@ impl<T: Drop, R: Wait + Copy, S: Trace<T> + Copy> Receiver<T, R, S> {
     /// their number, and asks for no memory.
     ///
     /// Refused where there is no message: as empty while the channel is open, as closed afterwards. Where there is no room nothing is
-    /// tried, and the number is 0. What it does is what [`recv_many`](Receiver::recv_many) does with that room as its limit, once it has
+    /// tried, and the answer is `Ok(0)`, on a closed channel too: so a loop that is left only by a refusal never ends with a list that is
+    /// not emptied within it. What it does is what [`recv_many`](Receiver::recv_many) does with that room as its limit, once it has
     /// its memory. It never waits for a message, but may wait as [`try_recv`](Receiver::try_recv) may. Own to this project.
     ///
     /// ```text
@@ -191,7 +192,7 @@ impl<T: Drop, R: Wait + Copy, S: Trace<T> + Copy> Receiver<T, R, S> {
     /// }
     /// ```
     ///
-    /// Own to this project.
+    /// A `for` over `&jobs` does the same, and one over `jobs` owns its receiver: [`IntoIter`]. Own to this project.
     pub fn iter(&self) -> Iter<'_, T, R, S>
         ensures channel { result.receiver.now.channel ≡ self.now.channel }
         ensures new { result.ended ≡ false }
@@ -199,12 +200,18 @@ impl<T: Drop, R: Wait + Copy, S: Trace<T> + Copy> Receiver<T, R, S> {
         Iter::new(self)
     }
 
-    /// The messages that are there, one after another, each taken as by [`try_recv`](Receiver::try_recv). It ends where none is there,
-    /// whether the channel is open or closed, and stays ended though others may come. It never waits for a message, but may wait for
-    /// another call's end and for the locks of those who wait. Own to this project.
+    /// The messages that are there, one after another, each taken as by [`try_recv`](Receiver::try_recv). An item is `None` where none is
+    /// there, whether the channel is open or closed, which ends a `for`. The walk keeps no end: asked again, it gives what was sent since.
+    /// It never waits for a message, but may wait for another call's end and for the locks of those who wait. Own to this project.
+    ///
+    /// ```text
+    /// let mut there = receiver.try_iter();
+    /// let none_yet = there.next(); // None
+    /// sender.try_send(1).ok()?;
+    /// none_yet.is_none() && there.next() == Some(1) // true
+    /// ```
     pub fn try_iter(&self) -> TryIter<'_, T, R, S>
-        ensures channel { result.receiver.now.channel ≡ self.now.channel }
-        ensures new { result.ended ≡ false }
+        ensures { result.receiver.now.channel ≡ self.now.channel }
     {
         TryIter::new(self)
     }

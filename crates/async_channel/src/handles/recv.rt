@@ -1,8 +1,8 @@
 //! The polled receive.
 
-ghost use Rattle.std.specs.Prelude.{◌≡◌, None, is_some};
-ghost use Rattle.futures.specs.Poll.{OnPending};
-ghost use Rattle.futures.specs.Task.{IsArmed, Keeps};
+ghost use Rattle.std.specs.Prelude.{◌≡◌, None, is_some, ⊤};
+ghost use Rattle.futures.specs.Poll.{IfReady, OnPending};
+ghost use Rattle.futures.specs.Task.{Covers, IsArmed, Keeps};
 ghost use Rattle.channel_calls.specs.Asks.{first};
 ghost use Rattle.channel_calls.specs.Calls.{recv_ask};
 ghost use Rattle.channel_calls.specs.Listed.{is_pending};
@@ -11,7 +11,7 @@ ghost use Rattle.channel_calls.specs.declared.ask.ChannelAsk.TheVariants as ask;
 ghost use Rattle.channel_calls.specs.declared.reply.Reply.TheVariants as reply;
 ghost use Rattle.channel_calls.specs.declared.stage.WaitList.TheVariants as line;
 ghost use Rattle.async_channel.specs.Handles.{new_listening};
-ghost use Rattle.async_channel.specs.Polls.{Polls};
+ghost use Rattle.async_channel.specs.Polls.{MayStillGive, Polls};
 ghost use Rattle.async_channel.specs.Watched.{WasSeen};
 
 use crate::handles::receiver::Receiver;
@@ -81,7 +81,18 @@ impl<'a, T: Drop, R: Wait + Copy, S: Trace<T> + Copy> Recv<'a, T, R, S> {
 impl<T: Drop, R: Wait + Copy, S: Trace<T> + Copy> Future for Recv<'_, T, R, S> {
     type Output = Result<T, Refused<RecvError>>;
 
-    fn poll(&mut self, cx: &mut Context<'_>) -> Poll<Result<T, Refused<RecvError>>> {
+    // The trait's clauses say nothing of the answer, so behind them stand those of the method itself.
+    fn poll(&mut self, cx: &mut Context<'_>) -> Poll<Result<T, Refused<RecvError>>>
+        ensures value { IfReady result (λ _. ⊤) }
+        ensures polled_on { OnPending result ⊤ }
+        ensures same { MayStillGive result }
+        ensures registered { OnPending result (Covers cx.new (λ _. ⊥)) }
+        ensures walked { WasSeen S.did S.shown S.entered self.old.channel (λ saw begin r end. Polls saw (recv_ask self.old.key) begin r self.new.key end) (reply.RecvPoll result) }
+        ensures listed { is_some self.new.key ≡ is_pending result }
+        ensures channel { self.new.channel ≡ self.old.channel }
+        ensures armed { OnPending result (IsArmed cx.new) }
+        ensures kept { Keeps cx.old cx.new }
+    {
         Recv::poll(self, cx)
     }
 }

@@ -1,8 +1,8 @@
 //! The polled send.
 
-ghost use Rattle.std.specs.Prelude.{◌≡◌, Some, is_none, is_some};
-ghost use Rattle.futures.specs.Poll.{OnPending};
-ghost use Rattle.futures.specs.Task.{IsArmed, Keeps};
+ghost use Rattle.std.specs.Prelude.{◌≡◌, Some, is_none, is_some, ⊤};
+ghost use Rattle.futures.specs.Poll.{IfReady, OnPending};
+ghost use Rattle.futures.specs.Task.{Covers, IsArmed, Keeps};
 ghost use Rattle.channel_calls.specs.Asks.{first};
 ghost use Rattle.channel_calls.specs.Calls.{SendsOn, send_ask};
 ghost use Rattle.channel_calls.specs.Walks.{WalkedTo};
@@ -96,7 +96,19 @@ impl<T: Drop, R: Wait + Copy, S: Trace<T> + Copy> Future for Send<'_, T, R, S> {
     // What a closed channel hands back is its message.
     ghost gives = { λ s r. Gives s.message r };
 
-    fn poll(&mut self, cx: &mut Context<'_>) -> Poll<Result<(), Refused<SendError<T>>>> {
+    // The trait's clauses are met by a send that is always pending, so behind them stand those of the method itself.
+    fn poll(&mut self, cx: &mut Context<'_>) -> Poll<Result<(), Refused<SendError<T>>>>
+        ensures value { IfReady result (Gives self.old.message) }
+        ensures polled_on { OnPending result ⊤ }
+        ensures same { OnPending result ((r : _) → Gives self.new.message r → Gives self.old.message r) }
+        ensures registered { OnPending result (Covers cx.new (λ _. ⊥)) }
+        ensures walked { WasSeen S.did S.shown S.entered self.old.channel (λ saw begin r end. PollsSend saw (send_ask self.old.message self.old.key) begin r self.new.key self.new.message end) (reply.SendPoll result) }
+        ensures message { SendsOn self.old.message result self.new.message }
+        ensures listed { is_some self.new.key ≡ waits_on self.old.message result }
+        ensures channel { self.new.channel ≡ self.old.channel }
+        ensures armed { OnPending result (IsArmed cx.new) }
+        ensures kept { Keeps cx.old cx.new }
+    {
         Send::poll(self, cx)
     }
 }

@@ -1,5 +1,14 @@
 //! A receiver as a stream of messages.
 
+ghost use Rattle.std.specs.Prelude.{◌≡◌, is_some};
+ghost use Rattle.futures.specs.Poll.{OnPending};
+ghost use Rattle.futures.specs.Task.{IsArmed, Keeps};
+ghost use Rattle.channel_calls.specs.Calls.{next_ask};
+ghost use Rattle.channel_calls.specs.Listed.{is_pending};
+ghost use Rattle.channel_calls.specs.declared.reply.Reply.TheVariants as reply;
+ghost use Rattle.async_channel.specs.Polls.{Polls};
+ghost use Rattle.async_channel.specs.Watched.{WasSeen};
+
 use crate::handles::receiver::Receiver;
 use crate::seen::Trace;
 use event_listener::error::ListenError;
@@ -13,7 +22,14 @@ use std::sync::Wait;
 impl<T: Drop, R: Wait + Copy, S: Trace<T> + Copy> Stream for Receiver<T, R, S> {
     type Item = Result<T, ListenError>;
 
-    fn poll_next(&mut self, cx: &mut Context<'_>) -> Poll<Option<Result<T, ListenError>>> {
+    // The trait's clauses say nothing of an item, so those of the method itself stand here.
+    fn poll_next(&mut self, cx: &mut Context<'_>) -> Poll<Option<Result<T, ListenError>>>
+        ensures walked { WasSeen S.did S.shown S.entered self.old.channel (λ saw begin r end. Polls saw (next_ask self.old.key) begin r self.new.key end) (reply.Next result) }
+        ensures listed { is_some self.new.key ≡ is_pending result }
+        ensures channel { self.new.channel ≡ self.old.channel }
+        ensures armed { OnPending result (IsArmed cx.new) }
+        ensures kept { Keeps cx.old cx.new }
+    {
         Receiver::poll_next(self, cx)
     }
 }

@@ -5,7 +5,7 @@ ghost use Rattle.std.specs.Vec.{vec_capacity, vec_ptr};
 ghost use Rattle.channel_calls.specs.Asks.{first};
 ghost use Rattle.channel_calls.specs.Blocks.{Blocks};
 ghost use Rattle.channel_calls.specs.Filling.{Fills, room_in};
-ghost use Rattle.channel_calls.specs.Taking.{IsNext, TakesNext, WaitsForNext};
+ghost use Rattle.channel_calls.specs.Taking.{IsNext, WaitsForNext};
 ghost use Rattle.channel_calls.specs.Turns.{nothing_kept};
 ghost use Rattle.channel_calls.specs.Walks.{WalkedTo};
 ghost use Rattle.channel_calls.specs.declared.ask.ChannelAsk.TheVariants as ask;
@@ -83,18 +83,9 @@ impl<'a, T: Drop, R: Wait + Copy> Traced<'a, T, R, OfReceivers> {
     }
 }
 
-// The walks: whether one has ended is kept by who walks.
+// Walks.
 impl<'a, T: Drop, R: Wait + Copy> Traced<'a, T, R, OfReceivers> {
-    /// The next message of a walk over those that are there, which has ended or not: `None` ends it.
-    #[inline(always)]
-    pub fn next_there<S: Trace<T>>(&self, ended: &mut bool, trace: S) -> (Option<T>, S)
-        ensures walked { SeenOn S.did S.shown S.entered self.now (λ saw. TakesNext saw ended.old) trace (result.0) (result.1) }
-        ensures end { IsNext ended.old (result.0) ended.new }
-    {
-        calls::next_there(self.rt, ended, self.cells(trace))
-    }
-
-    /// The next message of a walk that waits for it.
+    /// The next message of a walk that waits for it. Whether the walk has ended is kept by who walks.
     #[inline(always)]
     pub fn next_blocking<S: Trace<T>>(
         &self,

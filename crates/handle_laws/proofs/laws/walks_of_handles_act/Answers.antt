@@ -1,11 +1,11 @@
 -- From the walk that each clause names.
-use Rattle.std.proofs.Common.{◌≡◌, ℕ, None, Some, Ok, Err, true, false}
+use Rattle.std.proofs.Common.{ℕ, Ok, Err}
 use Rattle.channel_calls.specs.Turns.{leaving}
-use Rattle.channel_calls.specs.declared.ask.ChannelAsk.TheVariants.{CloneHandle, Upgrade, RecvMany, TryRecv}
+use Rattle.channel_calls.specs.declared.ask.ChannelAsk.TheVariants.{CloneHandle, Upgrade, RecvMany}
 use Rattle.channel_calls.specs.declared.error.Refused.TheVariants.{Plain}
 use Rattle.channel_calls.specs.declared.reply.Reply.TheVariants as reply
 use Rattle.channel_steps.proofs.every_run.BridgeBlocks.{blocks_in_calls}
-use Rattle.handle_laws.specs.Events.{SeveralAct, FillsAct, TakesAct}
+use Rattle.handle_laws.specs.Events.{SeveralAct, FillsAct}
 use Rattle.handle_laws.proofs.Walks.{walks_act, rested_act, stands_act}
 use Rattle.concurrent_queue.specs.Deeds as cell
 use Rattle.channel_calls.specs.Deeds.{Deed}
@@ -25,11 +25,6 @@ module _ {T W X : Type 0} (did : cell.Deed T → X → X → Type 0) (shown : De
   fills channel room before s (Err e) after t (here, enters, (taken, stands, (none, (kept, walked)))) =
       (here, enters, Err (Plain e), kept, walks_act did shown channel.form (RecvMany room) here (reply.RecvMany (Err (Plain e))) kept t walked)
 
-  takes : TakesAct did shown entered
-  unfolding SeenOn
-  takes channel true s item t (here, enters, (none, is)) = absurd (let no : Some item ≡ None = none in cc)
-  takes channel false s item t (here, enters, (kept, walked)) = (here, enters, kept, walks_act did shown channel.form TryRecv here (reply.TryRecv (Ok item)) kept t walked)
-
 pub returns : goal.returns
 unfolding SeenOn
 returns g c =
@@ -43,7 +38,6 @@ returns g c =
       upgrades = λ channel side s t (here, enters, (kept, walked)). (here, enters, kept, act channel.form (Upgrade side) here reply.Made kept t walked);
       several = several g.S.Trace-2.did g.S.Trace-1.shown g.S.Trace-1.entered;
       fills = fills g.S.Trace-2.did g.S.Trace-1.shown g.S.Trace-1.entered;
-      takes = takes g.S.Trace-2.did g.S.Trace-1.shown g.S.Trace-1.entered;
       blocks = λ channel b task s r kept t (here, enters, blocks). (here, enters, blocks_in_calls (Saw g.S.Trace-2.did g.S.Trace-1.shown channel.form) g.S.Trace-1.parked g.S.Trace-1.slept b task here r kept t blocks);
       rested = rested_act g.S.Trace-2.did g.S.Trace-1.shown g.S.Trace-1.parked g.S.Trace-1.slept;
       stands = stands_act g.S.Trace-2.did g.S.Trace-1.shown g.S.Trace-1.parked g.S.Trace-1.slept;
