@@ -476,24 +476,24 @@ try_send 2 3 = sent
 close 2 = true
 walk 3 5 = 1 2 3 none none
 
-# A message that is sent after its end is for the next walk.
-row a_walk_that_does_not_wait_stays_ended
+# Where none was there, a message that is sent since is its next item.
+row a_walk_that_does_not_wait_goes_on
 bounded 3
 try_send s 1 = sent
 try_send s 2 = sent
-try_walk r 3 s 3 = 1 2 none sent none
-try_walk r 1 s 4 = 3 sent 4
+try_walk r 4 s 3 = 1 2 none none sent 3
+try_walk r 1 s 4 = none sent 4
 try_send s 5 = sent
 close s = true
-try_walk r 1 s 6 = 5 closed 6 none
+try_walk r 2 s 6 = 5 none closed 6 none
 unbounded
 try_send 2 1 = sent
 try_send 2 2 = sent
-try_walk 3 3 2 3 = 1 2 none sent none
-try_walk 3 1 2 4 = 3 sent 4
+try_walk 3 4 2 3 = 1 2 none none sent 3
+try_walk 3 1 2 4 = none sent 4
 try_send 2 5 = sent
 close 2 = true
-try_walk 3 1 2 6 = 5 closed 6 none
+try_walk 3 2 2 6 = 5 none closed 6 none
 
 row messages_fill_the_room_that_is_there
 bounded 5

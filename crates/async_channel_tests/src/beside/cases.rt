@@ -430,8 +430,7 @@ fn a_receive_of_two_beside_others(rt: HostRuntime) {
 
 #[test]
 fn a_walk_beside_others(rt: HostRuntime) {
-    let kinds = [Kind::Walk(false), Kind::Walk(true), Kind::WalkThere];
-    check(&rt, rt.alloc(), &kinds);
+    check(&rt, rt.alloc(), &[Kind::Walk(false), Kind::Walk(true)]);
 }
 
 #[test]

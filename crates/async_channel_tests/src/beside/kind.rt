@@ -34,8 +34,6 @@ pub(crate) enum Kind {
     RecvManyInto,
     /// Two items of a walk that waits for messages.
     Walk(bool),
-    /// Two items of a walk over the messages that are there.
-    WalkThere,
     Close,
     Poll(WaitList, How),
     /// A send or a receive that blocks its thread.
@@ -87,7 +85,7 @@ impl Kind {
     pub(crate) fn goes_on(self, said: Said) -> bool {
         match said {
             Said::Received(_) | Said::Refused => match self {
-                Kind::Walk(_) | Kind::WalkThere => true,
+                Kind::Walk(_) => true,
                 _ => false,
             },
             _ => false,
@@ -144,7 +142,7 @@ impl Called {
         match self.kind {
             Kind::TrySend => ChannelAsk::TrySend(self.message),
             Kind::ForceSend => ChannelAsk::ForceSend(self.message),
-            Kind::TryRecv | Kind::WalkThere => ChannelAsk::TryRecv,
+            Kind::TryRecv => ChannelAsk::TryRecv,
             Kind::RecvMany | Kind::RecvManyInto => ChannelAsk::RecvMany(Limit::new(2, self.alloc)),
             Kind::Walk(_) => self.polls(WaitList::Receives),
             Kind::Close => ChannelAsk::Close,

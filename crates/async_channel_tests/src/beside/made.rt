@@ -15,7 +15,7 @@ use channel_calls::raised::{Raised, clone_handle, drop_receiver, drop_sender, up
 use channel_calls::reply::Reply;
 use channel_calls::several::Messages;
 use channel_calls::stage::{Returned, Side, WaitList};
-use channel_calls::taking::{next_blocking, next_there};
+use channel_calls::taking::next_blocking;
 use channel_calls::{calls, polls, questions};
 use futures::task::Poll;
 use std::alloc::Global;
@@ -34,7 +34,6 @@ pub(crate) fn said_by<R: Wait>(rt: &R, called: Called, cells: &mut Beside<'_, R>
             answer_of(Reply::RecvPoll(Poll::Ready(received)))
         }
         Kind::Walk(refused) => walked(rt, if refused { 2 } else { 1 }, cells),
-        Kind::WalkThere => walked(rt, 0, cells),
         Kind::CloneHandle(Side::Senders) => sender_made(rt, true, called, cells),
         Kind::Upgrade(Side::Senders) => sender_made(rt, false, called, cells),
         Kind::CloneHandle(Side::Receivers) => receiver_made(rt, true, called, cells),
@@ -91,7 +90,7 @@ fn received_into<R: Wait>(rt: &R, alloc: Global, cells: &mut Beside<'_, R>) -> R
     }
 }
 
-/// What two items of a walk are: of one that waits, each at the last of so many that may be refusals; of one that doesn't, where that is 0.
+/// What two items of a walk are, each at the last of so many that may be refusals.
 fn walked<R: Wait>(rt: &R, waits: u32, cells: &mut Beside<'_, R>) -> Said {
     let mut ended = false;
     let first = next(rt, waits, &mut ended, cells);
@@ -100,7 +99,6 @@ fn walked<R: Wait>(rt: &R, waits: u32, cells: &mut Beside<'_, R>) -> Said {
         (Some(first), Some(second)) => Said::Several(first, second),
         (Some(first), None) => Said::Received(first),
         (None, Some(_)) => Said::Else,
-        (None, None) if waits == 0 => Said::Empty,
         (None, None) => Said::Closed(None),
     }
 }
@@ -108,9 +106,6 @@ fn walked<R: Wait>(rt: &R, waits: u32, cells: &mut Beside<'_, R>) -> Said {
 /// The next message of a walk.
 fn next<R: Wait>(rt: &R, waits: u32, ended: &mut bool, cells: &mut Beside<'_, R>) -> Option<u64> {
     let sink = &mut Woken::new();
-    if waits == 0 {
-        return next_there(rt, ended, cells, sink);
-    }
     for _ in 0..waits {
         match next_blocking(rt, ended, cells, sink) {
             Some(Ok(message)) => return Some(message),

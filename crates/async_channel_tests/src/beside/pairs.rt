@@ -5,14 +5,13 @@ use channel_calls::stage::{Side, WaitList};
 
 /// The calls that come between. One that blocks its thread is there as the poll that it makes, and a receive into room as a receive of
 /// several.
-pub(crate) const OTHERS: [Kind; 46] = [
+pub(crate) const OTHERS: [Kind; 45] = [
     Kind::TrySend,
     Kind::ForceSend,
     Kind::TryRecv,
     Kind::RecvMany,
     Kind::Walk(false),
     Kind::Walk(true),
-    Kind::WalkThere,
     Kind::Close,
     Kind::Poll(WaitList::Sends, How::Anew),
     Kind::Poll(WaitList::Sends, How::Unlisted),

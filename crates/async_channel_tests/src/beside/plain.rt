@@ -221,14 +221,6 @@ impl Plain {
         }
     }
 
-    /// What a walk says over the messages that are there.
-    fn walk_there(&mut self) -> (Said, Later) {
-        match self.receive_first(Said::Empty, Later::Take) {
-            (Said::Closed(_), _) => (Said::Empty, Later::Nothing),
-            other => other,
-        }
-    }
-
     /// What a drop of this kind of handle says, at its first moment. The last one closes at a later moment.
     fn lower(&mut self, side: Side) -> (Said, Later) {
         self.count_down(side);
@@ -299,7 +291,6 @@ impl Plain {
                 return self.receive_first(Said::Empty, Later::Take);
             }
             Kind::Walk(_) => return self.receive_first(Said::Missing, Later::Await),
-            Kind::WalkThere => return self.walk_there(),
             Kind::DropHandle(side) => return self.lower(side),
             Kind::DropStream => return self.lower(Side::Receivers),
             Kind::Upgrade(side) => return self.upgrade(side),
