@@ -1,23 +1,26 @@
 #!/usr/bin/env python3
-"""Makes docs/WRONG_BODIES.md, the table of the wrong bodies that the gate tries, of the edits themselves.
+"""Makes out/mutants.md, the table of the mutants that the prover refuses, of the edits themselves, and says where one is not as it should be.
 
 usage, at the top of the repository: tools/list_edits.py [--check]
 
-An edit, crates/*/must-fail/*.edit, begins with a line `why: SENTENCE`: what goes wrong for whom, and which clause stands against it.
-The gate tries it for one of two reasons. It is an instance of one of BODIES below: then a line `body: WORDS` stands behind the
-sentence. Or it stands alone at the clause that its sentence names first. rt passes over both lines. With --check nothing is written, and
-the status is 1 where the page is not what the edits say. Either way it is 1, and a line says why, where an edit has no such sentence or
-neither reason, where it cites something by a number, where a body is not among BODIES, where nothing stands for one of them, or more
-edits than PLACES says, where two of a crate stand alone at one clause, or where a test that is named here isn't there, or one that
-docs/TESTED.md names for a wrong body that the gate leaves to tests.
+An edit, crates/*/mutants/*.edit or one of those in must-fail/ that `rt ci` tries too, begins with a line `why: SENTENCE`: what goes wrong
+for whom, and which clause stands against it. It may stand for one of BODIES below, by a line `body: WORDS`. Lines `refuses:` or
+`no program:` say where it is refused, as tools/mutants found it. With --check nothing is written. The status is 1, and a line says why,
+where an edit has no such sentence or none of these lines, where it cites something by a number, where nothing stands for one of BODIES,
+or where a test that is named here isn't there, or one that docs/TESTED.md or a mutant in mutants/tested/ names.
 """
 import glob
 import os
 import re
 import sys
 
-PAGE = "docs/WRONG_BODIES.md"
-# The section with the wrong bodies that tests see, and the gate doesn't try. A row names its tests, and their crates after an "of".
+sys.dont_write_bytecode = True
+sys.path.insert(0, os.path.join(os.path.dirname(os.path.abspath(__file__)), "planting"))
+
+import edits as edit_files  # noqa: E402
+
+PAGE = "out/mutants.md"
+# The section with the wrong bodies that tests see, and no mutant. A row names its tests, and their crates after an "of".
 LEFT = ("docs/TESTED.md", "## Wrong bodies that the gate leaves to tests")
 # The wrong bodies that a channel has to be safe from, in the order of the page, each with the tests that stand for it besides edits.
 BODIES = {
@@ -91,9 +94,7 @@ BODIES = {
         "async_channel_tests/messages_fill_the_room_that_is_there",
     ],
     "a walk over messages swallows its refusal": ["async_channel_tests/a_walk_gives_its_refusals"],
-    "a walk over messages goes on after its end": [
-        "async_channel_tests/a_walk_that_does_not_wait_stays_ended",
-    ],
+    "a walk over messages goes on after its end": ["async_channel_tests/a_walk_ends_where_the_channel_is_closed_and_empty"],
     "a receive drops what it took": [],
     "a blocking call makes its second try before it listens": [],
     "a blocking call leaves its listener listed": [],
@@ -134,28 +135,13 @@ BODIES = {
     "between threads: two pushers win one place": [],
     "between threads: a closing tells first": [],
 }
-# The bodies that are tried at more places than one: bodies of their own code, each of which was asked for.
-PLACES = {
-    "a send tells a receive before its message is in": 3,  # the machine's send and its polled send, and straight code
-    "a call is run whole at its first step": 2,  # a push, and a send with its notice
-    "a closing always answers false": 2,  # the channel's call, and the line of a handle over it
-    # the counts of a channel, and those that are words of a table
-    "the drop of the last sender lowers the count and doesn't close": 2,
-    "a clone counts nothing": 2,
-    "a clone that was counted is refused": 2,
-    "an upgrade that counted answers that there is none": 2,
-    "a drop that lowers nothing": 2,
-    "between threads: two pushers win one place": 2,  # one slot, and a ring
-}
-# What a sentence names as standing against a wrong body: the first of it.
-CLAUSE = re.compile(r"[Aa]gainst it stands? (.*?)(?:[.;]|, |: |$)|[Tt]he ((?:clauses?|invariant) .*?)(?: refuses?|,)|(What .*? requires)")
 # What a sentence doesn't cite by its number: a rule, a paper, a section, an issue.
 CITED = re.compile(r"\b[A-Z]\d+\b|\b0[1-4]\b|\b(issue|paper|document|section|request)s? \d")
-HEAD = """# Wrong bodies that the prover refuses
+HEAD = """# Mutants that the prover refuses
 
-Made by `tools/list_edits.py` of the first lines of the edits `crates/*/must-fail/*.edit`, not by hand. Each edit changes a body so that it
-does something wrong, still compiles, and is tried by the gate: the prover has to refuse it. There are {count} of them:
-{others} stand for bodies of the first table, {alone} alone at a clause.
+Made by `tools/list_edits.py` of the edits `crates/*/mutants/*.edit` and `crates/*/must-fail/*.edit`, not by hand. Each edit changes a body
+so that it does something wrong and still compiles. There are {count}. `tools/mutants` looks that each is refused in its own function, at
+the clause that the last column names.
 
 ## Against what a channel has to be safe from
 
@@ -165,18 +151,8 @@ does something wrong, still compiles, and is tried by the gate: the prover has t
 
 ## Crate by crate
 
-What goes wrong for whom, and what stands against it. An edit that is of no body above turns a clause that no other one turns, or not so:
-the last column says which. What tests see of other wrong bodies is in
-[TESTED.md](TESTED.md#wrong-bodies-that-the-gate-leaves-to-tests).
+What goes wrong for whom, what stands against it, and which clauses of which functions the prover leaves open.
 """
-
-
-def lines_of(edit):
-    """Returns the sentence of an edit and the wrong bodies that it stands for."""
-    with open(edit, encoding="utf-8") as it:
-        lines = it.read().split("\n")
-    why = lines[0].removeprefix("why: ") if lines[0].startswith("why: ") else ""
-    return why, [line.removeprefix("body: ") for line in lines if line.startswith("body: ")]
 
 
 def has_test(name):
@@ -184,7 +160,7 @@ def has_test(name):
     crate, _, test = name.partition("/")
     for source in glob.glob(f"crates/{crate}/src/**/*.rt", recursive=True):
         with open(source, encoding="utf-8") as it:
-            if re.search(rf"\b(fn|row) {test}\b", it.read()):
+            if re.search(rf"\b(fn|row) {test.split('::')[-1]}\b", it.read()):
                 return True
     return False
 
@@ -207,42 +183,32 @@ def left_faults():
                 yield f"{page} names a test that isn't there: {test}"
 
 
-def clause_of(why):
-    """The clause that an edit's sentence names."""
-    found = CLAUSE.search(why)
-    return next(filter(None, found.groups()), "") if found else ""
+def edit_faults(edit):
+    """What is not as it should be with the lines of an edit that the prover is to refuse."""
+    if not edit.why.endswith("."):
+        yield f"{edit.label} has no line 'why: SENTENCE' in front"
+    elif CITED.search(edit.why):
+        yield f"{edit.label} cites something by a number: {CITED.search(edit.why)[0]}"
+    if edit.fault:
+        yield f"{edit.label}: {edit.fault}"
+    if not edit.refuses and not edit.error:
+        yield f"{edit.label} has no line 'refuses:' or 'no program:' (tools/mutants {edit.crate} --write)"
 
 
-def alone_at(edits):
-    """The clauses of the edits that are of no body, by their crates and names."""
-    return {name: clause_of(why) for name, (why, bodies) in edits.items() if not bodies}
+def tested_faults(edit):
+    """What is not as it should be with the lines of an edit that only tests see."""
+    if edit.fault or not edit.why.endswith(".") or not edit.tests:
+        yield f"{edit.label}: {edit.fault or 'it has no line why: SENTENCE, or none test: CRATE TEST'}"
+    yield from (f"{edit.label} names a test that isn't there: {' '.join(test)}" for test in edit.tests if not has_test("/".join(test)))
 
 
-def reason_faults(edits):
-    """The edits that the gate tries for no reason, for two, or for that of another one."""
-    at = {}
-    for (crate, name), clause in alone_at(edits).items():
-        if not clause:
-            yield f"{crate}/{name} is of no body, and its sentence names no clause that stands against it"
-        if clause and (crate, clause) in at:
-            yield f"{crate}/{name} stands at the same as {at[crate, clause]}: {clause}"
-        at[crate, clause] = name
-    tried = [body for _, bodies in edits.values() for body in bodies]
-    yield from (f"too many edits stand for one body: {body}" for body in BODIES if tried.count(body) > PLACES.get(body, 1))
-
-
-def faults(edits):
+def faults(edits, tested):
     yield from left_faults()
-    yield from reason_faults(edits)
-    for (crate, name), (why, bodies) in edits.items():
-        if not why.endswith("."):
-            yield f"{crate}/{name} has no line 'why: SENTENCE' in front"
-        elif CITED.search(why):
-            yield f"{crate}/{name} cites something by a number: {CITED.search(why)[0]}"
-        for body in bodies:
-            if body not in BODIES:
-                yield f"{crate}/{name} stands for a body that tools/list_edits.py doesn't have: {body}"
-    tried = {body for _, bodies in edits.values() for body in bodies}
+    for edit in edits:
+        yield from edit_faults(edit)
+    for edit in tested:
+        yield from tested_faults(edit)
+    tried = {body for edit in edits for body in edit.bodies}
     for body, tests in BODIES.items():
         if body not in tried and not tests:
             yield f"nothing stands for: {body}"
@@ -250,34 +216,39 @@ def faults(edits):
 
 
 def row(body, edits):
-    tried = ", ".join(f"`{crate}/{name}`" for (crate, name), (_, bodies) in edits.items() if body in bodies)
+    tried = ", ".join(f"`{edit.label}`" for edit in edits if body in edit.bodies)
     seen = ", ".join(f"`{test}`" for test in BODIES[body])
     return f"| {body} | {tried} | {seen} |"
 
 
-def page(edits):
-    alone = alone_at(edits)
-    rows = "\n".join(row(body, edits) for body in BODIES)
-    text = HEAD.format(count=len(edits), alone=len(alone), others=len(edits) - len(alone), bodies=rows)
-    for crate in sorted({crate for crate, _ in edits}):
-        text += f"\n### `{crate}`\n\n| Edit | Why | Alone at |\n|---|---|---|\n"
-        here = [(name, why, alone.get((at, name), "")) for (at, name), (why, _) in edits.items() if at == crate]
-        text += "".join(f"| `{name}` | {why} | {clause} |\n" for name, why, clause in here)
-    return text
+def refused_at(edit):
+    """Where an edit is refused, in words."""
+    if edit.error:
+        return f"no program: `{edit.error}`"
+    return "; ".join(f"`{name}`: {', '.join(f'`{clause}`' for clause in clauses)}" for name, *clauses in edit.refuses)
+
+
+def page(edits, tested):
+    text = HEAD.format(count=len(edits), bodies="\n".join(row(body, edits) for body in BODIES))
+    for crate in dict.fromkeys(edit.crate for edit in edits):
+        text += f"\n### `{crate}`\n\n| Edit | Why | Refused at |\n|---|---|---|\n"
+        text += "".join(f"| `{edit.name}` | {edit.why} | {refused_at(edit)} |\n" for edit in edits if edit.crate == crate)
+    text += "\n## Seen by tests alone\n\n| Edit | Why | Test |\n|---|---|---|\n"
+    return text + "".join(f"| `{edit.label}` | {edit.why} | {', '.join('/'.join(it) for it in edit.tests)} |\n" for edit in tested)
 
 
 def main(words):
     if words not in ([], ["--check"]):
         sys.exit(__doc__)
-    found = sorted(glob.glob("crates/*/must-fail/*.edit"))
-    edits = {(it.split("/")[1], os.path.basename(it).removesuffix(".edit")): lines_of(it) for it in found}
-    wrong, text = list(faults(edits)), page(edits)
+    crates = edit_files.crates_with_edits()
+    edits = [it for crate in crates for it in edit_files.edits_of(crate)]
+    tested = [it for crate in crates for it in edit_files.edits_of(crate, tested=True)]
+    wrong = list(faults(edits, tested))
     if not words:
+        os.makedirs(os.path.dirname(PAGE), exist_ok=True)
         with open(PAGE, "w", encoding="utf-8") as it:
-            it.write(text)
-    elif not os.path.isfile(PAGE) or open(PAGE, encoding="utf-8").read() != text:
-        wrong.append(f"{PAGE} is not what the edits say: run tools/list_edits.py")
-    print("\n".join([*wrong, f"{len(edits)} edits of {len({crate for crate, _ in edits})} crates"]))
+            it.write(page(edits, tested))
+    print("\n".join([*wrong, f"{len(edits)} mutants of {len(crates)} crates for the prover, {len(tested)} for tests"]))
     return 1 if wrong else 0
 
 

@@ -1,5 +1,5 @@
 //! What Rust's own channels cost: `mpsc`, and a deque behind a lock with two condition variables. The same four things are measured as by
-//! `channel_bench handles`: tries on one thread and between two, blocking calls in a stream and in turns. With `--cfg ported` the
+//! `tools/bench handles`: tries on one thread and between two, blocking calls in a stream and in turns. With `--cfg ported` the
 //! crates that are ported here stand beside them, and crossbeam's, in the versions that the system packages; so do their queues and events.
 //!
 //! usage: native_peers [WORD ..], of `parts`, `alone`, `queues`, `between`, `why`, `bytes` and `script`; all of them
