@@ -5,7 +5,7 @@
 pub enum Polled<T> {
     /// The message.
     Ready(T),
-    /// None yet.
+    /// It waits. At its first poll there was none. A later poll of one who was not told doesn't look, so there may be one by now.
     Pending,
     /// None is left, and the channel is closed.
     Closed,
@@ -18,7 +18,8 @@ pub enum Polled<T> {
 pub enum Offered<T> {
     /// It was put in.
     Accepted,
-    /// There is no place yet. Here it is back, for the next poll.
+    /// It waits. Here it is back, for the next poll. At its first poll there was no place. A later poll of a send that was not told
+    /// doesn't look, so there may be one by now.
     Pending(T),
     /// The channel is closed.
     Closed(T),
