@@ -458,6 +458,14 @@ impl<'a, T: Drop, W: Drop> Cells<T> for RingCells<'a, T, W> {
 
     ghost did = { λ d a b. RingDid d a b };
 
+    ghost may = { λ _ _. Unit {0} };
+
+    ghost stands = { λ _ _. Unit {0} };
+
+    ghost ready = { λ at s d r stands next. tt };
+
+    ghost leads = { λ at s t d r stands done next. tt };
+
     ghost keeps_form = { λ d a b did. ap (λ (z : TableId). Bounded z.slots) (sym b.seated ∙ did.0 ∙ a.seated) };
 
     ghost exact_form = { λ known. absurd known };

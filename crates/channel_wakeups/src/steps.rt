@@ -152,6 +152,14 @@ impl<'a, T: Drop, W: Drop> Cells<T> for SlotCells<'a, T, W> {
 
     ghost did = { λ d a b. Did d a b };
 
+    ghost may = { λ _ _. Unit {0} };
+
+    ghost stands = { λ _ _. Unit {0} };
+
+    ghost ready = { λ at s d r stands next. tt };
+
+    ghost leads = { λ at s t d r stands done next. tt };
+
     ghost keeps_form = { λ d a b did. refl };
 
     ghost exact_form = { λ known. absurd known };

@@ -1,15 +1,14 @@
 -- Where a merge of calls has come, each party's call is under way among those of all others.
-use Rattle.std.proofs.Common.{◌≡◌, ◌⊎◌, ℕ, zero, suc, ◌<◌, ◌≤◌, ◌^◌, ◌+◌, ◌==◌, Bool, true, false, List, [], ◌∷◌, ◌++◌, length, map, Option, None, Some, MatchOption, slice_get, if◌then◌else◌, inl, inr, refl, sym, ap, ◌∙◌, subst, arith, append-nil}
-use Rattle.concurrent_queue.specs.Bridge.{Event, begins, does, Happening, Notes, asking, Acts, left_under_way, EventsLead, own, Changes, InOneOrder, steps_of, Caller, caller_party, caller_seat, IsRunOf}
+use Rattle.std.proofs.Common.{◌≡◌, ◌⊎◌, ℕ, suc, ◌≤◌, ◌^◌, ◌==◌, Bool, true, false, List, [], ◌∷◌, ◌++◌, length, map, Option, None, Some, slice_get, if◌then◌else◌, inl, inr, refl, sym, ap, ◌∙◌, subst, arith, append-nil}
+use Rattle.concurrent_queue.specs.Bridge.{Event, begins, does, Happening, asking, Acts, left_under_way, EventsLead, own, InOneOrder, steps_of, Caller, caller_party, caller_seat, IsRunOf}
 use Rattle.concurrent_queue.specs.Capacity.{capacity_of}
 use Rattle.concurrent_queue.specs.Contents.{Contents}
-use Rattle.concurrent_queue.specs.Deeds.{Deed}
+use Rattle.concurrent_queue.specs.Deeds.{Notes}
 use Rattle.concurrent_queue.specs.Made.{new_cells}
 use Rattle.concurrent_queue.specs.Parties.{call_under, id_of, under_way_of}
-use Rattle.concurrent_queue.specs.Queue.{Phase}
 use Rattle.concurrent_queue.specs.Run.{IsCounted, accepted_in, one_if_accepted}
 use Rattle.concurrent_queue.specs.Step.{ActiveQueueCall, seat, FitsAt}
-use Rattle.concurrent_queue.specs.Touched.{IsUnderWayAmong, IsOneOf, HasLed, PartiesAreAmongOthers}
+use Rattle.concurrent_queue.specs.Touched.{IsOneOf, PartiesAreAmongOthers}
 use Rattle.concurrent_queue.specs.Walked.{CallMakes}
 use Rattle.concurrent_queue.specs.declared.call.QueueEntry.{QueueEntry}
 use Rattle.concurrent_queue.specs.declared.call.QueueMark.{QueueMark}
@@ -20,8 +19,8 @@ use Rattle.concurrent_queue.specs.declared.queue_call.QueueCall.{QueueCall}
 use Rattle.concurrent_queue.specs.declared.run.Party.{Party}
 use Rattle.concurrent_queue.specs.declared.run.QueueStep.{QueueStep}
 use Rattle.concurrent_queue.proofs.Bridge.{change_keeps_form, new_is, merges_are_runs, events_lead_to_one_place}
-use Rattle.concurrent_queue.proofs.Callers.{is_same, is_other, itself, place_of, has_at}
-use Rattle.concurrent_queue.proofs.Runs.{map_join, SplitAt, split}
+use Rattle.concurrent_queue.proofs.Callers.{is_same, place_of, has_at}
+use Rattle.concurrent_queue.proofs.Runs.{map_join, split}
 
 one_at_most : (m : QueueMark) → one_if_accepted m ≤ 1
 one_at_most Append = omega arith

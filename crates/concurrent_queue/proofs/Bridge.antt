@@ -1,18 +1,19 @@
 -- Calls that walk their machines over cells in one order make a run.
 use Rattle.std.proofs.Common.{◌≡◌, ℕ, zero, suc, ◌<◌, ◌≤◌, ◌^◌, ◌==◌, Bool, true, false, List, [], ◌∷◌, ◌++◌, map, Option, None, Some, MatchOption, option_to_list, slice_get, slice_set, if◌then◌else◌, refl, sym, ap, ◌∙◌, subst, arith, append_assoc, append-nil}
 use Rattle.std.specs.List.{remove}
-use Rattle.concurrent_queue.specs.Bridge.{Event, begins, does, Happening, Notes, asking, Acts, left_under_way, EventsLead, own, Changes, InOneOrder, step_of, steps_of, replies_to, Caller, caller_party, caller_seat, asked_by, seen_asking, AreUnderWay, HasCells, MergesAreRuns, EventsLeadToOnePlace, Along, WalksAct}
+use Rattle.concurrent_queue.specs.Bridge.{Event, begins, does, Happening, asking, Acts, left_under_way, EventsLead, own, Changes, InOneOrder, step_of, steps_of, replies_to, Caller, caller_party, caller_seat, asked_by, seen_asking, AreUnderWay, HasCells, MergesAreRuns, EventsLeadToOnePlace, Along, WalksAct}
 use Rattle.concurrent_queue.specs.Contents.{Contents}
-use Rattle.concurrent_queue.specs.Deeds.{Deed, Move, loads, stores, exchanges, adds, sets_bits, keeps_bits, puts, takes, spares, retires, rests, Makes, loaded, stored, exchanged, added, bits_set, bits_kept, did_put, did_take, spared, retired}
+use Rattle.concurrent_queue.specs.Deeds.{Deed, Notes, Move, loads, stores, exchanges, adds, sets_bits, keeps_bits, puts, takes, spares, retires, rests, Makes}
 use Rattle.concurrent_queue.specs.Effects.{Does, does_keep_form}
 use Rattle.concurrent_queue.specs.Made.{IsNew, new_cells}
 use Rattle.concurrent_queue.specs.Parties.{call_under, id_of, under_way_of, party, Turns, parties_after}
 use Rattle.concurrent_queue.specs.Step.{ActiveQueueCall, FitsAt, IsQueueStep}
+use Rattle.concurrent_queue.specs.Tracked.{one_state}
 use Rattle.concurrent_queue.specs.Walked.{MakesBlocks, MakesBounded, MakesFirst, StateMakes, CallMakes}
 use Rattle.concurrent_queue.specs.machine.FastPath.{Leads}
 use Rattle.concurrent_queue.specs.machine.BlocksMakes.{blocks_moves}
-use Rattle.concurrent_queue.specs.machine.BlocksWords.{answered, begin}
-use Rattle.concurrent_queue.specs.machine.Dispatch.{ring_cap, in_single, in_ring, in_blocks}
+use Rattle.concurrent_queue.specs.machine.BlocksWords.{begin}
+use Rattle.concurrent_queue.specs.machine.Dispatch.{ring_cap}
 use Rattle.concurrent_queue.specs.machine.RingMade.{empty_ring}
 use Rattle.concurrent_queue.specs.machine.RingMoves.{ring_moves}
 use Rattle.concurrent_queue.specs.machine.RingWords.{cap_of, ring_mark, ring_start}
@@ -35,45 +36,14 @@ use Rattle.concurrent_queue.specs.declared.unbounded.action.UnboundedCall.{Unbou
 use Rattle.concurrent_queue.proofs.BridgeSteps.{state_made}
 use Rattle.concurrent_queue.proofs.Callers.{is_same, is_other, itself, either, place_of, AllApart, none_has, has_at, begun_mine, begun_other, begun_apart, set_mine, set_other, set_apart, gone_other, gone_mine, gone_apart}
 use Rattle.concurrent_queue.proofs.FitsFacts.{starts, is_queue_step, fits_one_slot, fits_ring, fits_blocks}
+use Rattle.concurrent_queue.proofs.Noted.{note_state}
 use Rattle.concurrent_queue.proofs.PartyFacts.{stepped}
 use Rattle.concurrent_queue.proofs.Runs as runs
 use Rattle.concurrent_queue.proofs.Runs.{ActiveQueueCallWitness, HasRun, IsRunning, running_start, running_more, at}
 
--- ---- a step is the only one with its operation
+-- ---- operations lead to one place
 
 module _ {T : Type 0} where
-  one_made : {A : Type 0} (m : Move T A) (r s : A) (o : Option (Deed T)) → Makes Notes m None r o → Makes Notes m None s o → s ≡ r
-  one_made (loads w k) r s o (x, n, e) (y, g, f) = cc
-  one_made (stores w x a) r s o (n, e) (g, f) = cc
-  one_made (exchanges w x y k) r s o (z, n, e) (u, g, f) = cc
-  one_made (adds w x k) r s o (z, n, e) (u, g, f) = cc
-  one_made (sets_bits w x k) r s o (z, n, e) (u, g, f) = cc
-  one_made (keeps_bits w x k) r s o (z, n, e) (u, g, f) = cc
-  one_made (puts at v k) r s o (z, n, e) (u, g, f) = cc
-  one_made (takes at k) r s o (z, n, e) (u, g, f) = cc
-  one_made (spares k) r s o (z, n, e) (u, g, f) = cc
-  one_made (retires b a) r s o (n, e) (g, f) = cc
-  one_made (rests a) r s o (n, e) (g, f) = cc
-
-  one_bounded : (b : Bool) (cap : ℕ) (a : QueueAsk T) (o : Option (Deed T)) (r s : Stepped (CallState T) T) → MakesBounded Notes b cap None a o r → MakesBounded Notes b cap None a o s → s ≡ r
-  one_bounded true cap a o r s (x, h, e) (y, g, f) = f ∙ ap in_single (one_made (single_moves (start a)) x y o h g) ∙ sym e
-  one_bounded false cap a o r s (x, h, e) (y, g, f) = f ∙ ap in_ring (one_made (ring_moves cap (ring_mark cap) (ring_start a)) x y o h g) ∙ sym e
-
-  one_blocks : (a : UnboundedCall T) (o : Option (Deed T)) (r s : Stepped (CallState T) T) → MakesBlocks Notes None a o r → MakesBlocks Notes None a o s → s ≡ r
-  one_blocks a o r s (x, (p, h, i), e) (y, (q, g, j), f) =
-      f ∙ ap in_blocks (j ∙ ap (answered a.displacing) (one_made (blocks_moves a.action) p q o h g) ∙ sym i) ∙ sym e
-
-  one_first : (form : QueueForm) (a : QueueAsk T) (o : Option (Deed T)) (r s : Stepped (CallState T) T) → MakesFirst Notes form None a o r → MakesFirst Notes form None a o s → s ≡ r
-  one_first (Bounded cap) a o r s h g = one_bounded (cap == 1) (cap_of cap) a o r s h g
-  one_first Unbounded a o r s h g = one_blocks (begin a) o r s h g
-
-  one_state : (form : QueueForm) (at : CallState T) (o : Option (Deed T)) (r s : Stepped (CallState T) T) → StateMakes Notes form None at o r → StateMakes Notes form None at o s → s ≡ r
-  one_state form (Asked a) o r s h g = one_first form a o r s h g
-  one_state form (Single a) o r s (x, h, e) (y, g, f) = f ∙ ap in_single (one_made (single_moves a) x y o h g) ∙ sym e
-  one_state form (Ring a) o r s (x, h, e) (y, g, f) = f ∙ ap in_ring (one_made (ring_moves (ring_cap form) (ring_mark (ring_cap form)) a) x y o h g) ∙ sym e
-  one_state form (Blocks a) o r s h g = one_blocks a o r s h g
-  one_state form Finished o r s (n, e) (g, f) = f ∙ sym e
-
   abbrev left_by : Stepped (CallState T) T → Option (QueueCall T)
   left_by s = left_under_way (record { state = s.action; mark = s.mark }) s.reply
 
@@ -391,43 +361,6 @@ merges_are_runs {T} form events replies last has acts order =
 -- ---- a walk over cells of any kind, as events
 
 module _ {T S : Type 0} (did : Deed T → S → S → Type 0) where
-  abbrev Noted : {A : Type 0} → Move T A → S → A → S → Type 0
-  Noted m s r t = (o : Option (Deed T)) × Makes Notes m None r o × Along did (o ∷ []) s t
-
-  note : {A : Type 0} (m : Move T A) (s : S) (r : A) (t : S) → Makes did m s r t → Noted m s r t
-  note (loads w k) s r t (x, h, e) = (Some (loaded w x), (x, refl, e), (t, h, refl))
-  note (stores w x a) s r t (h, e) = (Some (stored w x), (refl, e), (t, h, refl))
-  note (exchanges w x y k) s r t (o, h, e) = (Some (exchanged w x y o), (o, refl, e), (t, h, refl))
-  note (adds w x k) s r t (o, h, e) = (Some (added w x o), (o, refl, e), (t, h, refl))
-  note (sets_bits w x k) s r t (o, h, e) = (Some (bits_set w x o), (o, refl, e), (t, h, refl))
-  note (keeps_bits w x k) s r t (o, h, e) = (Some (bits_kept w x o), (o, refl, e), (t, h, refl))
-  note (puts at v k) s r t (o, h, e) = (Some (did_put at v o), (o, refl, e), (t, h, refl))
-  note (takes at k) s r t (o, h, e) = (Some (did_take at o), (o, refl, e), (t, h, refl))
-  note (spares k) s r t (o, h, e) = (Some (spared o), (o, refl, e), (t, h, refl))
-  note (retires b a) s r t (h, e) = (Some (retired b), (refl, e), (t, h, refl))
-  note (rests a) s r t (same, e) = (None, (refl, e), same)
-
-  abbrev pub NotedAt : QueueForm → S → CallState T → S → Stepped (CallState T) T → Type 0
-  NotedAt form s at t r = (o : Option (Deed T)) × StateMakes Notes form None at o r × Along did (o ∷ []) s t
-
-  note_bounded : (b : Bool) (cap : ℕ) (s : S) (a : QueueAsk T) (t : S) (r : Stepped (CallState T) T) → MakesBounded did b cap s a t r → (o : Option (Deed T)) × MakesBounded Notes b cap None a o r × Along did (o ∷ []) s t
-  note_bounded true cap s a t r (x, h, e) = let n = note (single_moves (start a)) s x t h in (n.0, (x, n.1, e), n.2)
-  note_bounded false cap s a t r (x, h, e) = let n = note (ring_moves cap (ring_mark cap) (ring_start a)) s x t h in (n.0, (x, n.1, e), n.2)
-
-  note_blocks : (s : S) (a : UnboundedCall T) (t : S) (r : Stepped (CallState T) T) → MakesBlocks did s a t r → (o : Option (Deed T)) × MakesBlocks Notes None a o r × Along did (o ∷ []) s t
-  note_blocks s a t r (x, (p, h, f), e) = let n = note (blocks_moves a.action) s p t h in (n.0, (x, (p, n.1, f), e), n.2)
-
-  note_first : (form : QueueForm) (s : S) (a : QueueAsk T) (t : S) (r : Stepped (CallState T) T) → MakesFirst did form s a t r → (o : Option (Deed T)) × MakesFirst Notes form None a o r × Along did (o ∷ []) s t
-  note_first (Bounded cap) s a t r h = note_bounded (cap == 1) (cap_of cap) s a t r h
-  note_first Unbounded s a t r h = note_blocks s (begin a) t r h
-
-  pub note_state : (form : QueueForm) (s : S) (at : CallState T) (t : S) (r : Stepped (CallState T) T) → StateMakes did form s at t r → NotedAt form s at t r
-  note_state form s (Asked a) t r h = note_first form s a t r h
-  note_state form s (Single a) t r (x, h, e) = let n = note (single_moves a) s x t h in (n.0, (x, n.1, e), n.2)
-  note_state form s (Ring a) t r (x, h, e) = let n = note (ring_moves (ring_cap form) (ring_mark (ring_cap form)) a) s x t h in (n.0, (x, n.1, e), n.2)
-  note_state form s (Blocks a) t r h = note_blocks s a t r h
-  note_state form s Finished t r (same, e) = (None, (refl, e), same)
-
   pub along_more : (o : Option (Deed T)) (os : List (Option (Deed T))) (s m t : S) → Along did (o ∷ []) s m → Along did os m t → Along did (o ∷ os) s t
   along_more None os s m t e h = subst (λ (x : S). Along did os x t) e h
   along_more (Some d) os s m t (x, h, e) g = (x, h, subst (λ (y : S). Along did os y t) e g)
@@ -443,11 +376,11 @@ module _ {T S : Type 0} (did : Deed T → S → S → Type 0) where
       → Leads (StateMakes did form) n s at x b → StateMakes did form x b t (record { action = z; mark = m; reply = Some r })
       → (os : List (Option (Deed T))) × Along did os s t × Goes form at os r
   goes form zero s at x b t z m r (e, f) last =
-      let n = note_state form s at t (record { action = z; mark = m; reply = Some r })
+      let n = note_state did form s at t (record { action = z; mark = m; reply = Some r })
       (subst (λ (y : S). StateMakes did form y at t (record { action = z; mark = m; reply = Some r })) e (subst (λ (y : CallState T). StateMakes did form x y t (record { action = z; mark = m; reply = Some r })) f last)) in
       (n.0 ∷ [], n.2, λ k xs more h. (call_at z m, Some r, n.1, (more, refl, h)))
   goes form (suc j) s at x b t z m r (y, c, (k, step), path) last =
-      let n = note_state form s at y (record { action = c; mark = k; reply = None }) step in
+      let n = note_state did form s at y (record { action = c; mark = k; reply = None }) step in
       let rest = goes form j y c x b t z m r path last in
       (n.0 ∷ rest.0, along_more n.0 rest.0 s y t n.2 rest.1, λ k' xs more h. (call_at c k, None, n.1, rest.2 k xs more h))
 

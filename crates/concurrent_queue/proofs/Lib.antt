@@ -22,6 +22,9 @@ pub mod StepFacts
 mod SingleDeeds
 mod RingDeeds
 pub mod Walks
+pub mod Noted
+mod Resting
+pub mod Standing
 mod Traces
 mod BlocksDeeds
 pub mod Callers

@@ -3,7 +3,7 @@
 -- that the operations of all come in one order, and that each answer is what the cells then gave.
 use Rattle.std.specs.Prelude.{◌≡◌, ℕ, ◌<◌, ◌≤◌, ◌^◌, ◌==◌, List, [], ◌∷◌, ◌++◌, map, Option, None, Some, MatchOption, option_to_list, if◌then◌else◌}
 use Rattle.concurrent_queue.specs.Contents.{Contents}
-use Rattle.concurrent_queue.specs.Deeds.{Deed}
+use Rattle.concurrent_queue.specs.Deeds.{Deed, Notes}
 use Rattle.concurrent_queue.specs.Effects.{Does}
 use Rattle.concurrent_queue.specs.Made.{new_cells}
 use Rattle.concurrent_queue.specs.Parties.{call_under, id_of, under_way_of}
@@ -41,10 +41,6 @@ pub record Caller (T : Type 0) : Type 0 where
 
 module _ {T : Type 0} where
   -- ---- what is asked of each party
-
-  -- what is known of cells between two operations: nothing but the last operation, with its answer
-  abbrev pub Notes : Deed T → Option (Deed T) → Option (Deed T) → Type 0
-  Notes d before after = after ≡ Some d
 
   abbrev pub asking : QueueAsk T → QueueCall T
   asking a = record { state = Asked a; mark = Nothing }

@@ -1,6 +1,6 @@
 -- What is done to the cells of a queue by one operation, with what it answered; and a step of a machine as one operation with
 -- what follows each answer. Nothing here speaks of what the cells hold, so it is said of cells that threads share as well.
-use Rattle.std.specs.Prelude.{◌≡◌, ℕ, Bool, true, false, Option, Result, Ok, Err}
+use Rattle.std.specs.Prelude.{◌≡◌, ℕ, Bool, true, false, Option, Some, Result, Ok, Err}
 use Rattle.concurrent_queue.specs.declared.cells.Slot.{Slot}
 use Rattle.concurrent_queue.specs.declared.cells.Word.{Word}
 use Rattle.concurrent_queue.specs.declared.error.NoMemory.{NoMemory}
@@ -51,3 +51,22 @@ module _ {T S : Type 0} (did : Deed T → S → S → Type 0) where
   Makes (spares k) s r t = (o : Result ℕ NoMemory) × did (spared o) s t × (r ≡ k o)
   Makes (retires b a) s r t = did (retired b) s t × (r ≡ a)
   Makes (rests a) s r t = (t ≡ s) × (r ≡ a)
+
+-- what is known of cells between two operations: nothing but the last operation, with its answer
+abbrev pub Notes : {T : Type 0} → Deed T → Option (Deed T) → Option (Deed T) → Type 0
+Notes d before after = after ≡ Some d
+
+-- whatever it answers, the operation may be made
+module _ {T S : Type 0} (may : Deed T → S → Type 0) where
+  abbrev pub Ready : {A : Type 0} → Move T A → S → Type 0
+  Ready (loads w k) s = (x : ℕ) → may (loaded w x) s
+  Ready (stores w x a) s = may (stored w x) s
+  Ready (exchanges w x y k) s = (o : Result ℕ ℕ) → may (exchanged w x y o) s
+  Ready (adds w x k) s = (o : ℕ) → may (added w x o) s
+  Ready (sets_bits w x k) s = (o : ℕ) → may (bits_set w x o) s
+  Ready (keeps_bits w x k) s = (o : ℕ) → may (bits_kept w x o) s
+  Ready (puts at v k) s = (o : Result Unit T) → may (did_put at v o) s
+  Ready (takes at k) s = (o : Option T) → may (did_take at o) s
+  Ready (spares k) s = (o : Result ℕ NoMemory) → may (spared o) s
+  Ready (retires b a) s = may (retired b) s
+  Ready (rests a) s = Unit {0}

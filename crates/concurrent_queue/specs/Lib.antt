@@ -4,6 +4,8 @@
 -- and `Whole` (no push is whole at its first step). `Bridge` says that calls whose operations come in one order are a run, and
 -- `Touched` what is known of the cell that such a call is about to touch. A queue of one owner is said in `Alone`, `Room` and `Walk`, one that
 -- threads share in `SharedQueue`, `Replies` and `Turns`, what a trace is shown in `Shown`, and what a refusal says in `Errors`.
+-- `Stands` what cells may ask of those who operate on them, and `Tracked`
+-- that cells which know where a call stands may ask so.
 -- `Step` is the promise of one step of one call among any others, over the cells of `Contents`; `Capacity` and `Made` say which
 -- queues there are.
 -- Not promised, but what the code goes by: `Plain` and `Parties` are its fields as the promise sees them, and `machine` has
@@ -32,6 +34,8 @@ pub mod Deeds
 pub mod Shown
 pub mod Effects
 pub mod Walked
+pub mod Stands
+pub mod Tracked
 pub mod Capacity
 pub mod Made
 pub mod Plain

@@ -12,7 +12,8 @@
 
 ghost use Rattle.std.specs.Prelude.{◌≡◌, ℕ, ◌<◌, ◌^◌, ◌*◌, ◌+◌, ◌-◌, ◌%◌, None, Some, if◌then◌else◌, bit_and};
 ghost use Rattle.concurrent_queue.specs.machine.RingWords.{cap_of, ring_mark, index, is_marked, unmarked, stride, next_word, count_of, shut_reply, pushed_reply, stays, marks, finishes, ring_start};
-ghost use Rattle.concurrent_queue.specs.machine.RingMoves.{RingMakes};
+ghost use Rattle.concurrent_queue.specs.Deeds.{Ready, loaded};
+ghost use Rattle.concurrent_queue.specs.machine.RingMoves.{RingMakes, ring_moves};
 ghost use Rattle.concurrent_queue.specs.machine.Dispatch.{ring_cap};
 ghost use Rattle.concurrent_queue.specs.Replies.{RingFollows, MaySend};
 
@@ -273,6 +274,7 @@ fn push_load<T: Drop, C: Cells<T>>(
     value: T,
     cells: &mut C,
 ) -> Stepped<RingAction<T>, T>
+    requires ready { Ready C.may (ring_moves shape.cap shape.mark (RingAction.Push when_full value)) cells.old }
     ensures answers { RingFollows shape.cap (RingAction.Push when_full value) result }
     ensures deed { RingMakes shape.cap shape.mark C.did cells.old (RingAction.Push when_full value) cells.new result }
 {
@@ -294,6 +296,7 @@ fn push_shut<T: Drop, C: Cells<T>>(
     value: T,
     cells: &mut C,
 ) -> Stepped<RingAction<T>, T>
+    requires ready { Ready C.may (ring_moves shape.cap shape.mark (RingAction.PushShut when_full value)) cells.old }
     ensures answers { RingFollows shape.cap (RingAction.PushShut when_full value) result }
     ensures deed { RingMakes shape.cap shape.mark C.did cells.old (RingAction.PushShut when_full value) cells.new result }
 {
@@ -314,6 +317,7 @@ fn push_look<T: Drop, C: Cells<T>>(
     tail: u64,
     cells: &mut C,
 ) -> Stepped<RingAction<T>, T>
+    requires ready { Ready C.may (ring_moves shape.cap shape.mark (RingAction.PushStamp when_full value tail)) cells.old }
     ensures answers { RingFollows shape.cap (RingAction.PushStamp when_full value tail) result }
     ensures deed { RingMakes shape.cap shape.mark C.did cells.old (RingAction.PushStamp when_full value tail) cells.new result }
 {
@@ -340,6 +344,7 @@ fn push_swap<T: Drop, C: Cells<T>>(
     tail: u64,
     cells: &mut C,
 ) -> Stepped<RingAction<T>, T>
+    requires ready { Ready C.may (ring_moves shape.cap shape.mark (RingAction.PushSwap when_full value tail)) cells.old }
     ensures answers { RingFollows shape.cap (RingAction.PushSwap when_full value tail) result }
     ensures deed { RingMakes shape.cap shape.mark C.did cells.old (RingAction.PushSwap when_full value tail) cells.new result }
 {
@@ -359,6 +364,7 @@ fn push_put<T: Drop, C: Cells<T>>(
     tail: u64,
     cells: &mut C,
 ) -> Stepped<RingAction<T>, T>
+    requires ready { Ready C.may (ring_moves shape.cap shape.mark (RingAction.PushPut when_full value tail)) cells.old }
     ensures answers { RingFollows shape.cap (RingAction.PushPut when_full value tail) result }
     ensures deed { RingMakes shape.cap shape.mark C.did cells.old (RingAction.PushPut when_full value tail) cells.new result }
 {
@@ -374,6 +380,7 @@ fn push_store<T: Drop, C: Cells<T>>(
     tail: u64,
     cells: &mut C,
 ) -> Stepped<RingAction<T>, T>
+    requires ready { Ready C.may (ring_moves shape.cap shape.mark (RingAction.PushStore when_full tail)) cells.old }
     ensures answers { RingFollows shape.cap (RingAction.PushStore when_full tail) result }
     ensures deed { RingMakes shape.cap shape.mark C.did cells.old (RingAction.PushStore when_full tail) cells.new result }
 {
@@ -383,6 +390,7 @@ fn push_store<T: Drop, C: Cells<T>>(
 
 /// The queue is full where the message of the lap before is the oldest.
 fn push_head<T: Drop, C: Cells<T>>(value: T, head: u64, cells: &mut C) -> Stepped<RingAction<T>, T>
+    requires ready { (x : ℕ) → C.may (loaded Word.Head x) cells.old }
     ensures answers { (cap : ℕ) → RingFollows cap (RingAction.PushHead value head) result }
     ensures deed { (cap m : ℕ) → RingMakes cap m C.did cells.old (RingAction.PushHead value head) cells.new result }
 {
@@ -401,6 +409,7 @@ fn force_head<T: Drop, C: Cells<T>>(
     head: u64,
     cells: &mut C,
 ) -> Stepped<RingAction<T>, T>
+    requires ready { Ready C.may (ring_moves shape.cap shape.mark (RingAction.ForceHead value head)) cells.old }
     ensures answers { RingFollows shape.cap (RingAction.ForceHead value head) result }
     ensures deed { RingMakes shape.cap shape.mark C.did cells.old (RingAction.ForceHead value head) cells.new result }
 {
@@ -417,6 +426,7 @@ fn force_add<T: Drop, C: Cells<T>>(
     head: u64,
     cells: &mut C,
 ) -> Stepped<RingAction<T>, T>
+    requires ready { Ready C.may (ring_moves shape.cap shape.mark (RingAction.ForceAdd value head)) cells.old }
     ensures answers { RingFollows shape.cap (RingAction.ForceAdd value head) result }
     ensures deed { RingMakes shape.cap shape.mark C.did cells.old (RingAction.ForceAdd value head) cells.new result }
 {
@@ -430,6 +440,7 @@ fn force_take<T: Drop, C: Cells<T>>(
     head: u64,
     cells: &mut C,
 ) -> Stepped<RingAction<T>, T>
+    requires ready { Ready C.may (ring_moves shape.cap shape.mark (RingAction.ForceTake value head)) cells.old }
     ensures answers { RingFollows shape.cap (RingAction.ForceTake value head) result }
     ensures deed { RingMakes shape.cap shape.mark C.did cells.old (RingAction.ForceTake value head) cells.new result }
 {
@@ -446,6 +457,7 @@ fn force_put<T: Drop, C: Cells<T>>(
     old: T,
     cells: &mut C,
 ) -> Stepped<RingAction<T>, T>
+    requires ready { Ready C.may (ring_moves shape.cap shape.mark (RingAction.ForcePut value head old)) cells.old }
     ensures answers { RingFollows shape.cap (RingAction.ForcePut value head old) result }
     ensures deed { RingMakes shape.cap shape.mark C.did cells.old (RingAction.ForcePut value head old) cells.new result }
 {
@@ -461,6 +473,7 @@ fn force_store<T: Drop, C: Cells<T>>(
     old: T,
     cells: &mut C,
 ) -> Stepped<RingAction<T>, T>
+    requires ready { Ready C.may (ring_moves shape.cap shape.mark (RingAction.ForceStore head old)) cells.old }
     ensures answers { RingFollows shape.cap (RingAction.ForceStore head old) result }
     ensures deed { RingMakes shape.cap shape.mark C.did cells.old (RingAction.ForceStore head old) cells.new result }
 {
@@ -474,6 +487,7 @@ fn pop_look<T: Drop, C: Cells<T>>(
     head: u64,
     cells: &mut C,
 ) -> Stepped<RingAction<T>, T>
+    requires ready { Ready C.may (ring_moves shape.cap shape.mark (RingAction.PopStamp head)) cells.old }
     ensures answers { RingFollows shape.cap (RingAction.PopStamp head) result }
     ensures deed { RingMakes shape.cap shape.mark C.did cells.old (RingAction.PopStamp head) cells.new result }
 {
@@ -492,6 +506,7 @@ fn pop_swap<T: Drop, C: Cells<T>>(
     head: u64,
     cells: &mut C,
 ) -> Stepped<RingAction<T>, T>
+    requires ready { Ready C.may (ring_moves shape.cap shape.mark (RingAction.PopSwap head)) cells.old }
     ensures answers { RingFollows shape.cap (RingAction.PopSwap head) result }
     ensures deed { RingMakes shape.cap shape.mark C.did cells.old (RingAction.PopSwap head) cells.new result }
 {
@@ -508,6 +523,7 @@ fn pop_tail<T: Drop, C: Cells<T>>(
     head: u64,
     cells: &mut C,
 ) -> Stepped<RingAction<T>, T>
+    requires ready { Ready C.may (ring_moves shape.cap shape.mark (RingAction.PopTail head)) cells.old }
     ensures answers { RingFollows shape.cap (RingAction.PopTail head) result }
     ensures deed { RingMakes shape.cap shape.mark C.did cells.old (RingAction.PopTail head) cells.new result }
 {
@@ -527,6 +543,7 @@ fn pop_take<T: Drop, C: Cells<T>>(
     head: u64,
     cells: &mut C,
 ) -> Stepped<RingAction<T>, T>
+    requires ready { Ready C.may (ring_moves shape.cap shape.mark (RingAction.PopTake head)) cells.old }
     ensures answers { RingFollows shape.cap (RingAction.PopTake head) result }
     ensures deed { RingMakes shape.cap shape.mark C.did cells.old (RingAction.PopTake head) cells.new result }
 {
@@ -542,6 +559,7 @@ fn pop_store<T: Drop, C: Cells<T>>(
     value: T,
     cells: &mut C,
 ) -> Stepped<RingAction<T>, T>
+    requires ready { Ready C.may (ring_moves shape.cap shape.mark (RingAction.PopStore head value)) cells.old }
     ensures answers { RingFollows shape.cap (RingAction.PopStore head value) result }
     ensures deed { RingMakes shape.cap shape.mark C.did cells.old (RingAction.PopStore head value) cells.new result }
 {
@@ -550,6 +568,7 @@ fn pop_store<T: Drop, C: Cells<T>>(
 }
 
 fn close<T: Drop, C: Cells<T>>(shape: Shape, cells: &mut C) -> Stepped<RingAction<T>, T>
+    requires ready { Ready C.may (ring_moves shape.cap shape.mark RingAction.Close) cells.old }
     ensures answers { RingFollows shape.cap RingAction.Close result }
     ensures deed { RingMakes shape.cap shape.mark C.did cells.old RingAction.Close cells.new result }
 {
@@ -562,6 +581,7 @@ fn close<T: Drop, C: Cells<T>>(shape: Shape, cells: &mut C) -> Stepped<RingActio
 }
 
 fn is_closed<T: Drop, C: Cells<T>>(shape: Shape, cells: &mut C) -> Stepped<RingAction<T>, T>
+    requires ready { Ready C.may (ring_moves shape.cap shape.mark RingAction.IsClosed) cells.old }
     ensures answers { RingFollows shape.cap RingAction.IsClosed result }
     ensures deed { RingMakes shape.cap shape.mark C.did cells.old RingAction.IsClosed cells.new result }
 {
@@ -574,6 +594,7 @@ fn empty_look<T: Drop, C: Cells<T>>(
     head: u64,
     cells: &mut C,
 ) -> Stepped<RingAction<T>, T>
+    requires ready { Ready C.may (ring_moves shape.cap shape.mark (RingAction.IsEmptyTail head)) cells.old }
     ensures answers { RingFollows shape.cap (RingAction.IsEmptyTail head) result }
     ensures deed { RingMakes shape.cap shape.mark C.did cells.old (RingAction.IsEmptyTail head) cells.new result }
 {
@@ -582,6 +603,7 @@ fn empty_look<T: Drop, C: Cells<T>>(
 }
 
 fn full_load<T: Drop, C: Cells<T>>(shape: Shape, cells: &mut C) -> Stepped<RingAction<T>, T>
+    requires ready { Ready C.may (ring_moves shape.cap shape.mark RingAction.IsFull) cells.old }
     ensures answers { RingFollows shape.cap RingAction.IsFull result }
     ensures deed { RingMakes shape.cap shape.mark C.did cells.old RingAction.IsFull cells.new result }
 {
@@ -594,6 +616,7 @@ fn full_look<T: Drop, C: Cells<T>>(
     tail: u64,
     cells: &mut C,
 ) -> Stepped<RingAction<T>, T>
+    requires ready { Ready C.may (ring_moves shape.cap shape.mark (RingAction.IsFullHead tail)) cells.old }
     ensures answers { RingFollows shape.cap (RingAction.IsFullHead tail) result }
     ensures deed { RingMakes shape.cap shape.mark C.did cells.old (RingAction.IsFullHead tail) cells.new result }
 {
@@ -603,6 +626,7 @@ fn full_look<T: Drop, C: Cells<T>>(
 }
 
 fn len_load<T: Drop, C: Cells<T>>(shape: Shape, cells: &mut C) -> Stepped<RingAction<T>, T>
+    requires ready { Ready C.may (ring_moves shape.cap shape.mark RingAction.Len) cells.old }
     ensures answers { RingFollows shape.cap RingAction.Len result }
     ensures deed { RingMakes shape.cap shape.mark C.did cells.old RingAction.Len cells.new result }
 {
@@ -618,6 +642,7 @@ fn len_again<T: Drop, C: Cells<T>>(
     head: u64,
     cells: &mut C,
 ) -> Stepped<RingAction<T>, T>
+    requires ready { Ready C.may (ring_moves shape.cap shape.mark (RingAction.LenTail tail marked head)) cells.old }
     ensures answers { RingFollows shape.cap (RingAction.LenTail tail marked head) result }
     ensures deed { RingMakes shape.cap shape.mark C.did cells.old (RingAction.LenTail tail marked head) cells.new result }
 {
@@ -665,6 +690,7 @@ pub(crate) fn step<T: Drop, C: Cells<T>>(
     action: RingAction<T>,
     cells: &mut C,
 ) -> Stepped<RingAction<T>, T>
+    requires ready { Ready C.may (ring_moves (ring_cap (C.form_of cells.old)) (ring_mark (ring_cap (C.form_of cells.old))) action) cells.old }
     ensures answers { RingFollows (ring_cap (C.form_of cells.old)) action result }
     ensures deed { RingMakes (ring_cap (C.form_of cells.old)) (ring_mark (ring_cap (C.form_of cells.old))) C.did cells.old action cells.new result }
 {
@@ -680,6 +706,7 @@ fn step_ring<T: Drop, C: Cells<T>>(
     action: RingAction<T>,
     cells: &mut C,
 ) -> Stepped<RingAction<T>, T>
+    requires ready { Ready C.may (ring_moves shape.cap shape.mark action) cells.old }
     ensures answers { RingFollows shape.cap action result }
     ensures deed { RingMakes shape.cap shape.mark C.did cells.old action cells.new result }
 {

@@ -6,6 +6,7 @@ ghost use Rattle.concurrent_queue.specs.Bounds.{NeverOverfull, ClosesOnce};
 ghost use Rattle.concurrent_queue.specs.Whole.{NeverWholeAtOnce};
 ghost use Rattle.concurrent_queue.specs.Bridge.{EventsLeadToOnePlace, MergesAreRuns, WalksAct};
 ghost use Rattle.concurrent_queue.specs.BridgeRow.{FourEventsLead, TwoCallsMerge};
+ghost use Rattle.concurrent_queue.specs.Tracked.{CallsKeepWhatCellsAsk};
 ghost use Rattle.concurrent_queue.specs.Touched.{BlocksAreGivenBackAlone, EachTouchesItsOwn, PartiesAreAmongOthers, SlotsAreAsExpected, SlotsAreTouchedAlone, TouchedBlocksAreInUse};
 
 use crate::cells::Cells;
@@ -126,4 +127,13 @@ pub fn slots_are_touched_alone<T>()
 /// Own to this project.
 pub fn each_touches_its_own<T>()
     ensures own { EachTouchesItsOwn T }
+{}
+
+/// There are cells that ask for all that [`Cells`] lets them ask, and no form of queue but keeps it: who may make just the operation that a
+/// call makes next, whatever it is answered, and does it, stands then where the call's machine goes by the answer. A call that has made no
+/// step stands at its first action.
+///
+/// Own to this project.
+pub fn calls_keep_what_cells_ask<T>()
+    ensures asked { CallsKeepWhatCellsAsk T }
 {}

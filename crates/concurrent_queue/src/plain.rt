@@ -82,6 +82,14 @@ impl<T: Drop> Cells<T> for PlainCells<T> {
 
     ghost did = { λ d a b. Does d (contents_of a) (contents_of b) };
 
+    ghost may = { λ _ _. Unit {0} };
+
+    ghost stands = { λ _ _. Unit {0} };
+
+    ghost ready = { λ at s d r stands next. tt };
+
+    ghost leads = { λ at s t d r stands done next. tt };
+
     ghost keeps_form = { λ d a b. does_keep_form d (contents_of a) (contents_of b) };
 
     ghost exact_form = { λ _ a. refl };

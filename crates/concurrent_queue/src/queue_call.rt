@@ -3,6 +3,7 @@
 ghost use Rattle.std.specs.Prelude.{◌≡◌};
 ghost use Rattle.concurrent_queue.specs.machine.Dispatch.{in_single, in_ring, in_blocks, ended};
 ghost use Rattle.concurrent_queue.specs.Replies.{StateFollows};
+ghost use Rattle.concurrent_queue.specs.Stands.{StateReady};
 ghost use Rattle.concurrent_queue.specs.Walked.{StateMakes};
 ghost use Rattle.concurrent_queue.specs.declared.call.QueueAsk.TheVariants as ask;
 
@@ -81,6 +82,7 @@ fn wrap_blocks<T: Drop>(stepped: Stepped<UnboundedCall<T>, T>) -> Stepped<CallSt
 
 /// The first step of a call, in the form of its queue.
 fn first_step<T: Drop, C: Cells<T>>(ask: QueueAsk<T>, cells: &mut C) -> Stepped<CallState<T>, T>
+    requires ready { StateReady C.may (C.form_of cells.old) (CallState.Asked ask) cells.old }
     ensures answers { StateFollows (C.form_of cells.old) (CallState.Asked ask) result.action result.reply }
     ensures deed { StateMakes C.did (C.form_of cells.old) cells.old (CallState.Asked ask) cells.new result }
 {
@@ -92,6 +94,7 @@ fn first_step<T: Drop, C: Cells<T>>(ask: QueueAsk<T>, cells: &mut C) -> Stepped<
 }
 
 fn step_state<T: Drop, C: Cells<T>>(state: CallState<T>, cells: &mut C) -> Stepped<CallState<T>, T>
+    requires ready { StateReady C.may (C.form_of cells.old) state cells.old }
     ensures answers { StateFollows (C.form_of cells.old) state result.action result.reply }
     ensures deed { StateMakes C.did (C.form_of cells.old) cells.old state cells.new result }
 {
@@ -125,7 +128,7 @@ impl<T: Drop> QueueCall<T> {
     ghost use Rattle.std.specs.Prelude.{◌≡◌, true};
     ghost use Rattle.concurrent_queue.specs.Step.{Starts, mark_of};
     ghost use Rattle.concurrent_queue.specs.Replies.{Follows, IsAsking};
-    ghost use Rattle.concurrent_queue.specs.Walked.{CallMakes, HasEnded};
+    ghost use Rattle.concurrent_queue.specs.Walked.{CallMakes, HasEnded, standing};
 
     /// The call that asks this. It has made no step.
     pub fn new(ask: QueueAsk<T>) -> QueueCall<T>
@@ -195,6 +198,7 @@ impl<T: Drop> QueueCall<T> {
 
     /// One step: one operation on the cells, as the machine of their form makes it, and what follows its answer.
     pub fn step<C: Cells<T>>(&mut self, cells: &mut C) -> Option<QueueReply<T>>
+        requires stands { C.stands (standing (C.form_of cells.old) self.old.state) cells.old }
         ensures answers { Follows (C.form_of cells.old) self.old self.new result }
         ensures deed { CallMakes C.did (C.form_of cells.old) cells.old self.old cells.new self.new result }
     {

@@ -198,6 +198,14 @@ impl<T, C: Cells<T>, S: Trace<T>> Cells<T> for Seen<C, S> {
 
     ghost did = { λ d a b. C.did d a.cells b.cells × S.did d a.trace b.trace };
 
+    ghost may = { λ d s. C.may d s.cells };
+
+    ghost stands = { λ at s. C.stands at s.cells };
+
+    ghost ready = { λ at s d r stands next. C.ready at s.cells d r stands next };
+
+    ghost leads = { λ at s t d r stands done next. C.leads at s.cells t.cells d r stands (done.0) next };
+
     ghost keeps_form = { λ d a b done. C.keeps_form d a.cells b.cells (done.0) };
 
     ghost exact_form = { λ known a. C.exact_form known a.cells };

@@ -7,7 +7,8 @@
 ghost use Rattle.std.specs.Prelude.{◌≡◌, ℕ};
 ghost use Rattle.concurrent_queue.specs.machine.Single.{stays, marks, finishes, start};
 ghost use Rattle.concurrent_queue.specs.Replies.{SingleFollows};
-ghost use Rattle.concurrent_queue.specs.machine.Single.{SingleMakes};
+ghost use Rattle.concurrent_queue.specs.Deeds.{Ready};
+ghost use Rattle.concurrent_queue.specs.machine.Single.{SingleMakes, single_moves};
 
 pub(crate) mod fast_path;
 
@@ -117,6 +118,7 @@ pub(crate) fn step<T: Drop, C: Cells<T>>(
     action: SingleAction<T>,
     cells: &mut C,
 ) -> Stepped<SingleAction<T>, T>
+    requires ready { Ready C.may (single_moves action) cells.old }
     ensures answers { SingleFollows action result }
     ensures deed { SingleMakes C.did cells.old action cells.new result }
 {
@@ -176,6 +178,7 @@ pub(crate) fn step<T: Drop, C: Cells<T>>(
 
 /// Wins the empty slot. A refusal is read off the word that was found, so that it holds at this step.
 fn push<T: Drop, C: Cells<T>>(value: T, cells: &mut C) -> Stepped<SingleAction<T>, T>
+    requires ready { Ready C.may (single_moves (SingleAction.Push value)) cells.old }
     ensures answers { SingleFollows (SingleAction.Push value) result }
     ensures deed { SingleMakes C.did cells.old (SingleAction.Push value) cells.new result }
 {
@@ -199,6 +202,7 @@ fn force_push<T: Drop, C: Cells<T>>(
     expected: u64,
     cells: &mut C,
 ) -> Stepped<SingleAction<T>, T>
+    requires ready { Ready C.may (single_moves (SingleAction.Force value expected)) cells.old }
     ensures answers { SingleFollows (SingleAction.Force value expected) result }
     ensures deed { SingleMakes C.did cells.old (SingleAction.Force value expected) cells.new result }
 {
@@ -224,6 +228,7 @@ fn force_push<T: Drop, C: Cells<T>>(
 
 /// Wins the message. The closed bit is kept.
 fn pop<T: Drop, C: Cells<T>>(expected: u64, cells: &mut C) -> Stepped<SingleAction<T>, T>
+    requires ready { Ready C.may (single_moves (SingleAction.Pop expected)) cells.old }
     ensures answers { SingleFollows (SingleAction.Pop expected) result }
     ensures deed { SingleMakes C.did cells.old (SingleAction.Pop expected) cells.new result }
 {
@@ -243,6 +248,7 @@ fn pop<T: Drop, C: Cells<T>>(expected: u64, cells: &mut C) -> Stepped<SingleActi
 
 /// Sets the closed bit.
 fn close<T: Drop, C: Cells<T>>(cells: &mut C) -> Stepped<SingleAction<T>, T>
+    requires ready { Ready C.may (single_moves SingleAction.Close) cells.old }
     ensures answers { SingleFollows SingleAction.Close result }
     ensures deed { SingleMakes C.did cells.old SingleAction.Close cells.new result }
 {

@@ -3,7 +3,8 @@
 
 ghost use Rattle.std.specs.Prelude.{◌≡◌, None};
 ghost use Rattle.concurrent_queue.specs.machine.BlocksMoves.{answer_as};
-ghost use Rattle.concurrent_queue.specs.machine.BlocksMakes.{BlocksMakes, ProgressMakes};
+ghost use Rattle.concurrent_queue.specs.Deeds.{Ready};
+ghost use Rattle.concurrent_queue.specs.machine.BlocksMakes.{BlocksMakes, ProgressMakes, blocks_moves};
 ghost use Rattle.concurrent_queue.specs.machine.BlocksWords.{begin, reply_of};
 ghost use Rattle.concurrent_queue.specs.Replies.{EndFollows, BlocksFollows};
 ghost use Rattle.concurrent_queue.specs.declared.call.QueueAsk.TheVariants as ask;
@@ -98,6 +99,7 @@ pub(crate) fn step<T: Drop, C: Cells<T>>(
     call: UnboundedCall<T>,
     cells: &mut C,
 ) -> Stepped<UnboundedCall<T>, T>
+    requires ready { Ready C.may (blocks_moves call.action) cells.old }
     ensures answers { BlocksFollows call result }
     ensures deed { BlocksMakes C.did cells.old call cells.new result }
 {
@@ -125,6 +127,7 @@ fn answer<T: Drop>(displacing: bool, ending: Option<Ending<T>>) -> Option<QueueR
 
 /// One step of the machine that a push and a displacing push share, and of all others.
 fn step_unbounded<T: Drop, C: Cells<T>>(action: UnboundedAction<T>, cells: &mut C) -> Progress<T>
+    requires ready { Ready C.may (blocks_moves action) cells.old }
     ensures ends { EndFollows action result }
     ensures deed { ProgressMakes C.did cells.old action cells.new result }
 {

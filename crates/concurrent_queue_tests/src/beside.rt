@@ -157,6 +157,14 @@ impl Cells<u64> for Beside {
 
     ghost did = { λ _ a b. b.form ≡ a.form };
 
+    ghost may = { λ _ _. Unit {0} };
+
+    ghost stands = { λ _ _. Unit {0} };
+
+    ghost ready = { λ at s d r stands next. tt };
+
+    ghost leads = { λ at s t d r stands done next. tt };
+
     ghost keeps_form = { λ _ a b kept. kept };
 
     ghost exact_form = { λ known. absurd known };

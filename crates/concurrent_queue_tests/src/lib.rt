@@ -15,6 +15,8 @@ mod exclusive;
 #[cfg(test)]
 mod log;
 #[cfg(test)]
+mod one_owner;
+#[cfg(test)]
 mod queue_rows;
 #[cfg(test)]
 mod queues;

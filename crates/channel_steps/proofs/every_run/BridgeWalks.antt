@@ -4,7 +4,7 @@ use Rattle.concurrent_queue.specs.Bridge as queue
 use Rattle.concurrent_queue.specs.Deeds as cell
 use Rattle.channel_steps.proofs.every_run.Words.{QueueMark, QueueReply, QueueForm, CallState, QueueCall, kept_by, Deed, mark_of_queue, Heard, Leaves, WorkMakes, ChannelMakes, Leads, Mark, Reply, Purpose, ListenerRef, Stage, Trying, Working, Finished, ListStep, TellReceive, TellStreams, TellSend, TellSends, TakeRoom, TellAll, Insert, Register, Leave, Lower, Count, Load, Raise, StateMakes, Act, on_queue, on_wait_lists, on_nothing, Event, Completed, Notes, Acts, QueueIsWalked, Along, StandsAct, WalksAct}
 use Rattle.concurrent_queue.specs.machine.FastPath as cells
-use Rattle.concurrent_queue.proofs.Bridge as queue_facts
+use Rattle.concurrent_queue.proofs.Noted as queue_facts
 use Rattle.channel_steps.specs.every_run.Bridge.{does}
 
 module _ {T W X : Type 0} (did : Deed T W → X → X → Type 0) (cells_did : cell.Deed T → X → X → Type 0) (form : QueueForm) where

@@ -72,7 +72,7 @@ module _ {T W : Type 0} where
   -- what is known of cells between two steps: nothing but what the last step did, with its answer
   abbrev pub Notes : QueueForm → Deed T W → Act T W → Act T W → Type 0
   Notes form (stepped call next answer) before after =
-      (o : Option (cell.Deed T)) × CallMakes queue.Notes form None call o next answer × (after ≡ on_queue o)
+      (o : Option (cell.Deed T)) × CallMakes cell.Notes form None call o next answer × (after ≡ on_queue o)
   Notes form d before after = after ≡ on_wait_lists d
 
   -- these are the events of a party whose call stands at this stage, or that has none, and what it is given: calls one after

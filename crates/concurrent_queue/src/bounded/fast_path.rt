@@ -6,8 +6,10 @@ ghost use Rattle.std.specs.Prelude.{ℕ, true, MatchResult};
 ghost use Rattle.concurrent_queue.specs.machine.FastPath.{PushesOnEnd, PopsOnEnd};
 ghost use Rattle.concurrent_queue.specs.machine.RingMoves.{RingMakes};
 ghost use Rattle.concurrent_queue.specs.Replies.{MayRing, MayPush, MayPop};
+ghost use Rattle.concurrent_queue.specs.Stands.{IsMeasured};
 ghost use Rattle.concurrent_queue.specs.declared.call.QueueReply.{QueueReply};
 ghost use Rattle.concurrent_queue.specs.declared.call.QueueReply.TheVariants as reply;
+ghost use Rattle.concurrent_queue.specs.declared.queue_call.CallState.TheVariants as state;
 
 use crate::bounded::{RingAction, Shape, WhenFull};
 use crate::cells::{Cells, Slot, Word};
@@ -21,6 +23,8 @@ pub(crate) fn push_fast<T: Drop, C: Cells<T>>(
     value: T,
     cells: &mut C,
 ) -> Result<Result<(), PushError<T>>, RingAction<T>>
+    requires stands { C.stands (state.Ring (RingAction.Push WhenFull.Refuse value)) cells.old }
+    requires measures { IsMeasured shape.cap shape.mark (C.form_of cells.old) }
     ensures deeds { PushesOnEnd (RingMakes shape.cap shape.mark C.did) cells.old (RingAction.Push WhenFull.Refuse value) result cells.new }
     ensures answers { MatchResult result (λ r. MayPush true value (reply.Push r))
         (λ a. (cap : ℕ) (r : QueueReply T) → MayRing cap a r → MayPush true value r) }
@@ -60,6 +64,8 @@ pub(crate) fn pop_fast<T: Drop, C: Cells<T>>(
     shape: Shape,
     cells: &mut C,
 ) -> Result<Result<T, PopError>, RingAction<T>>
+    requires stands { C.stands (state.Ring RingAction.Pop) cells.old }
+    requires measures { IsMeasured shape.cap shape.mark (C.form_of cells.old) }
     ensures deeds { PopsOnEnd (RingMakes shape.cap shape.mark C.did) cells.old RingAction.Pop result cells.new }
     ensures answers { MatchResult result (λ _. Unit {0})
         (λ a. (cap : ℕ) (r : QueueReply T) → MayRing cap a r → MayPop r) }
@@ -94,6 +100,8 @@ fn pop_empty<T: Drop, C: Cells<T>>(
     head: u64,
     cells: &mut C,
 ) -> Result<Result<T, PopError>, RingAction<T>>
+    requires stands { C.stands (state.Ring (RingAction.PopTail head)) cells.old }
+    requires measures { IsMeasured shape.cap shape.mark (C.form_of cells.old) }
     ensures deeds { PopsOnEnd (RingMakes shape.cap shape.mark C.did) cells.old (RingAction.PopTail head) result cells.new }
     ensures answers { MatchResult result (λ _. Unit {0})
         (λ a. (cap : ℕ) (r : QueueReply T) → MayRing cap a r → MayPop r) }

@@ -31,6 +31,7 @@ pub(crate) fn push_fast<T: Drop, C: Cells<T>>(
     value: T,
     cells: &mut C,
 ) -> Result<Result<(), PushError<T>>, QueueCall<T>>
+    requires stands { C.stands (first_of (C.form_of cells.old) (ask.Push value)) cells.old }
     ensures deeds { WalkedFast C.did (λ r. reply.Push r) (C.form_of cells.old) (first_of (C.form_of cells.old) (ask.Push value)) cells.old result cells.new }
     ensures answers { MatchResult result (λ r. MayAnswer (C.form_of cells.old) (ask.Push value) (reply.Push r)) (λ call. (f : QueueForm) (r : QueueReply T) → MayCall f call.state r →
         MayAnswer (C.form_of cells.old) (ask.Push value) r) }
@@ -61,6 +62,7 @@ pub(crate) fn push_fast<T: Drop, C: Cells<T>>(
 pub(crate) fn pop_fast<T: Drop, C: Cells<T>>(
     cells: &mut C,
 ) -> Result<Result<T, PopError>, QueueCall<T>>
+    requires stands { C.stands (first_of (C.form_of cells.old) ask.Pop) cells.old }
     ensures deeds { WalkedFast C.did (λ r. reply.Pop r) (C.form_of cells.old) (first_of (C.form_of cells.old) ask.Pop) cells.old result cells.new }
     ensures answers { MatchResult result (λ _. Unit {0}) (λ call. (f : QueueForm) (r : QueueReply T) → MayCall f call.state r →
         MayAnswer (C.form_of cells.old) ask.Pop r) }
@@ -93,6 +95,7 @@ pub(crate) fn call_fast<T: Drop, C: Cells<T>>(
     call: QueueCall<T>,
     cells: &mut C,
 ) -> Result<QueueReply<T>, QueueCall<T>>
+    requires stands { C.stands (standing (C.form_of cells.old) call.state) cells.old }
     ensures deeds { WalkedFast C.did (λ r. r) (C.form_of cells.old) (standing (C.form_of cells.old) call.state) cells.old result cells.new }
     ensures answers { MatchResult result (λ r. MayCall (C.form_of cells.old) call.state r)
         (λ rest. (r : QueueReply T) → MayCall (C.form_of cells.old) rest.state r → MayCall (C.form_of cells.old) call.state r) }

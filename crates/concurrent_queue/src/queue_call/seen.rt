@@ -23,6 +23,7 @@ pub(crate) fn step<T: Drop, C: Cells<T> + Drop, S: Trace<T>>(
     call: &mut QueueCall<T>,
     seen: Seen<C, S>,
 ) -> (Option<QueueReply<T>>, S)
+    requires stands { C.stands (standing (C.form_of seen.cells) call.old.state) seen.cells }
     ensures deed { CallMakes S.did (C.form_of seen.cells) seen.trace call.old (result.1) call.new (result.0) }
     ensures answers { Follows (C.form_of seen.cells) call.old call.new (result.0) }
 {
@@ -37,7 +38,8 @@ pub(crate) fn tell<T: Drop, C: Cells<T> + Drop, S: Trace<T>>(
     ask: QueueAsk<T>,
     seen: Seen<C, S>,
 ) -> (QueueReply<T>, S)
-    requires { AsksWords ask }
+    requires words { AsksWords ask }
+    requires stands { C.stands (first_of (C.form_of seen.cells) ask) seen.cells }
     ensures walked { WalkedAsking S.did (C.form_of seen.cells) ask seen.trace (result.0) (result.1) }
     ensures answers { MayAnswer (C.form_of seen.cells) ask (result.0) }
 {
@@ -53,6 +55,7 @@ pub(crate) fn finish<T: Drop, R: Wait, C: Cells<T> + Drop, S: Trace<T>>(
     call: QueueCall<T>,
     seen: Seen<C, S>,
 ) -> (QueueReply<T>, S)
+    requires stands { C.stands (standing (C.form_of seen.cells) call.state) seen.cells }
     ensures walked { Walked S.did (C.form_of seen.cells) call seen.trace (result.0) (result.1) }
     ensures answers { MayCall (C.form_of seen.cells) call.state (result.0) }
 {
@@ -67,6 +70,7 @@ pub(crate) fn push_fast<T: Drop, C: Cells<T> + Drop, S: Trace<T>>(
     value: T,
     seen: Seen<C, S>,
 ) -> (Result<Result<(), PushError<T>>, QueueCall<T>>, S)
+    requires stands { C.stands (first_of (C.form_of seen.cells) (ask.Push value)) seen.cells }
     ensures deeds { WalkedFast S.did (λ r. reply.Push r) (C.form_of seen.cells) (first_of (C.form_of seen.cells) (ask.Push value)) seen.trace (result.0) (result.1) }
     ensures answers { MatchResult (result.0) (λ r. MayAnswer (C.form_of seen.cells) (ask.Push value) (reply.Push r)) (λ call. (f : QueueForm) (r : QueueReply T) → MayCall f call.state r →
         MayAnswer (C.form_of seen.cells) (ask.Push value) r) }
@@ -81,6 +85,7 @@ pub(crate) fn push_fast<T: Drop, C: Cells<T> + Drop, S: Trace<T>>(
 pub(crate) fn pop_fast<T: Drop, C: Cells<T> + Drop, S: Trace<T>>(
     seen: Seen<C, S>,
 ) -> (Result<Result<T, PopError>, QueueCall<T>>, S)
+    requires stands { C.stands (first_of (C.form_of seen.cells) ask.Pop) seen.cells }
     ensures deeds { WalkedFast S.did (λ r. reply.Pop r) (C.form_of seen.cells) (first_of (C.form_of seen.cells) ask.Pop) seen.trace (result.0) (result.1) }
     ensures answers { MatchResult (result.0) (λ _. Unit {0}) (λ call. (f : QueueForm) (r : QueueReply T) → MayCall f call.state r →
         MayAnswer (C.form_of seen.cells) ask.Pop r) }
@@ -96,6 +101,7 @@ pub(crate) fn call_fast<T: Drop, C: Cells<T> + Drop, S: Trace<T>>(
     call: QueueCall<T>,
     seen: Seen<C, S>,
 ) -> (Result<QueueReply<T>, QueueCall<T>>, S)
+    requires stands { C.stands (standing (C.form_of seen.cells) call.state) seen.cells }
     ensures deeds { WalkedFast S.did (λ r. r) (C.form_of seen.cells) (standing (C.form_of seen.cells) call.state) seen.trace (result.0) (result.1) }
     ensures answers { MatchResult (result.0) (λ r. MayCall (C.form_of seen.cells) call.state r)
         (λ rest. (r : QueueReply T) → MayCall (C.form_of seen.cells) rest.state r → MayCall (C.form_of seen.cells) call.state r) }

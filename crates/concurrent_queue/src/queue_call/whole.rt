@@ -1,7 +1,7 @@
 //! Calls of a queue made up to their answers, over cells of any kind. Each does to the cells what the machine of their form
 //! does, and nothing else.
 
-ghost use Rattle.concurrent_queue.specs.Walked.{CallMakes, Walked, WalkedAsking};
+ghost use Rattle.concurrent_queue.specs.Walked.{CallMakes, Walked, WalkedAsking, first_of, standing};
 ghost use Rattle.concurrent_queue.specs.Replies.{AsksWords, Follows, MayAnswer, MayCall};
 
 use crate::call::{QueueAsk, QueueReply};
@@ -19,6 +19,7 @@ pub fn complete<T: Drop, R: Wait, C: Cells<T>>(
     call: QueueCall<T>,
     cells: &mut C,
 ) -> QueueReply<T>
+    requires stands { C.stands (standing (C.form_of cells.old) call.state) cells.old }
     ensures walked { Walked C.did (C.form_of cells.old) call cells.old result cells.new }
     ensures answers { MayCall (C.form_of cells.old) call.state result }
 {
@@ -30,7 +31,8 @@ pub fn complete<T: Drop, R: Wait, C: Cells<T>>(
 
 /// Makes the steps of a call that waits for nobody up to its answer, and nothing else: its second step answers at the latest.
 pub(crate) fn tell<T: Drop, C: Cells<T>>(ask: QueueAsk<T>, cells: &mut C) -> QueueReply<T>
-    requires { AsksWords ask }
+    requires words { AsksWords ask }
+    requires stands { C.stands (first_of (C.form_of cells.old) ask) cells.old }
     ensures walked { WalkedAsking C.did (C.form_of cells.old) ask cells.old result cells.new }
     ensures answers { MayAnswer (C.form_of cells.old) ask result }
 {
@@ -54,6 +56,7 @@ pub(crate) fn finish<T: Drop, R: Wait, C: Cells<T>>(
     call: QueueCall<T>,
     cells: &mut C,
 ) -> QueueReply<T>
+    requires stands { C.stands (standing (C.form_of cells.old) call.state) cells.old }
     ensures walked { Walked C.did (C.form_of cells.old) call cells.old result cells.new }
     ensures answers { MayCall (C.form_of cells.old) call.state result }
 {
@@ -69,6 +72,7 @@ fn step_on<T: Drop, R: Wait, C: Cells<T>>(
     mut call: QueueCall<T>,
     cells: &mut C,
 ) -> QueueReply<T>
+    requires stands { C.stands (standing (C.form_of cells.old) call.state) cells.old }
     ensures walked { Walked C.did (C.form_of cells.old) call cells.old result cells.new }
     ensures answers { MayCall (C.form_of cells.old) call.state result }
 {
@@ -86,6 +90,7 @@ pub(crate) fn step<T: Drop, C: Cells<T>>(
     call: &mut QueueCall<T>,
     cells: &mut C,
 ) -> Option<QueueReply<T>>
+    requires stands { C.stands (standing (C.form_of cells.old) call.old.state) cells.old }
     ensures answers { Follows (C.form_of cells.old) call.old call.new result }
     ensures deed { CallMakes C.did (C.form_of cells.old) cells.old call.old cells.new call.new result }
 {

@@ -123,6 +123,14 @@ impl<'a, T: Drop> Cells<T> for WordCells<'a, T> {
 
     ghost did = { λ _ a b. b.form ≡ a.form };
 
+    ghost may = { λ _ _. Unit {0} };
+
+    ghost stands = { λ _ _. Unit {0} };
+
+    ghost ready = { λ at s d r stands next. tt };
+
+    ghost leads = { λ at s t d r stands done next. tt };
+
     ghost keeps_form = { λ _ a b kept. kept };
 
     ghost exact_form = { λ known. absurd known };
@@ -291,6 +299,14 @@ impl<'a, T: Drop, R: Wait> Cells<T> for SharedCells<'a, T, R> {
     ghost form_of = { λ c. c.words.form };
 
     ghost did = { λ _ a b. b.words.form ≡ a.words.form };
+
+    ghost may = { λ _ _. Unit {0} };
+
+    ghost stands = { λ _ _. Unit {0} };
+
+    ghost ready = { λ at s d r stands next. tt };
+
+    ghost leads = { λ at s t d r stands done next. tt };
 
     ghost keeps_form = { λ _ a b kept. kept };
 

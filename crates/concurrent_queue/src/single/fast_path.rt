@@ -6,6 +6,7 @@ ghost use Rattle.concurrent_queue.specs.machine.Single.{SingleMakes};
 ghost use Rattle.concurrent_queue.specs.Replies.{MaySingle, MayPush, MayPop};
 ghost use Rattle.concurrent_queue.specs.declared.call.QueueReply.{QueueReply};
 ghost use Rattle.concurrent_queue.specs.declared.call.QueueReply.TheVariants as reply;
+ghost use Rattle.concurrent_queue.specs.declared.queue_call.CallState.TheVariants as state;
 
 use crate::cells::{Cells, Word};
 use crate::error::{PopError, PushError};
@@ -17,6 +18,7 @@ pub(crate) fn push_fast<T: Drop, C: Cells<T>>(
     value: T,
     cells: &mut C,
 ) -> Result<Result<(), PushError<T>>, SingleAction<T>>
+    requires stands { C.stands (state.Single (SingleAction.Push value)) cells.old }
     ensures deeds { PushesOnEnd (SingleMakes C.did) cells.old (SingleAction.Push value) result cells.new }
     ensures answers { MatchResult result (λ r. MayPush true value (reply.Push r))
         (λ a. (r : QueueReply T) → MaySingle a r → MayPush true value r) }
@@ -43,6 +45,7 @@ pub(crate) fn push_fast<T: Drop, C: Cells<T>>(
 pub(crate) fn pop_fast<T: Drop, C: Cells<T>>(
     cells: &mut C,
 ) -> Result<Result<T, PopError>, SingleAction<T>>
+    requires stands { C.stands (state.Single (SingleAction.Pop 2)) cells.old }
     ensures deeds { PopsOnEnd (SingleMakes C.did) cells.old (SingleAction.Pop 2) result cells.new }
     ensures answers { MatchResult result (λ _. Unit {0})
         (λ a. (r : QueueReply T) → MaySingle a r → MayPop r) }

@@ -2,7 +2,8 @@
 
 ghost use Rattle.std.specs.Prelude.{◌≡◌, ℕ, None};
 ghost use Rattle.concurrent_queue.specs.machine.BlocksWords.{tells};
-ghost use Rattle.concurrent_queue.specs.machine.BlocksMakes.{ProgressMakes};
+ghost use Rattle.concurrent_queue.specs.Deeds.{Ready};
+ghost use Rattle.concurrent_queue.specs.machine.BlocksMakes.{ProgressMakes, blocks_moves};
 ghost use Rattle.concurrent_queue.specs.Replies.{EndFollows};
 
 use crate::call::{QueueMark, QueueReply};
@@ -18,6 +19,7 @@ pub(crate) fn tell<T>(reply: QueueReply<T>) -> Progress<T>
 }
 
 pub(crate) fn close_load<T: Drop, C: Cells<T>>(cells: &mut C) -> Progress<T>
+    requires ready { Ready C.may (blocks_moves UnboundedAction.Close) cells.old }
     ensures ends { EndFollows UnboundedAction.Close result }
     ensures deed { ProgressMakes C.did cells.old UnboundedAction.Close cells.new result }
 {
@@ -34,6 +36,7 @@ pub(crate) fn close_load<T: Drop, C: Cells<T>>(cells: &mut C) -> Progress<T>
 }
 
 pub(crate) fn ask_closed<T: Drop, C: Cells<T>>(cells: &mut C) -> Progress<T>
+    requires ready { Ready C.may (blocks_moves UnboundedAction.AskClosed) cells.old }
     ensures ends { EndFollows UnboundedAction.AskClosed result }
     ensures deed { ProgressMakes C.did cells.old UnboundedAction.AskClosed cells.new result }
 {
@@ -42,6 +45,7 @@ pub(crate) fn ask_closed<T: Drop, C: Cells<T>>(cells: &mut C) -> Progress<T>
 }
 
 pub(crate) fn ask_empty<T: Drop, C: Cells<T>>(cells: &mut C) -> Progress<T>
+    requires ready { Ready C.may (blocks_moves UnboundedAction.AskEmpty) cells.old }
     ensures ends { EndFollows UnboundedAction.AskEmpty result }
     ensures deed { ProgressMakes C.did cells.old UnboundedAction.AskEmpty cells.new result }
 {
@@ -50,6 +54,7 @@ pub(crate) fn ask_empty<T: Drop, C: Cells<T>>(cells: &mut C) -> Progress<T>
 }
 
 pub(crate) fn empty_tail<T: Drop, C: Cells<T>>(head: u64, cells: &mut C) -> Progress<T>
+    requires ready { Ready C.may (blocks_moves (UnboundedAction.EmptyTail head)) cells.old }
     ensures ends { EndFollows (UnboundedAction.EmptyTail head) result }
     ensures deed { ProgressMakes C.did cells.old (UnboundedAction.EmptyTail head) cells.new result }
 {
@@ -58,6 +63,7 @@ pub(crate) fn empty_tail<T: Drop, C: Cells<T>>(head: u64, cells: &mut C) -> Prog
 }
 
 pub(crate) fn ask_len<T: Drop, C: Cells<T>>(cells: &mut C) -> Progress<T>
+    requires ready { Ready C.may (blocks_moves UnboundedAction.AskLen) cells.old }
     ensures ends { EndFollows UnboundedAction.AskLen result }
     ensures deed { ProgressMakes C.did cells.old UnboundedAction.AskLen cells.new result }
 {
@@ -66,6 +72,7 @@ pub(crate) fn ask_len<T: Drop, C: Cells<T>>(cells: &mut C) -> Progress<T>
 }
 
 pub(crate) fn len_head<T: Drop, C: Cells<T>>(tail: u64, cells: &mut C) -> Progress<T>
+    requires ready { Ready C.may (blocks_moves (UnboundedAction.LenHead tail)) cells.old }
     ensures ends { EndFollows (UnboundedAction.LenHead tail) result }
     ensures deed { ProgressMakes C.did cells.old (UnboundedAction.LenHead tail) cells.new result }
 {
@@ -74,6 +81,7 @@ pub(crate) fn len_head<T: Drop, C: Cells<T>>(tail: u64, cells: &mut C) -> Progre
 }
 
 pub(crate) fn len_tail<T: Drop, C: Cells<T>>(tail: u64, head: u64, cells: &mut C) -> Progress<T>
+    requires ready { Ready C.may (blocks_moves (UnboundedAction.LenTail tail head)) cells.old }
     ensures ends { EndFollows (UnboundedAction.LenTail tail head) result }
     ensures deed { ProgressMakes C.did cells.old (UnboundedAction.LenTail tail head) cells.new result }
 {

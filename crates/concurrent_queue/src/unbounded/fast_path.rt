@@ -1,11 +1,12 @@
 //! The steps of a push and of a pop of an unbounded queue made on end, as `bounded::fast_path` makes them of a ring.
 
 ghost use Rattle.std.specs.Prelude.{◌≡◌, ◌/◌, ◌%◌, ◌==◌, if◌then◌else◌, false, true, None, MatchResult};
-ghost use Rattle.concurrent_queue.specs.machine.FastPath.{PushesOnEnd, PopsOnEnd};
+ghost use Rattle.concurrent_queue.specs.machine.FastPath.{PushesOnEnd, PopsOnEnd, plainly};
 ghost use Rattle.concurrent_queue.specs.machine.BlocksMakes.{ActionMakes};
 ghost use Rattle.concurrent_queue.specs.Replies.{MayEnd, MayPush, Sends, Tells};
 ghost use Rattle.concurrent_queue.specs.declared.call.QueueAsk.TheVariants as ask;
 ghost use Rattle.concurrent_queue.specs.declared.call.QueueReply.TheVariants as reply;
+ghost use Rattle.concurrent_queue.specs.declared.queue_call.CallState.TheVariants as state;
 ghost use Rattle.concurrent_queue.specs.declared.unbounded.ending.Ending.{Ending};
 
 use crate::cells::{Cells, Slot, Word};
@@ -20,6 +21,7 @@ pub(crate) fn push_fast<T: Drop, C: Cells<T>>(
     value: T,
     cells: &mut C,
 ) -> Result<Result<(), PushError<T>>, UnboundedAction<T>>
+    requires stands { C.stands (state.Blocks (plainly (UnboundedAction.Push value None))) cells.old }
     ensures deeds { PushesOnEnd (ActionMakes C.did) cells.old (UnboundedAction.Push value None) result cells.new }
     ensures answers { MatchResult result (λ r. MayPush false value (reply.Push r)) (λ a. (e : Ending T) → MayEnd a e → Sends value e) }
 {
@@ -62,7 +64,9 @@ fn push_last<T: Drop, C: Cells<T>>(
     block: u64,
     cells: &mut C,
 ) -> Result<Result<(), PushError<T>>, UnboundedAction<T>>
-    ensures deeds { tail / 2 % 32 ≡ 30 → PushesOnEnd (ActionMakes C.did) cells.old (UnboundedAction.PushMore value tail block) result cells.new }
+    requires stands { C.stands (state.Blocks (plainly (UnboundedAction.PushMore value tail block))) cells.old }
+    requires last { tail / 2 % 32 ≡ 30 }
+    ensures deeds { PushesOnEnd (ActionMakes C.did) cells.old (UnboundedAction.PushMore value tail block) result cells.new }
     ensures answers { MatchResult result (λ r. MayPush false value (reply.Push r)) (λ a. (e : Ending T) → MayEnd a e → Sends value e) }
 {
     let Ok(next) = cells.spare() else {
@@ -90,6 +94,7 @@ fn push_last<T: Drop, C: Cells<T>>(
 pub(crate) fn pop_fast<T: Drop, C: Cells<T>>(
     cells: &mut C,
 ) -> Result<Result<T, PopError>, UnboundedAction<T>>
+    requires stands { C.stands (state.Blocks (plainly UnboundedAction.Pop)) cells.old }
     ensures deeds { PopsOnEnd (ActionMakes C.did) cells.old UnboundedAction.Pop result cells.new }
     ensures answers { MatchResult result (λ _. Unit {0}) (λ a. (e : Ending T) → MayEnd a e → Tells ask.Pop e) }
 {
@@ -142,6 +147,7 @@ fn pop_written<T: Drop, C: Cells<T>>(
     block: u64,
     cells: &mut C,
 ) -> Result<Result<T, PopError>, UnboundedAction<T>>
+    requires stands { C.stands (state.Blocks (plainly (UnboundedAction.PopWait head block))) cells.old }
     ensures deeds { PopsOnEnd (ActionMakes C.did) cells.old (UnboundedAction.PopWait head block) result cells.new }
     ensures answers { MatchResult result (λ _. Unit {0}) (λ a. (e : Ending T) → MayEnd a e → Tells ask.Pop e) }
 {

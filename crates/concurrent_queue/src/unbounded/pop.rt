@@ -2,7 +2,8 @@
 
 ghost use Rattle.std.specs.Prelude.{◌≡◌, ℕ};
 ghost use Rattle.concurrent_queue.specs.machine.BlocksState.{number};
-ghost use Rattle.concurrent_queue.specs.machine.BlocksMakes.{ProgressMakes};
+ghost use Rattle.concurrent_queue.specs.Deeds.{Ready, retired};
+ghost use Rattle.concurrent_queue.specs.machine.BlocksMakes.{ProgressMakes, blocks_moves};
 ghost use Rattle.concurrent_queue.specs.Replies.{EndFollows};
 
 use crate::call::{QueueMark, QueueReply};
@@ -19,6 +20,7 @@ pub(crate) fn number_of(p: u64) -> u64
 }
 
 pub(crate) fn pop_load<T: Drop, C: Cells<T>>(cells: &mut C) -> Progress<T>
+    requires ready { Ready C.may (blocks_moves UnboundedAction.Pop) cells.old }
     ensures ends { EndFollows UnboundedAction.Pop result }
     ensures deed { ProgressMakes C.did cells.old UnboundedAction.Pop cells.new result }
 {
@@ -31,6 +33,7 @@ pub(crate) fn pop_load<T: Drop, C: Cells<T>>(cells: &mut C) -> Progress<T>
 }
 
 pub(crate) fn pop_look<T: Drop, C: Cells<T>>(head: u64, cells: &mut C) -> Progress<T>
+    requires ready { Ready C.may (blocks_moves (UnboundedAction.PopLook head)) cells.old }
     ensures ends { EndFollows (UnboundedAction.PopLook head) result }
     ensures deed { ProgressMakes C.did cells.old (UnboundedAction.PopLook head) cells.new result }
 {
@@ -39,6 +42,7 @@ pub(crate) fn pop_look<T: Drop, C: Cells<T>>(head: u64, cells: &mut C) -> Progre
 }
 
 pub(crate) fn pop_tail<T: Drop, C: Cells<T>>(head: u64, block: u64, cells: &mut C) -> Progress<T>
+    requires ready { Ready C.may (blocks_moves (UnboundedAction.PopTail head block)) cells.old }
     ensures ends { EndFollows (UnboundedAction.PopTail head block) result }
     ensures deed { ProgressMakes C.did cells.old (UnboundedAction.PopTail head block) cells.new result }
 {
@@ -57,6 +61,7 @@ pub(crate) fn pop_tail<T: Drop, C: Cells<T>>(head: u64, block: u64, cells: &mut 
 }
 
 pub(crate) fn pop_swap<T: Drop, C: Cells<T>>(head: u64, block: u64, cells: &mut C) -> Progress<T>
+    requires ready { Ready C.may (blocks_moves (UnboundedAction.PopSwap head block)) cells.old }
     ensures ends { EndFollows (UnboundedAction.PopSwap head block) result }
     ensures deed { ProgressMakes C.did cells.old (UnboundedAction.PopSwap head block) cells.new result }
 {
@@ -73,6 +78,7 @@ pub(crate) fn pop_swap<T: Drop, C: Cells<T>>(head: u64, block: u64, cells: &mut 
 }
 
 pub(crate) fn pop_next<T: Drop, C: Cells<T>>(head: u64, block: u64, cells: &mut C) -> Progress<T>
+    requires ready { Ready C.may (blocks_moves (UnboundedAction.PopNext head block)) cells.old }
     ensures ends { EndFollows (UnboundedAction.PopNext head block) result }
     ensures deed { ProgressMakes C.did cells.old (UnboundedAction.PopNext head block) cells.new result }
 {
@@ -90,6 +96,7 @@ pub(crate) fn pop_block<T: Drop, C: Cells<T>>(
     next: u64,
     cells: &mut C,
 ) -> Progress<T>
+    requires ready { Ready C.may (blocks_moves (UnboundedAction.PopBlock head block next)) cells.old }
     ensures ends { EndFollows (UnboundedAction.PopBlock head block next) result }
     ensures deed { ProgressMakes C.did cells.old (UnboundedAction.PopBlock head block next) cells.new result }
 {
@@ -98,6 +105,7 @@ pub(crate) fn pop_block<T: Drop, C: Cells<T>>(
 }
 
 pub(crate) fn pop_head<T: Drop, C: Cells<T>>(head: u64, block: u64, cells: &mut C) -> Progress<T>
+    requires ready { Ready C.may (blocks_moves (UnboundedAction.PopHead head block)) cells.old }
     ensures ends { EndFollows (UnboundedAction.PopHead head block) result }
     ensures deed { ProgressMakes C.did cells.old (UnboundedAction.PopHead head block) cells.new result }
 {
@@ -106,6 +114,7 @@ pub(crate) fn pop_head<T: Drop, C: Cells<T>>(head: u64, block: u64, cells: &mut 
 }
 
 pub(crate) fn pop_wait<T: Drop, C: Cells<T>>(head: u64, block: u64, cells: &mut C) -> Progress<T>
+    requires ready { Ready C.may (blocks_moves (UnboundedAction.PopWait head block)) cells.old }
     ensures ends { EndFollows (UnboundedAction.PopWait head block) result }
     ensures deed { ProgressMakes C.did cells.old (UnboundedAction.PopWait head block) cells.new result }
 {
@@ -117,6 +126,7 @@ pub(crate) fn pop_wait<T: Drop, C: Cells<T>>(head: u64, block: u64, cells: &mut 
 }
 
 pub(crate) fn pop_take<T: Drop, C: Cells<T>>(head: u64, block: u64, cells: &mut C) -> Progress<T>
+    requires ready { Ready C.may (blocks_moves (UnboundedAction.PopTake head block)) cells.old }
     ensures ends { EndFollows (UnboundedAction.PopTake head block) result }
     ensures deed { ProgressMakes C.did cells.old (UnboundedAction.PopTake head block) cells.new result }
 {
@@ -132,6 +142,7 @@ pub(crate) fn pop_count<T: Drop, C: Cells<T>>(
     value: T,
     cells: &mut C,
 ) -> Progress<T>
+    requires ready { Ready C.may (blocks_moves (UnboundedAction.PopCount head block value)) cells.old }
     ensures ends { EndFollows (UnboundedAction.PopCount head block value) result }
     ensures deed { ProgressMakes C.did cells.old (UnboundedAction.PopCount head block value) cells.new result }
 {
@@ -143,6 +154,7 @@ pub(crate) fn pop_count<T: Drop, C: Cells<T>>(
 }
 
 pub(crate) fn pop_retire<T: Drop, C: Cells<T>>(block: u64, value: T, cells: &mut C) -> Progress<T>
+    requires ready { C.may (retired block) cells.old }
     ensures ends { (h : ℕ) → EndFollows (UnboundedAction.PopRetire h block value) result }
     ensures deed { (h : ℕ) → ProgressMakes C.did cells.old (UnboundedAction.PopRetire h block value) cells.new result }
 {

@@ -2,7 +2,8 @@
 
 ghost use Rattle.std.specs.Prelude.{◌≡◌, ℕ};
 ghost use Rattle.concurrent_queue.specs.machine.BlocksWords.{look_with, look_first, when_shut, after_swap};
-ghost use Rattle.concurrent_queue.specs.machine.BlocksMakes.{ProgressMakes};
+ghost use Rattle.concurrent_queue.specs.Deeds.{Ready};
+ghost use Rattle.concurrent_queue.specs.machine.BlocksMakes.{ProgressMakes, blocks_moves};
 ghost use Rattle.concurrent_queue.specs.Replies.{EndFollows, MayEnd, Sends};
 
 use crate::call::QueueMark;
@@ -68,6 +69,7 @@ pub(crate) fn push_load<T: Drop, C: Cells<T>>(
     held: Option<u64>,
     cells: &mut C,
 ) -> Progress<T>
+    requires ready { Ready C.may (blocks_moves (UnboundedAction.Push value held)) cells.old }
     ensures ends { EndFollows (UnboundedAction.Push value held) result }
     ensures deed { ProgressMakes C.did cells.old (UnboundedAction.Push value held) cells.new result }
 {
@@ -88,6 +90,7 @@ pub(crate) fn push_shut<T: Drop, C: Cells<T>>(
     held: Option<u64>,
     cells: &mut C,
 ) -> Progress<T>
+    requires ready { Ready C.may (blocks_moves (UnboundedAction.PushShut value held)) cells.old }
     ensures ends { EndFollows (UnboundedAction.PushShut value held) result }
     ensures deed { ProgressMakes C.did cells.old (UnboundedAction.PushShut value held) cells.new result }
 {
@@ -105,6 +108,7 @@ pub(crate) fn push_shut<T: Drop, C: Cells<T>>(
 }
 
 pub(crate) fn push_return<T: Drop, C: Cells<T>>(value: T, held: u64, cells: &mut C) -> Progress<T>
+    requires ready { Ready C.may (blocks_moves (UnboundedAction.PushReturn value held)) cells.old }
     ensures ends { EndFollows (UnboundedAction.PushReturn value held) result }
     ensures deed { ProgressMakes C.did cells.old (UnboundedAction.PushReturn value held) cells.new result }
 {
@@ -118,6 +122,7 @@ pub(crate) fn push_look<T: Drop, C: Cells<T>>(
     held: Option<u64>,
     cells: &mut C,
 ) -> Progress<T>
+    requires ready { Ready C.may (blocks_moves (UnboundedAction.PushLook value tail held)) cells.old }
     ensures ends { EndFollows (UnboundedAction.PushLook value tail held) result }
     ensures deed { ProgressMakes C.did cells.old (UnboundedAction.PushLook value tail held) cells.new result }
 {
@@ -130,6 +135,7 @@ pub(crate) fn push_look<T: Drop, C: Cells<T>>(
 }
 
 pub(crate) fn push_make<T: Drop, C: Cells<T>>(value: T, tail: u64, cells: &mut C) -> Progress<T>
+    requires ready { Ready C.may (blocks_moves (UnboundedAction.PushMake value tail)) cells.old }
     ensures ends { EndFollows (UnboundedAction.PushMake value tail) result }
     ensures deed { ProgressMakes C.did cells.old (UnboundedAction.PushMake value tail) cells.new result }
 {
@@ -145,6 +151,7 @@ pub(crate) fn push_more<T: Drop, C: Cells<T>>(
     block: u64,
     cells: &mut C,
 ) -> Progress<T>
+    requires ready { Ready C.may (blocks_moves (UnboundedAction.PushMore value tail block)) cells.old }
     ensures ends { EndFollows (UnboundedAction.PushMore value tail block) result }
     ensures deed { ProgressMakes C.did cells.old (UnboundedAction.PushMore value tail block) cells.new result }
 {
@@ -160,6 +167,7 @@ pub(crate) fn push_first<T: Drop, C: Cells<T>>(
     held: u64,
     cells: &mut C,
 ) -> Progress<T>
+    requires ready { Ready C.may (blocks_moves (UnboundedAction.PushFirst value tail held)) cells.old }
     ensures ends { EndFollows (UnboundedAction.PushFirst value tail held) result }
     ensures deed { ProgressMakes C.did cells.old (UnboundedAction.PushFirst value tail held) cells.new result }
 {
@@ -175,6 +183,7 @@ pub(crate) fn push_start<T: Drop, C: Cells<T>>(
     block: u64,
     cells: &mut C,
 ) -> Progress<T>
+    requires ready { Ready C.may (blocks_moves (UnboundedAction.PushStart value tail block)) cells.old }
     ensures ends { EndFollows (UnboundedAction.PushStart value tail block) result }
     ensures deed { ProgressMakes C.did cells.old (UnboundedAction.PushStart value tail block) cells.new result }
 {
@@ -189,6 +198,7 @@ pub(crate) fn push_swap<T: Drop, C: Cells<T>>(
     held: Option<u64>,
     cells: &mut C,
 ) -> Progress<T>
+    requires ready { Ready C.may (blocks_moves (UnboundedAction.PushSwap value tail block held)) cells.old }
     ensures ends { EndFollows (UnboundedAction.PushSwap value tail block held) result }
     ensures deed { ProgressMakes C.did cells.old (UnboundedAction.PushSwap value tail block held) cells.new result }
 {
@@ -205,6 +215,7 @@ pub(crate) fn push_turn<T: Drop, C: Cells<T>>(
     next: u64,
     cells: &mut C,
 ) -> Progress<T>
+    requires ready { Ready C.may (blocks_moves (UnboundedAction.PushTurn value tail block next)) cells.old }
     ensures ends { EndFollows (UnboundedAction.PushTurn value tail block next) result }
     ensures deed { ProgressMakes C.did cells.old (UnboundedAction.PushTurn value tail block next) cells.new result }
 {
@@ -219,6 +230,7 @@ pub(crate) fn push_add<T: Drop, C: Cells<T>>(
     next: u64,
     cells: &mut C,
 ) -> Progress<T>
+    requires ready { Ready C.may (blocks_moves (UnboundedAction.PushAdd value tail block next)) cells.old }
     ensures ends { EndFollows (UnboundedAction.PushAdd value tail block next) result }
     ensures deed { ProgressMakes C.did cells.old (UnboundedAction.PushAdd value tail block next) cells.new result }
 {
@@ -233,6 +245,7 @@ pub(crate) fn push_link<T: Drop, C: Cells<T>>(
     next: u64,
     cells: &mut C,
 ) -> Progress<T>
+    requires ready { Ready C.may (blocks_moves (UnboundedAction.PushLink value tail block next)) cells.old }
     ensures ends { EndFollows (UnboundedAction.PushLink value tail block next) result }
     ensures deed { ProgressMakes C.did cells.old (UnboundedAction.PushLink value tail block next) cells.new result }
 {
@@ -247,6 +260,7 @@ pub(crate) fn push_put<T: Drop, C: Cells<T>>(
     held: Option<u64>,
     cells: &mut C,
 ) -> Progress<T>
+    requires ready { Ready C.may (blocks_moves (UnboundedAction.PushPut value tail block held)) cells.old }
     ensures ends { EndFollows (UnboundedAction.PushPut value tail block held) result }
     ensures deed { ProgressMakes C.did cells.old (UnboundedAction.PushPut value tail block held) cells.new result }
 {
@@ -262,6 +276,7 @@ pub(crate) fn push_store<T: Drop, C: Cells<T>>(
     held: Option<u64>,
     cells: &mut C,
 ) -> Progress<T>
+    requires ready { Ready C.may (blocks_moves (UnboundedAction.PushStore tail block held)) cells.old }
     ensures ends { EndFollows (UnboundedAction.PushStore tail block held) result }
     ensures deed { ProgressMakes C.did cells.old (UnboundedAction.PushStore tail block held) cells.new result }
 {
@@ -273,6 +288,7 @@ pub(crate) fn push_store<T: Drop, C: Cells<T>>(
 }
 
 pub(crate) fn push_give<T: Drop, C: Cells<T>>(held: u64, cells: &mut C) -> Progress<T>
+    requires ready { Ready C.may (blocks_moves (UnboundedAction.PushGive held)) cells.old }
     ensures ends { EndFollows (UnboundedAction.PushGive held) result }
     ensures deed { ProgressMakes C.did cells.old (UnboundedAction.PushGive held) cells.new result }
 {

@@ -1,7 +1,8 @@
-use Rattle.std.proofs.Common.{subst}
+use Rattle.std.proofs.Common.{refl, subst}
 use Rattle.concurrent_queue.specs.Replies.{MayCall}
 use Rattle.concurrent_queue.specs.Walked.{standing}
 use Rattle.concurrent_queue.specs.declared.cells.QueueForm.{QueueForm}
+use Rattle.concurrent_queue.proofs.Standing.{led_on}
 use Rattle.concurrent_queue.proofs.Walks.{leads_keep, walked_standing, walked_on}
 use Rattle.concurrent_queue.proofs.queue_call.whole.complete.Goals as goal
 
@@ -31,3 +32,9 @@ returns-in-Err-clause-answers g c =
     let went = c.in-Err.ensures.deeds in
     let same = leads_keep g.C.Cells.did form_of g.met.C.Cells.keeps_form (form_of s) (went.0) s from x (standing (form_of s) c.in-Err.rest.state) (went.1) in
     c.in-Err.ensures.answers c.finish.result (subst (λ (f : QueueForm). MayCall f c.in-Err.rest.state c.finish.result) same c.finish.ensures.answers)
+
+pub finish-requires : goal.finish-requires
+finish-requires g c =
+    let k = g.C.Cells in
+    let s = c.args.cells.now in
+    record { stands = led_on k.did k.stands k.form_of g.met.C.Cells.keeps_form g.met.C.Cells.leads (k.form_of s) s c.args.call.state c.call_fast.new.cells c.in-Err.rest.state refl c.requires.stands c.in-Err.ensures.deeds }

@@ -1,11 +1,12 @@
 use Rattle.std.proofs.Common.{suc, None, Some, refl, subst, ◌∙◌}
 use Rattle.concurrent_queue.specs.Walked.{StateMakes, CallMakes}
 use Rattle.concurrent_queue.specs.declared.cells.QueueForm.{QueueForm}
+use Rattle.concurrent_queue.proofs.Standing.{step_on}
 use Rattle.concurrent_queue.proofs.Walks.{leads_on, step_keeps}
 use Rattle.concurrent_queue.proofs.queue_call.whole.step_on.Goals as goal
 
 pub loop-init : goal.loop-init
-loop-init g c = ((λ r may. may), refl, (0, (refl, refl)))
+loop-init g c = ((λ r may. may), refl, (0, (refl, refl)), c.requires.stands)
 
 pub returns-in-Some-step-clause-walked : goal.returns-in-Some-step-clause-walked
 returns-in-Some-step-clause-walked g c =
@@ -30,4 +31,8 @@ loop-preserved g c =
       (λ r may. l.invariant.0 r (c.in_default.ensures.answers.0 (g.C.Cells.form_of t) r may)),
       same ∙ l.invariant.1,
       (suc (l.invariant.2.0), leads_on (StateMakes did form) (l.invariant.2.0) c.args.cells.now c.args.call.state l.cells l.call.state t next.state (l.invariant.2.1) (next.mark, made)),
+      step_on did g.C.Cells.stands g.C.Cells.form_of g.met.C.Cells.keeps_form g.met.C.Cells.leads l.call l.cells t next l.invariant.3 c.in_default.ensures.deed,
     )
+
+pub step-requires : goal.step-requires
+step-requires g c = record { stands = c.loop.invariant.3 }

@@ -2,6 +2,7 @@ use Rattle.std.proofs.Common.{Some, None, Ok, Err, refl}
 use Rattle.concurrent_queue.specs.declared.call.QueueMark.TheVariants.{Nothing, Take}
 use Rattle.concurrent_queue.specs.declared.single.SingleAction.TheVariants as single
 use Rattle.concurrent_queue.proofs.SingleDeeds.{pop_shut, pop_empty}
+use Rattle.concurrent_queue.proofs.Standing.{single_ready, single_on}
 use Rattle.concurrent_queue.proofs.single.fast_path.pop_fast.Goals as goal
 
 pub returns-then-found-ne0-2-clause-deeds : goal.returns-then-found-ne0-2-clause-deeds
@@ -40,3 +41,25 @@ returns-in-None-clause-deeds g c = (
     (c.take.new.self, single.PopTake, (Nothing, (None, c.in-None.ensures.deed, refl)), (refl, refl)),
   ),
 )
+
+pub compare_exchange-requires : goal.compare_exchange-requires
+compare_exchange-requires g c = let k = g.C.Cells in record { may = single_ready k.may k.stands k.form_of g.met.C.Cells.ready c.args.cells.now (single.Pop 2) c.requires.stands }
+
+pub take-requires : goal.take-requires
+take-requires g c =
+    let k = g.C.Cells in
+    let on = single_on k.did k.stands k.form_of g.met.C.Cells.keeps_form g.met.C.Cells.leads in
+    let s1 = c.compare_exchange.new.self in
+    let won = on c.args.cells.now s1 (single.Pop 2) single.PopTake c.requires.stands (Take, (Ok c.in_default.field-0, c.in_default.ensures.deed, refl)) in
+    record { may = single_ready k.may k.stands k.form_of g.met.C.Cells.ready s1 single.PopTake won }
+
+pub fetch_and-requires : goal.fetch_and-requires
+fetch_and-requires g c =
+    let k = g.C.Cells in
+    let on = single_on k.did k.stands k.form_of g.met.C.Cells.keeps_form g.met.C.Cells.leads in
+    let v = c.in-Some.value in
+    let s1 = c.compare_exchange.new.self in
+    let s2 = c.take.new.self in
+    let won = on c.args.cells.now s1 (single.Pop 2) single.PopTake c.requires.stands (Take, (Ok c.in_default.field-0, c.in_default.ensures.deed, refl)) in
+    let taken = on s1 s2 single.PopTake (single.PopUnlock v) won (Nothing, (Some v, c.in-Some.ensures.deed, refl)) in
+    record { may = single_ready k.may k.stands k.form_of g.met.C.Cells.ready s2 (single.PopUnlock v) taken }
