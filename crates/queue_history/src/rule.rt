@@ -1,0 +1,203 @@
+//! What a seat of the table knows, the rule that the table is what one history of operations made of it, and the kinds of steps that
+//! keep the rule. These types are for the proofs alone: no value of them is made.
+
+use atomic_table::{Play, TableRule};
+use concurrent_queue::QueueForm;
+use std::marker::{Brand, PhantomData};
+
+/// What a seat knows of its party. A party is whoever has one seat; with a seat for each call it is one call.
+pub struct View<T, A> {
+    /// The party's number, which is its seat's.
+    pub who: u64,
+    /// Which kind of queue the table is of.
+    pub form: QueueForm,
+    /// Where the party's machine stands.
+    pub state: A,
+    /// The slot that is out with the seat, and what the history has there meanwhile.
+    pub held: Option<(u64, Option<T>)>,
+}
+
+/// The machine of every party: which events lead it from which state to which, and its state before all of them.
+pub trait Machine<T, A> {
+    ghost use Rattle.concurrent_queue.specs.Bridge.{Event};
+    ghost use Rattle.concurrent_queue.specs.declared.cells.QueueForm.{QueueForm};
+
+    /// On a queue of this form, this event leads from the one state to the other.
+    ghost moves: { QueueForm → A → Event T → A → Type 0 };
+
+    /// The state of a party that has done nothing.
+    ghost first: { A };
+}
+
+/// The rule: there is one history of what all parties did, which leads from the cells of a new queue to the cells as they are, and each
+/// party's own events are steps of its machine, up to where its view says that it stands. The table's key is the queue's form.
+pub struct OneHistory<P> {
+    of: PhantomData<P>,
+}
+
+impl<T, A, P: Machine<T, A>> TableRule<Option<T>, View<T, A>, QueueForm> for OneHistory<P> {
+    ghost use Rattle.queue_history.specs.Shared.{IsRuled, first_view};
+
+    ghost holds = { λ form s. IsRuled P.moves P.first form s };
+
+    ghost first = { λ form. first_view P.first form };
+}
+
+/// A load of one of the queue's own words.
+pub struct Loads<P> {
+    of: PhantomData<P>,
+}
+
+impl<T, A, P: Machine<T, A>> Play<Option<T>, View<T, A>> for Loads<P> {
+    ghost use Rattle.queue_history.specs.Shared.{loads};
+
+    ghost then = { loads P.moves P.first };
+}
+
+/// A store to one of them.
+pub struct Stores<P> {
+    of: PhantomData<P>,
+}
+
+impl<T, A, P: Machine<T, A>> Play<Option<T>, View<T, A>> for Stores<P> {
+    ghost use Rattle.queue_history.specs.Shared.{stores};
+
+    ghost then = { stores P.moves P.first };
+}
+
+/// A compare-and-exchange of one of them.
+pub struct Exchanges<P> {
+    of: PhantomData<P>,
+}
+
+impl<T, A, P: Machine<T, A>> Play<Option<T>, View<T, A>> for Exchanges<P> {
+    ghost use Rattle.queue_history.specs.Shared.{exchanges};
+
+    ghost then = { exchanges P.moves P.first };
+}
+
+/// Something is added to one of them.
+pub struct Adds<P> {
+    of: PhantomData<P>,
+}
+
+impl<T, A, P: Machine<T, A>> Play<Option<T>, View<T, A>> for Adds<P> {
+    ghost use Rattle.queue_history.specs.Shared.{adds};
+
+    ghost then = { adds P.moves P.first };
+}
+
+/// Bits of one of them are set.
+pub struct SetsBits<P> {
+    of: PhantomData<P>,
+}
+
+impl<T, A, P: Machine<T, A>> Play<Option<T>, View<T, A>> for SetsBits<P> {
+    ghost use Rattle.queue_history.specs.Shared.{sets_bits};
+
+    ghost then = { sets_bits P.moves P.first };
+}
+
+/// Bits of one of them are kept, and all others cleared.
+pub struct KeepsBits<P> {
+    of: PhantomData<P>,
+}
+
+impl<T, A, P: Machine<T, A>> Play<Option<T>, View<T, A>> for KeepsBits<P> {
+    ghost use Rattle.queue_history.specs.Shared.{keeps_bits};
+
+    ghost then = { keeps_bits P.moves P.first };
+}
+
+/// A slot's guard is won, to take a message out.
+pub struct Takes<P> {
+    of: PhantomData<P>,
+}
+
+impl<T, A, P: Machine<T, A>> Play<Option<T>, View<T, A>> for Takes<P> {
+    ghost use Rattle.queue_history.specs.Shared.{takes};
+
+    ghost then = { takes P.moves P.first };
+}
+
+/// A slot's guard is won, to put a message in.
+pub struct Puts<P> {
+    of: PhantomData<P>,
+}
+
+impl<T, A, P: Machine<T, A>> Play<Option<T>, View<T, A>> for Puts<P> {
+    ghost use Rattle.queue_history.specs.Shared.{puts};
+
+    ghost then = { puts P.moves P.first };
+}
+
+/// A slot and its guard are given back.
+pub struct Gives<P> {
+    of: PhantomData<P>,
+}
+
+impl<T, A, P: Machine<T, A>> Play<Option<T>, View<T, A>> for Gives<P> {
+    ghost use Rattle.queue_history.specs.Shared.{gives};
+
+    ghost then = { gives P.moves P.first };
+}
+
+/// The rule is read, and nothing is done.
+pub struct Looks<P> {
+    of: PhantomData<P>,
+}
+
+impl<T, A, P: Machine<T, A>> Play<Option<T>, View<T, A>> for Looks<P> {
+    ghost use Rattle.queue_history.specs.Shared.{looks};
+
+    ghost then = { looks P.moves P.first };
+}
+
+/// An event, which the proof of a call picks where the call passes `Brand`.
+pub trait Happens<T> {
+    ghost use Rattle.concurrent_queue.specs.Bridge.{Event};
+
+    ghost event: { Event T };
+}
+
+impl<T> Happens<T> for Brand {
+    ghost use Rattle.concurrent_queue.specs.Bridge.{does};
+    ghost use Rattle.std.specs.Prelude.{None};
+
+    ghost event = { does None };
+}
+
+/// An event that leaves all cells as they are.
+pub struct Happened<P, E> {
+    of: PhantomData<(P, E)>,
+}
+
+impl<T, A, P: Machine<T, A>, E: Happens<T>> Play<Option<T>, View<T, A>> for Happened<P, E> {
+    ghost use Rattle.queue_history.specs.Shared.{makes};
+
+    ghost then = { makes P.moves P.first E.event };
+}
+
+/// What a new call asks, which the proof of its beginning picks where it passes `Brand`.
+pub trait Asks<T> {
+    ghost use Rattle.concurrent_queue.specs.declared.call.QueueAsk.{QueueAsk};
+
+    ghost ask: { QueueAsk T };
+}
+
+impl<T> Asks<T> for Brand {
+    ghost use Rattle.concurrent_queue.specs.declared.call.QueueAsk.TheVariants.{Close};
+
+    ghost ask = { Close };
+}
+
+/// A new seat, whose party begins a call.
+pub struct Begins<P, I> {
+    of: PhantomData<(P, I)>,
+}
+
+impl<T, A, P: Machine<T, A>, I: Asks<T>> Play<Option<T>, View<T, A>> for Begins<P, I> {
+    ghost use Rattle.queue_history.specs.Shared.{enters};
+
+    ghost then = { enters P.moves P.first I.ask };
+}
