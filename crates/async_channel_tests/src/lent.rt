@@ -1,7 +1,7 @@
 //! Operations on one thread, polled by hand, as rows call them. They borrow the handles of channels that are opened before the rows are
 //! played. A row names its operations by their numbers in the order of their making, the first at 0; each is polled by its own task.
 //!
-//! | WaitList | What it does | What it answers |
+//! | Line | What it does | What it answers |
 //! |---|---|---|
 //! | `bounded N`, `unbounded` | the next channel that was opened for the text | `ok` |
 //! | `send M`, `recv`, `closed`, `stream` | makes an operation; the stream is of a clone of the receiver | `ok` |

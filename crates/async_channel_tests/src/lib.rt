@@ -46,6 +46,14 @@ mod slot_rows;
 #[cfg(test)]
 mod slots;
 #[cfg(test)]
+mod standing;
+#[cfg(test)]
+mod standing_rows;
+#[cfg(test)]
 mod steps;
+#[cfg(test)]
+mod unsent;
+#[cfg(test)]
+mod walks;
 #[cfg(test)]
 mod woken;

@@ -1,7 +1,7 @@
 //! Handles on one thread, as rows make and drop them. A row names its handles by their numbers in the order of their making, `s` and `r`
 //! being 0 and 1.
 //!
-//! | WaitList | What it does | What it answers |
+//! | Line | What it does | What it answers |
 //! |---|---|---|
 //! | `bounded N`, `unbounded` | opens a channel: two more handles | `ok` |
 //! | `clone H`, `downgrade H`, `upgrade H` | makes one more handle | `made`, `none`, `too_many` |

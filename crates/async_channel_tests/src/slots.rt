@@ -1,7 +1,7 @@
 //! Calls of a channel with one owner, step by step, as rows make them. A row names its operations by numbers, which are their tasks'
 //! names too, and the calls that it begins by their numbers in the order of their beginnings, the first at 0.
 //!
-//! | WaitList | What it does | What it answers |
+//! | Line | What it does | What it answers |
 //! |---|---|---|
 //! | `bounded N` | opens a channel of so many places | `ok`, `memory` |
 //! | `CALL` | a call from its beginning to its end | its reply; `listens` where it leaves a listener to its operation |
