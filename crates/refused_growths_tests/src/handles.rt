@@ -1,7 +1,7 @@
 //! A channel's handles and polled operations.
 
-use crate::checks::{expect_equal, expect_seen, expect_true};
-use crate::scarcity::{Attempt, Scarcity, Seen, Tried, made, refused};
+use crate::checks::{expect_equal, expect_right, expect_seen, expect_true};
+use crate::scarcity::{Attempt, Scarcity, Seen, Tried, is_out_of_memory, made, refused};
 use async_channel::{Closed, OpenError, Receiver, Recv, Refused, Send, Sender, bounded, unbounded};
 use channel_test_helpers::{Ends, opened};
 use event_listener::error::ListenError;
@@ -117,6 +117,82 @@ fn sends_without_a_bound(rt: HostRuntime) {
     let (seen, in_order) = send_all(rt, rt.alloc()).expect(&rt, "memory");
     expect_seen(&rt, &seen, 4, 18);
     expect_true(&rt, in_order);
+}
+
+/// The last message that goes through a channel one by one; the first is 1.
+const LAST: u64 = 1_000;
+
+/// The last one while there is memory.
+const LAST_WITH_MEMORY: u64 = 31;
+
+/// The next message that is sent into a channel without a bound, and received before the one after it comes.
+#[derive(Drop)]
+struct Passing<R: Wait + Copy> {
+    alloc: Global,
+    ends: Ends<R>,
+    next: u64,
+}
+
+impl<R: Wait + Copy> Passing<R> {
+    /// Whether this message is sent, by one of the calls that don't poll.
+    fn sends(&self, message: u64) -> bool {
+        let sender = &self.ends.0;
+        match message % 3 {
+            0 => sender.try_send(message) == Ok(()),
+            1 => sender.force_send(message) == Ok(None),
+            _ => sender.send_blocking(message) == Ok(()),
+        }
+    }
+
+    /// Whether it is received, by one of the calls that don't poll.
+    fn receives(&self, message: u64) -> bool {
+        let receiver = &self.ends.1;
+        if message % 2 == 0 {
+            receiver.try_recv() == Ok(message)
+        } else {
+            receiver.recv_blocking() == Ok(message)
+        }
+    }
+
+    /// Whether the next message was sent and received. A receive that blocks is called only where there is a message.
+    fn pass(&mut self) -> bool {
+        let message = self.next;
+        self.next = message.wrapping_add(1);
+        self.sends(message) && self.ends.1.len() == 1 && self.receives(message)
+    }
+}
+
+impl<R: Wait + Copy> Attempt for Passing<R> {
+    fn make(&mut self) -> Tried {
+        made(is_out_of_memory(self.alloc) && self.pass() && is_out_of_memory(self.alloc))
+    }
+}
+
+/// Passes all messages, the later ones with no memory at hand; then whether the earlier ones passed, and the next message.
+fn pass_all<R: Wait + Copy>(rt: R, alloc: Global) -> Option<(Seen, bool, u64)> {
+    let mut passing = Passing {
+        alloc,
+        ends: opened(rt, alloc, 0)?,
+        next: 1,
+    };
+    let mut passed = true;
+    for _ in 0..LAST_WITH_MEMORY {
+        passed = passed & passing.pass();
+    }
+    let mut scarcity = Scarcity::new(alloc);
+    for _ in LAST_WITH_MEMORY..LAST {
+        scarcity.refuse_none(&mut passing);
+    }
+    Some((scarcity.end(), passed, passing.next))
+}
+
+/// A channel without a bound whose messages go through one by one uses its blocks again: it needs no memory for any message after the
+/// first ones.
+#[test]
+fn messages_one_by_one_through_handles(rt: HostRuntime) {
+    let (seen, passed, next) = pass_all(rt, rt.alloc()).expect(&rt, "memory");
+    expect_right(&rt, &seen);
+    expect_true(&rt, passed && seen.refusals == 0 && next == 1_001);
 }
 
 /// A receive of several.

@@ -140,6 +140,62 @@ fn messages_one_by_one(rt: HostRuntime) {
     expect_true(&rt, passed && seen.refusals == 0 && next == 1_001);
 }
 
+/// The next message that is pushed into a queue that threads share, and popped before the one after it comes.
+#[derive(Drop)]
+struct SharedPassing<R: Wait + Copy> {
+    rt: R,
+    alloc: Global,
+    queue: ConcurrentQueue<u64>,
+    next: u64,
+}
+
+impl<R: Wait + Copy> SharedPassing<R> {
+    /// Whether the next message went in and came out. Each third one is pushed by the call that may displace.
+    fn pass(&mut self) -> bool {
+        let message = self.next;
+        self.next = message.wrapping_add(1);
+        let is_in = if message % 3 == 0 {
+            self.queue.force_push(&self.rt, message) == Ok(None)
+        } else {
+            self.queue.push(&self.rt, message) == Ok(())
+        };
+        is_in & (self.queue.pop(&self.rt) == Ok(message))
+    }
+}
+
+impl<R: Wait + Copy> Attempt for SharedPassing<R> {
+    fn make(&mut self) -> Tried {
+        made(is_out_of_memory(self.alloc) && self.pass() && is_out_of_memory(self.alloc))
+    }
+}
+
+/// Passes all messages, the later ones with no memory at hand; then whether the earlier ones passed, and the next message.
+fn pass_all_shared<R: Wait + Copy>(rt: R, alloc: Global) -> Option<(Seen, bool, u64)> {
+    let mut passing = SharedPassing {
+        rt,
+        alloc,
+        queue: ConcurrentQueue::unbounded(alloc).ok()?,
+        next: 1,
+    };
+    let mut passed = true;
+    for _ in 0..LAST_WITH_MEMORY {
+        passed = passed & passing.pass();
+    }
+    let mut scarcity = Scarcity::new(alloc);
+    for _ in LAST_WITH_MEMORY..LAST {
+        scarcity.refuse_none(&mut passing);
+    }
+    Some((scarcity.end(), passed, passing.next))
+}
+
+/// A shared queue whose messages go through one by one uses its blocks again: it needs no memory for any message after the first ones.
+#[test]
+fn messages_one_by_one_through_a_shared_queue(rt: HostRuntime) {
+    let (seen, passed, next) = pass_all_shared(rt, rt.alloc()).expect(&rt, "memory");
+    expect_right(&rt, &seen);
+    expect_true(&rt, passed && seen.refusals == 0 && next == 1_001);
+}
+
 /// Whether a queue without a bound that holds nothing answers as ever: what it is asked, what is popped, its closing, and what comes
 /// then.
 fn answers_empty(queue: &mut Exclusive<u64>) -> bool {
