@@ -21,3 +21,18 @@ pub fn expect_rows<A: Abort + AllocGlobal, P: Player>(
     let right = played.differs.is_none() && played.rows == rows;
     assert!(rt; right, "of {rows} rows: {played:?}");
 }
+
+/// Plays these rows. Ends the test unless they differ, and that at a call whose line begins so.
+pub fn expect_differs<A: Abort + AllocGlobal, P: Player>(
+    rt: &A,
+    text: &str,
+    player: &mut P,
+    call: &str,
+) {
+    let played = play_rows(rt.alloc(), text, player).expect(rt, "memory");
+    let right = match &played.differs {
+        Some(differs) => differs.call.starts_with(call),
+        None => false,
+    };
+    assert!(rt; right, "{played:?}");
+}

@@ -2,10 +2,10 @@
 //! [`history_rows`](crate::history_rows).
 
 use crate::call_rows::{BOTH, RECEIVES, SENDS, SETTLINGS, TOLD, WAITS};
-use crate::checks::expect_rows;
+use crate::checks::{expect_differs, expect_rows};
 use crate::histories::Histories;
 use crate::many_rows::MANY;
-use crate::step_rows::{ROWS, SEVERAL};
+use crate::step_rows::{ROWS, SEVERAL, WRONG_MARKS};
 use crate::worlds::Worlds;
 use crate::{call_rows, history_rows, step_rows};
 
@@ -31,6 +31,15 @@ fn steps_by_names(rt: HostRuntime) {
     let mut worlds = Worlds::new(rt.alloc());
     for (text, rows) in [(ROWS, 9), (step_rows::REFUSED, 3), (SEVERAL, 1)] {
         expect_rows(&rt, text, &mut worlds, rows);
+    }
+}
+
+/// A row fails whose marks are not those of its steps.
+#[test]
+fn wrong_marks_are_seen(rt: HostRuntime) {
+    let mut worlds = Worlds::new(rt.alloc());
+    for text in WRONG_MARKS {
+        expect_differs(&rt, text, &mut worlds, "marked");
     }
 }
 

@@ -1,40 +1,71 @@
 //! Interleavings by names, step by step: the calls are those of [`Worlds`](crate::worlds::Worlds).
 
+/// Rows that are wrong in one mark: another mark, one at another step, and one too few. Their calls and replies are right.
+pub(crate) const WRONG_MARKS: [&str; 4] = [
+    "
+row a_take_in_place_of_an_append
+bounded 1
+begin 0 1 recv 0 r = made
+begin 0 2 poll 0 = goes on
+marked begin 1 3 try_send s 5 = take nothing nothing
+",
+    "
+row an_append_one_step_late
+bounded 1
+begin 0 1 recv 0 r = made
+begin 0 2 poll 0 = goes on
+marked begin 1 3 try_send s 5 = nothing append nothing
+",
+    "
+row a_taking_that_displaces_without_its_mark
+bounded 2
+begin 0 7 try_send s 1 = sent
+begin 0 7 try_send s 2 = sent
+marked begin 1 3 force_send s 3 = nothing nothing nothing
+",
+    "
+row a_taking_that_is_marked_as_displaced
+bounded 1
+begin 0 5 try_send s 1 = sent
+marked begin 3 3 try_recv r = take displaced nothing nothing
+",
+];
+
 pub(crate) const ROWS: &str = "
 row a_message_between_two_tries_is_taken
 bounded 1
 begin 0 1 recv 0 r = made
-begin 0 2 poll 0 = goes on
-begin 1 3 try_send s 5 = goes on
-go 0 5 = received 5
-go 1 2 = sent
+marked begin 0 2 poll 0 = nothing nothing
+marked begin 1 3 try_send s 5 = append nothing nothing
+marked go 0 5 = take nothing nothing nothing nothing received 5
+marked go 1 2 = nothing nothing sent
 is_quiet = true
 
 row a_pending_receive_is_woken_after_the_push
 bounded 1
 begin 0 1 recv 0 r = made
-begin 0 4 poll 0 = pending
-begin 1 1 try_send s 5 = goes on
+marked begin 0 4 poll 0 = nothing nothing nothing nothing pending
+marked begin 1 1 try_send s 5 = append
 numbers = 1 1 0 1
-go 1 1 = goes on
+marked go 1 1 = nothing
 numbers = 1 1 0 1
-go 1 1 = goes on
+marked go 1 1 = nothing
 numbers = 1 1 0 1
-go 1 1 = wakes 0
+marked go 1 1 = nothing wakes 0
 numbers = 1 1 1 1
-go 1 1 = sent
+marked go 1 1 = nothing sent
 
 row a_taking_wakes_the_send_that_still_waits
 bounded 1
-begin 0 5 try_send s 1 = sent
+marked begin 0 5 try_send s 1 = append nothing nothing nothing nothing sent
 begin 0 1 send 0 s 2 = made
-begin 0 4 poll 0 = pending
+marked begin 0 4 poll 0 = nothing nothing nothing nothing pending
 begin 0 1 send 1 s 3 = made
-begin 0 4 poll 1 = pending
-begin 3 3 try_recv r = goes on
-begin 1 1 give_up 0 = given_up 2
-go 3 1 = received 1 wakes 1
-begin 2 6 poll 1 = sent
+marked begin 0 4 poll 1 = nothing nothing nothing nothing pending
+marked begin 3 3 try_recv r = take nothing nothing
+marked begin 1 1 give_up 0 = nothing given_up 2
+marked go 3 1 = nothing received 1 wakes 1
+marked begin 2 6 poll 1 = append nothing nothing nothing nothing nothing sent
 is_quiet = true
 
 # Two places are free beside two sends that wait, with one call under way and nobody woken: the places that it has not announced answer
@@ -47,37 +78,37 @@ whole 0 send 0 s 3 = made
 whole 0 poll 0 = pending
 whole 0 send 1 s 4 = made
 whole 0 poll 1 = pending
-begin 3 4 recv_many r 2 = goes on
+marked begin 3 4 recv_many r 2 = nothing nothing nothing take
 numbers = 1 2 0 1
-go 3 5 = goes on
+marked go 3 5 = nothing nothing nothing nothing take
 numbers = 0 2 0 1
-go 3 2 = goes on
-go 3 1 = received 1 2 wakes 0 1
+marked go 3 2 = nothing nothing
+marked go 3 1 = nothing received 1 2 wakes 0 1
 numbers = 0 2 2 0
 
 row a_stream_is_pending_beside_a_message_that_is_not_told_yet
 unbounded
-begin 0 8 next r = pending
-begin 1 8 try_send s 7 = goes on
-begin 0 1 next r = pending
+marked begin 0 8 next r = nothing nothing nothing nothing nothing nothing nothing nothing pending
+marked begin 1 8 try_send s 7 = nothing nothing nothing nothing nothing append nothing nothing
+marked begin 0 1 next r = nothing pending
 numbers = 1 1 0 1
-go 1 1 = goes on
-go 1 1 = sent wakes stream 1
-begin 0 9 next r = next 7
+marked go 1 1 = nothing
+marked go 1 1 = nothing sent wakes stream 1
+marked begin 0 9 next r = nothing nothing nothing nothing take nothing nothing nothing nothing next 7
 
 row a_message_on_its_way_is_still_received
 bounded 2
-begin 0 7 try_send s 1 = sent
-begin 0 7 try_send s 2 = sent
-begin 1 3 force_send s 3 = goes on
-begin 2 5 close s = true
-begin 3 6 try_recv r = received 2
-begin 4 3 is_terminated r = true
-begin 5 2 try_recv r = goes on
-go 1 6 = displaced 1
-go 5 6 = received 3
-begin 0 3 try_recv r = over
-begin 0 1 try_send s 4 = closed 4
+marked begin 0 7 try_send s 1 = nothing nothing append nothing nothing nothing nothing sent
+marked begin 0 7 try_send s 2 = nothing nothing append nothing nothing nothing nothing sent
+marked begin 1 3 force_send s 3 = nothing nothing take displaced
+marked begin 2 5 close s = close nothing nothing nothing nothing true
+marked begin 3 6 try_recv r = nothing nothing take nothing nothing nothing received 2
+marked begin 4 3 is_terminated r = nothing nothing nothing true
+marked begin 5 2 try_recv r = nothing nothing
+marked go 1 6 = append nothing nothing nothing nothing nothing displaced 1
+marked go 5 6 = nothing nothing take nothing nothing nothing received 3
+marked begin 0 3 try_recv r = nothing nothing nothing over
+marked begin 0 1 try_send s 4 = nothing closed 4
 
 # What a call says that begins while another is under way, or after it.
 row calls_are_refused_by_names

@@ -2,7 +2,7 @@
 //!
 //! A row's calls are those of [`Worlds`]. Handles and operations are named by their numbers, `s` and `r` being handles 0 and 1.
 //!
-//! | WaitList | What it does | What it answers |
+//! | Line | What it does | What it answers |
 //! |---|---|---|
 //! | `bounded N`, `unbounded` | opens a channel | `ok`, `memory`, `identities` |
 //! | `CALL` | makes a call alone, as a list of one (`run_calls`) | its reply |
@@ -10,6 +10,7 @@
 //! | `begin P N CALL` | party P begins a call and makes N steps of it (`run_steps`) | the replies of calls that end there |
 //! | `go P N` | party P makes N more steps | the same |
 //! | `then begin P N CALL`, `then go P N`, and then `run_steps` | makes these steps as one list | the same |
+//! | `marked begin P N CALL`, `marked go P N` | the same steps | each step's mark, and the same |
 //! | the same with `run_front` in place of `run_steps` | the same, and keeps what is left of the list | the same |
 //! | `whole P CALL`, `end P` | begins a call, or goes on, a step at a time, up to its end, 64 more at most | the same |
 //! | `party P N` | party P makes N more steps at most, up to its call's end (`run_party`) | each step's mark, and the same; `in` and the number of steps |
@@ -91,14 +92,18 @@ fn write_steps(run: &Run<u64>, left: usize, answer: &mut String) -> Result<(), A
     write_stop(run.stopped, run.trace.len(), left, answer)
 }
 
-/// Writes what a party's steps did, each with its mark, and how many there were.
-fn write_marked(run: &Run<u64>, answer: &mut String) -> Result<(), AllocError> {
-    for entry in run.trace.iter() {
+/// Writes what a party's steps did, each with its mark. So many entries in front are begins, which have none; so many steps are left.
+fn write_marked(
+    run: &Run<u64>,
+    begins: usize,
+    left: usize,
+    answer: &mut String,
+) -> Result<(), AllocError> {
+    for entry in run.trace.iter().skip(begins) {
         Said::Word(mark_word(entry.mark)).write(answer)?;
         write_entry(entry, answer)?;
     }
-    write_stop(run.stopped, run.trace.len(), 0, answer)?;
-    Said::Both("in", run.trace.len() as u64).write(answer)
+    write_stop(run.stopped, run.trace.len(), left, answer)
 }
 
 /// Writes how many are pending on this line, and how many of them were woken.
@@ -231,7 +236,10 @@ impl Worlds {
             return answer.push_str(NO_CHANNEL);
         };
         match world.run_party(PartyId(words.small()), words.size()) {
-            Ok(run) => write_marked(&run, answer),
+            Ok(run) => {
+                write_marked(&run, 0, 0, answer)?;
+                Said::Both("in", run.trace.len() as u64).write(answer)
+            }
             Err(_) => Said::Word("memory").write(answer),
         }
     }
@@ -247,6 +255,22 @@ impl Worlds {
             Said::Ok => self.run_steps(answer),
             said => said.write(answer),
         }
+    }
+
+    /// The same, with each step's mark.
+    fn run_marked(&mut self, words: &mut Words<'_>, answer: &mut String) -> Result<(), AllocError> {
+        let verb = words.word();
+        match self.add_turn(verb, words) {
+            Said::Ok => {}
+            said => return said.write(answer),
+        }
+        let Some(world) = &mut self.world else {
+            return answer.push_str(NO_CHANNEL);
+        };
+        let run = world.run_steps(&mut self.steps);
+        let left = self.steps.len();
+        self.steps.clear();
+        write_marked(&run, usize::from(verb == "begin"), left, answer)
     }
 
     /// A party makes a step at a time up to its call's end. Where that goes on after 64 more it says so.
@@ -391,6 +415,7 @@ impl Player for Worlds {
                 self.prepare(verb, words).write(answer)
             }
             verb @ ("begin" | "go") => self.run_turn(verb, words, answer),
+            "marked" => self.run_marked(words, answer),
             "run_calls" => self.run_calls(answer),
             "run_steps" => self.run_steps(answer),
             "run_front" => self.run_front(answer),

@@ -1,6 +1,6 @@
 //! Plays the rows of [`script_rows`](crate::script_rows), from a slice of bytes to a list of bytes.
 //!
-//! | WaitList | What it says |
+//! | Line | What it says |
 //! |---|---|
 //! | `LINE = ANSWER` | a line of the script, and what it writes |
 //! | `LINE` | a line that is not reached |
