@@ -13,6 +13,7 @@ def contract_of(text, function):
 
 
 def only_clause(text, function):
-    """The name of a function's `ensures`, where it has one alone and that has a name, or else the word itself."""
-    names = [it[1] for it in (re.match(r"\s+ensures\*? ?(\w*) *\{", line) for line in contract_of(text, function)) if it]
+    """The name of the clause that a goal without a name asks for, where it has one: the one `ensures*`, or else the one `ensures`. If not, the word itself."""
+    clauses = [it.groups() for it in (re.match(r"\s+ensures(\*?) ?(\w*) *\{", line) for line in contract_of(text, function)) if it]
+    names = [name for star, name in clauses if star] or [name for _, name in clauses]
     return names[0] if len(names) == 1 and names[0] else "ensures"

@@ -53,8 +53,12 @@ def pair_faults(edit):
 def read(file, crate):
     """Reads an edit of a crate, without a look at what it changes."""
     edit, path, old = Edit(file, crate, os.path.basename(file).removesuffix(".edit")), "", ""
-    with open(file, encoding="utf-8") as it:
-        lines = it.read().split("\n")
+    try:
+        with open(file, encoding="utf-8") as it:
+            lines = it.read().split("\n")
+    except (OSError, UnicodeError) as why:
+        edit.fault = f"it can't be read: {why}"
+        return edit
     for kind, _, words in (line.partition(":") for line in lines):
         words = words.removeprefix(" ")
         if kind == "why":

@@ -122,7 +122,8 @@ def end_of(lines, at, closing):
     """The line that ends the item which begins at this one."""
     if lines[at].endswith("}"):
         return at
-    return next((row for row in range(at, len(lines)) if lines[row] == closing), at)
+    empty = closing.replace("}", "{}")
+    return next((row for row in range(at, len(lines)) if lines[row] in (closing, empty)), at)
 
 
 def functions(text, path):

@@ -22,9 +22,9 @@ pub {name}_spec : {{M : Type 1}} → statement M
 def can_be_emptied(function, lines):
     """Whether a function's body and proof can be left out: it has a body of its own lines, and its proof stands alone.
 
-    Those of a trait stay: what a check calls an `impl` of a trait with parameters doesn't follow from its text alone.
+    Those of some traits with parameters stay: what a check calls such an `impl` doesn't follow from its text alone.
     """
-    is_open = function.owner.trait or function.is_default or function.is_const or function.cycle
+    is_open = not function.owner.certain or function.is_default or function.is_const or function.cycle
     opens = body_of(lines, function)
     return not is_open and opens is not None and "-> impl " not in "\n".join(lines[function.first:opens + 1])
 

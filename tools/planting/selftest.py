@@ -1,51 +1,74 @@
-"""Mutants that the tool has to fail, so that it can be seen to judge: made of a crate's own, in memory."""
-import copy
+"""Mutants that the tool has to fail, so that it can be seen to judge: they are written into a copy of a crate, over which the tool runs."""
 import os
+import re
+import shutil
+import subprocess
+import sys
+import tempfile
 
-import edits as edit_files
-import judge
-import kit
-from trial import Trial
-
-CRATE, TOP = "waybill", os.path.dirname(os.path.dirname(os.path.dirname(os.path.abspath(__file__))))
-
-
-def made_of(edit, name, **changes):
-    """A copy of an edit under a name of its own, with some of its fields replaced."""
-    made = copy.deepcopy(edit)
-    made.name, made.functions, made.fault = name, [], ""
-    for field, value in changes.items():
-        setattr(made, field, value)
-    return edit_files.look(made, f"{TOP}/crates/{CRATE}")
-
-
-def wrong_ones():
-    """The mutants that have to fail, each with words of the fault that is to be found."""
-    first = next(it for it in edit_files.edits_of(CRATE, TOP) if it.refuses and not it.fault and len(it.pairs) == 1)
-    path, old, _ = first.pairs[0]
-    function = first.refuses[0][0]
-    return [
-        (made_of(first, "only_a_comment", pairs=[(path, old, f"{old} /* as it was */")]), "is still proved"),
-        (made_of(first, "another_clause", refuses=[[function, "no_such_clause"]]), "none of the named clauses"),
-        (made_of(first, "no_such_text", pairs=[(path, old + old, old)]), "stands 0 times"),
-        (made_of(first, "no_code", pairs=[(path, old, old + " no code")]), "the compiler's error is"),
-    ]
+TOP = os.path.dirname(os.path.dirname(os.path.dirname(os.path.abspath(__file__))))
+CRATE = "waybill"
+# What is wrong in the copy before anything is planted.
+WRONG = ("src/sink.rt", "self.places[sender] = number + 1;", "self.places[sender] = number;")
+IN_TURN = "file: src/sink.rt\nold:         number == awaited\nnew:         number == awaited"
+LEARN = "file: src/office.rt\nold:         self.table.shared.load::<Learns>(&mut pass.seat, 0);\nnew:         if false { self.table.shared.load::<Learns>(&mut pass.seat, 0); }"
+# The mutants, each with its text and with words of the fault that has to be found.
+CASES = {
+    "only_a_comment": (f"refuses: sink::is_in_turn yes\n{IN_TURN} // (as it was)\n", "sink::is_in_turn is still proved"),
+    "another_clause": (f"refuses: tokens::Office::learn received\n{LEARN}\n", "none of the named clauses of tokens::Office::learn is open"),
+    "function_is_refused_as_it_stands": (
+        "refuses: sink::Sink::unpack invariant_of-self\nfile: src/sink.rt\nold: self.places[sender] = number;\nnew: self.places[sender] = number - 1;\n",
+        "sink::Sink::unpack is refused as it stands",
+    ),
+    "no_line_says_where": (
+        "file: src/office.rt\nold:         table.join_seat::<Receives>(&mut pass.seat, parcel.bill);\n"
+        "new:         let bill = parcel.bill; if false { table.join_seat::<Receives>(&mut pass.seat, bill); }\n",
+        "no line 'refuses:' names tokens::Office::unpack",
+    ),
+    "no_code": (f"refuses: sink::is_in_turn yes\n{IN_TURN} no code\n", "the compiler's error is"),
+    "no_such_text": ("refuses: sink::is_in_turn yes\nfile: src/sink.rt\nold: number == no_such_name\nnew: false\n", "this stands 0 times in src/sink.rt"),
+    "no_pairs": ("refuses: sink::is_in_turn yes\nfile: src/sink.rt\nold: number == awaited\n", "it has no pair of 'old:' and 'new:'"),
+    "no_text": (b"\xff\xfe\n", "it can't be read"),
+}
 
 
-def run(since):
-    """Tries the mutants that have to fail, and returns how many did, and how many did not."""
-    wrong = wrong_ones()
-    kit.build_libraries([CRATE], TOP, since)
-    trial, missed = Trial(CRATE, TOP, [it for it, _ in wrong]), 0
-    trial.control()
-    for number, edits in enumerate(trial.rounds()):
-        trial.round(number, edits)
-    for number, edits in enumerate(trial.retries()):
-        trial.retry(number, edits)
-    for edit, words in wrong:
-        faults = [edit.fault] if edit.fault else list(judge.faults(edit, trial.found(edit)))
-        is_seen = any(words in it for it in faults)
+def write(file, text):
+    with open(file, "wb") as it:
+        it.write(text if isinstance(text, bytes) else text.encode())
+
+
+def make(room):
+    """Makes a workspace of the crate alone, with a mistake in it and these mutants, and with the tool."""
+    shutil.copytree(f"{TOP}/tools/planting", f"{room}/tools/planting", ignore=shutil.ignore_patterns("__pycache__"))
+    shutil.copy(f"{TOP}/tools/mutants", f"{room}/tools/mutants")
+    shutil.copytree(f"{TOP}/crates/{CRATE}", f"{room}/crates/{CRATE}", ignore=shutil.ignore_patterns("out", "must-fail", "mutants"))
+    with open(f"{TOP}/crates.txt", encoding="utf-8") as it:
+        write(f"{room}/crates.txt", re.search(rf"(?m)^{CRATE}\b.*\n", it.read())[0])
+    shutil.copy(f"{TOP}/HANDLES", f"{room}/HANDLES")
+    path, old, new = WRONG
+    with open(f"{room}/crates/{CRATE}/{path}", encoding="utf-8") as it:
+        text = it.read()
+    assert text.count(old) == 1, f"{old} stands {text.count(old)} times in {path}, so the self-test has nothing to begin with"
+    write(f"{room}/crates/{CRATE}/{path}", text.replace(old, new))
+    os.mkdir(f"{room}/crates/{CRATE}/mutants")
+    for name, (text, _) in CASES.items():
+        write(f"{room}/crates/{CRATE}/mutants/{name}.edit", text)
+
+
+def run():
+    """Runs the tool over mutants that it has to fail, and returns how many it failed for the right reason, and how many it didn't."""
+    with tempfile.TemporaryDirectory(prefix="mutants-selftest-") as room:
+        make(room)
+        ran = subprocess.run([sys.executable, f"{room}/tools/mutants", CRATE, "--jobs", "1"], stdin=subprocess.DEVNULL, stdout=subprocess.PIPE,
+                             stderr=subprocess.STDOUT, encoding="utf-8", errors="replace")
+    lines = ran.stdout.rstrip().split("\n")
+    missed = 0
+    for name, (_, fault) in CASES.items():
+        told = next((line for line in lines if line.startswith(f"{CRATE}/{name}: ")), "no line")
+        is_seen = told.startswith(f"{CRATE}/{name}: FAILED: ") and fault in told
         missed += not is_seen
-        print(f"self-test, {edit.name}: " + ("fails, as it must" if is_seen else f"NOT SEEN: {'; '.join(faults) or 'it passed'}"))
-    trial.close()
-    return len(wrong) - missed, missed
+        print(f"self-test, {name}: " + ("fails, as it must" if is_seen else f"NOT SEEN: {told}"), flush=True)
+    ends_well = ran.returncode == 1 and lines[-1] == f"0 passed, {len(CASES)} failed"
+    print("self-test, the whole run: " + ("fails, as it must" if ends_well else f"NOT SEEN: status {ran.returncode}, {lines[-1]}"), flush=True)
+    missed += not ends_well
+    return len(CASES) + 1 - missed, missed

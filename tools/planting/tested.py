@@ -5,7 +5,6 @@ import shutil
 import subprocess
 import tempfile
 
-import edits as edit_files
 from plant import plant
 
 LEFT_OUT = shutil.ignore_patterns("out")
@@ -38,34 +37,51 @@ def write(texts, folder):
             it.write(text)
 
 
-def is_red(room, crate, test):
-    """Whether the test of this name fails in the copy."""
+def red_tests(room, crate):
+    """The tests of a crate that fail in the copy, run unproved, and all that was printed."""
     ran = subprocess.run(["rt", "try", "--test", "--seconds", "600"], cwd=f"{room}/crates/{crate}", stdin=subprocess.DEVNULL,
                          stdout=subprocess.PIPE, stderr=subprocess.STDOUT, encoding="utf-8", errors="replace")
-    return bool(re.search(rf"(?m)^test (\S+::)?{test} .*FAILED$", ran.stdout)), ran.stdout
+    return set(re.findall(r"(?m)^test (\S+) .*FAILED$", ran.stdout)), set(re.findall(r"(?m)^test (\S+) ", ran.stdout)), ran.stdout
 
 
-def fault_of(edit, room):
-    """Why an edit isn't seen by the tests that it names, or ""."""
+def fault_as_it_stands(edit, stands):
+    """Why nothing could be shown by the tests that an edit names, even before it is planted, or ""."""
     if edit.fault or not edit.tests:
         return edit.fault or "it has no line 'test: CRATE TEST'"
+    for crate, test in edit.tests:
+        red, known, output = stands[crate]
+        if test not in known:
+            return f"{crate} has no test {test}: {output.strip()[-200:]}"
+        if test in red:
+            return f"the test {test} of {crate} fails as it stands"
+    return ""
+
+
+def fault_of(edit, room, stands):
+    """Why an edit isn't seen by the tests that it names, or ""."""
+    fault = fault_as_it_stands(edit, stands)
+    if fault:
+        return fault
     was = write_planted(edit, room)
     try:
         for crate, test in edit.tests:
-            seen, output = is_red(room, crate, test)
-            if not seen:
-                return f"the test {test} of {crate} is not red: {output.strip()[-200:]}"
+            red, _, output = red_tests(room, crate)
+            if test not in red:
+                return f"the test {test} of {crate} passes: {output.strip()[-200:]}"
     finally:
         write(was, f"{room}/crates/{edit.crate}")
     return ""
 
 
-def try_crates(names, top="."):
-    """Plants the mutants of these crates one after another, and returns how many are seen, and how many are not."""
-    edits = [it for name in names for it in edit_files.edits_of(name, top, tested=True)]
+def try_all(chosen, top="."):
+    """Plants these mutants, by their crates, one after another, and returns how many are seen, and how many are not."""
+    edits = [it for found in chosen.values() for it in found]
     room, failed = copy_of(os.path.abspath(top)), 0
+    crates = sorted({crate for edit in edits for crate, _ in edit.tests})
+    print(f"{len(edits)} mutants for the tests of {', '.join(crates) or 'no crate'}, each run unproved", flush=True)
+    stands = {crate: red_tests(room, crate) for crate in crates}
     for edit in edits:
-        fault = fault_of(edit, room)
+        fault = fault_of(edit, room, stands)
         failed += bool(fault)
         print(f"{edit.label}: " + (f"FAILED: {fault}" if fault else "seen by " + ", ".join(test for _, test in edit.tests)), flush=True)
     shutil.rmtree(room)

@@ -73,6 +73,7 @@ class Trial:
         if ran.status < 0:
             ran = kit.check(self.crate, where, names, work)
         self.seconds += ran.seconds
+        print(f"{self.crate.name}, {os.path.basename(where)}: {len(only)} functions, {ran.seconds:.0f} processor seconds", flush=True)
         return ran
 
     def copy(self, name, edits, functions):
