@@ -26,6 +26,7 @@ TEXTS = [
     ("async_channel_tests", "handle_rows", "WITHOUT_A_BOUND", "the same, with the calls of `FIFTY` behind it", "rows::handles"),
     ("async_channel_tests", "handle_rows", "OF_A_THOUSAND_PLACES", "the same, with the calls of `FIFTY` a hundred times behind it", "rows::handles"),
     ("async_channel_tests", "slot_rows", "STEPS", "`ChannelCall::step` over a channel with one owner (`slots`, `slot_calls`)", "rows::steps"),
+    ("async_channel_tests", "standing_rows", "QUESTIONS", "handles of a watched channel, asked in the midst of a send (`standing`)", "standing::a_push_that_stands_still_holds_no_handle_up"),
     ("async_channel_thread_tests", "pair_rows", "PAIRS", "`Sender` on one thread and `Receiver` on another, which meet at gates (`pairs`; `calls` of `channel_test_helpers`)", "pairs::rows"),
     ("channel_world_tests", "step_rows", "ROWS", "`World::run_steps` (`worlds`)", "rows::steps_by_names"),
     ("channel_world_tests", "step_rows", "REFUSED", "lists of `World::run_steps` that stop (`worlds`)", "rows::steps_by_names"),
