@@ -3,7 +3,7 @@
 
 usage, at the top of the repository: tools/list_edits.py [--check]
 
-An edit, crates/*/mutants/*.edit or one of those in must-fail/ that `rt ci` tries too, begins with a line `why: SENTENCE`: what goes wrong
+An edit, crates/*/mutants/*.edit or one of those in must-fail/ that `rt ci` tries, begins with a line `why: SENTENCE`: what goes wrong
 for whom, and which clause stands against it. It may stand for one of BODIES below, by a line `body: WORDS`. Lines `refuses:` or
 `no program:` say where it is refused, as tools/mutants found it. With --check nothing is written. The status is 1, and a line says why,
 where an edit has no such sentence or none of these lines, where it cites something by a number, where nothing stands for one of BODIES,
@@ -141,7 +141,7 @@ HEAD = """# Mutants that the prover refuses
 
 Made by `tools/list_edits.py` of the edits `crates/*/mutants/*.edit` and `crates/*/must-fail/*.edit`, not by hand. Each edit changes a body
 so that it does something wrong and still compiles. There are {count}. `tools/mutants` looks that each is refused in its own function, at
-the clause that the last column names.
+the clause that the last column names; in the gate `rt ci` tries those in `must-fail/`.
 
 ## Against what a channel has to be safe from
 

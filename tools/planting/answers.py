@@ -1,5 +1,4 @@
 """Deletes answers from the files in which a person wrote them, for a check of what is left."""
-import os
 import re
 
 IMPORTS = re.compile(r"(?m)^use ([^\n{]*)\.\{([^}]*)\}\n")
@@ -27,10 +26,7 @@ def without_answers(text, names):
 
 
 def delete(file, names):
-    """Deletes these answers and imports from a file, or a proof by hand as a whole."""
-    if file.endswith("/Proof.antt"):
-        os.remove(file)
-        return
+    """Deletes these answers and imports from a file."""
     with open(file, encoding="utf-8") as it:
         text = it.read()
     with open(file, "w", encoding="utf-8") as it:

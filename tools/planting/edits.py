@@ -117,10 +117,10 @@ def look(edit, folder, needs_function=True):
     return edit
 
 
-def edits_of(crate, top=".", tested=False):
-    """The mutants of a crate that the prover is to refuse, or those that only tests see."""
+def edits_of(crate, top=".", tested=False, folders=FOLDERS):
+    """The mutants of a crate in these folders that the prover is to refuse, or those that only tests see."""
     folder = f"{top}/crates/{crate}"
-    places = [f"{folder}/mutants/tested"] if tested else [f"{folder}/{it}" for it in FOLDERS]
+    places = [f"{folder}/mutants/tested"] if tested else [f"{folder}/{it}" for it in folders]
     files = [file for place in places for file in sorted(glob.glob(f"{place}/*.edit"))]
     return [look(read(file, crate), folder, not tested) for file in files]
 

@@ -3,7 +3,9 @@ from dataclasses import dataclass, field
 
 import said
 
-FALSE, OPEN, MISFIT, LIMIT = "found false", "left open", "only a written answer doesn't fit", "met a limit of the prover"
+FALSE, OPEN, LIMIT = "found false", "left open", "met a limit of the prover"
+# How an answer that a person wrote is refused: as no proof of the goal that it is now for, or for the names in it, which says nothing.
+WRONG, STRAY = "not proved by its written answer any more", "has a written answer that names what is gone"
 
 
 @dataclass
@@ -11,13 +13,14 @@ class Found:
     """What a check came to for a mutant: why it wasn't judged, the compiler's error, and of each function that it changes what stands open.
 
     `functions` has by name a list of [clause, how], or None where the function is accepted. `tried_without` are written answers that no
-    longer fitted, and were deleted for a second try, of which the rest is said.
+    longer fitted, and were deleted for a second try, of which `second` says how it ended.
     """
 
     fault: str = ""
     error: str = ""
     functions: dict = field(default_factory=dict)
     tried_without: list = field(default_factory=list)
+    second: str = ""
 
 
 def opens_of(verdict, only):
@@ -28,22 +31,52 @@ def opens_of(verdict, only):
     for goal in verdict.opens:
         clause, how = said.clause(goal, only), FALSE if goal in verdict.false else OPEN
         found[clause] = FALSE if FALSE in (how, found.get(clause)) else OPEN
-    for goal in verdict.misfits:
-        found.setdefault(said.clause(goal, only), MISFIT)
+    for goal in sorted(verdict.misfits, key=lambda it: it in verdict.strays):
+        found.setdefault(said.clause(goal, only), STRAY if goal in verdict.strays else WRONG)
     if verdict.line.startswith("could not tell"):
         found.setdefault("limit", LIMIT)
     return [[clause, how] for clause, how in found.items()]
 
 
 def open_ones(opens):
-    """The clauses that the prover left open, or found false. A written answer that no longer fits says nothing of its clause."""
-    return [clause for clause, how in opens or () if how in (FALSE, OPEN)]
+    """The clauses of which there is no proof: left open, found false, or one that their written answers prove no more."""
+    return [clause for clause, how in opens or () if how in (FALSE, OPEN, WRONG)]
 
 
-def misses(edit, name, opens):
-    """Whether a function is refused, but at no clause that the edit names, or at none at all where it names none."""
-    named = next((clauses for function, *clauses in edit.refuses if function == name), [])
-    return opens is not None and not (set(named) & set(open_ones(opens)) if named else open_ones(opens))
+def named_clauses(edit, name):
+    """The clauses of a function that the edit's lines name, if it has any."""
+    return next((clauses for function, *clauses in edit.refuses if function == name), [])
+
+
+def is_refused(edit, name, opens):
+    """Whether a function is refused at a clause that the edit names, or at any where it names none."""
+    named, found = named_clauses(edit, name), open_ones(opens)
+    return bool(set(named) & set(found) if named else found)
+
+
+def resting_on_answers(edit, name, opens):
+    """The clauses that stand open only since written answers don't fit, where the edit names no other one: those that it names, or else all."""
+    named = named_clauses(edit, name)
+    hows = dict(opens or ())
+    if {FALSE, OPEN} & {how for clause, how in hows.items() if clause in named or not named}:
+        return []
+    resting = [clause for clause, how in hows.items() if how in (WRONG, STRAY)]
+    return [clause for clause in resting if clause in named] or resting
+
+
+def with_second(first, second, tried):
+    """What stands open of a function by two checks, of which the second was made without the answers for these clauses.
+
+    A clause of these that the second one doesn't name is proved. It is None if either accepts the function.
+    """
+    if first is None or second is None:
+        return None
+    later, both = dict(second), []
+    for clause, how in first:
+        again = later.pop(clause, how if clause not in tried else None)
+        if again:
+            both.append([clause, again if again == FALSE or how == STRAY else how])
+    return both + [[clause, how] for clause, how in later.items() if how in (FALSE, OPEN)]
 
 
 def lines_for(found):
@@ -53,12 +86,16 @@ def lines_for(found):
     return [" ".join(["refuses:", name, *open_ones(opens)]) for name, opens in found.functions.items() if open_ones(opens)]
 
 
+def in_words(opens):
+    return "accepted" if opens is None else ", ".join(f"{clause} {how}" for clause, how in opens)
+
+
 def shown(found):
     """What was found, in words."""
     if found.error:
         return f"no program: {found.error}"
-    parts = [f"{name}: " + ("accepted" if opens is None else ", ".join(f"{clause} {how}" for clause, how in opens)) for name, opens in found.functions.items()]
-    without = f" (without the answers {', '.join(found.tried_without)}, which no longer fit)" if found.tried_without else ""
+    parts = [f"{name}: {in_words(opens)}" for name, opens in found.functions.items()]
+    without = f" (without the answers {', '.join(found.tried_without)}: {found.second})" if found.tried_without else ""
     return "; ".join(parts) + without
 
 
@@ -76,8 +113,8 @@ def faults(edit, found):
     """Why the mutant isn't refused as its lines say, each in a sentence."""
     if edit.fault or found.fault:
         yield edit.fault or found.fault
-    elif any(opens and all(how == MISFIT for _, how in opens) for opens in found.functions.values()):
-        yield "nothing is known but that a written answer doesn't fit, also without those that can be deleted"
+    elif any(opens and all(how == STRAY for _, how in opens) for opens in found.functions.values()):
+        yield "nothing is known but that written answers name what is gone"
     elif edit.error or found.error:
         if edit.error != found.error:
             yield f"the compiler's error is {found.error or 'none'}, and not {edit.error or 'none'}"

@@ -2,9 +2,13 @@
 from plant import plant
 
 
+# So many mutants are planted together at most. More would save the reading of a crate, and be the end of a run on several processors.
+MOST = 16
+
+
 def fits_in(edit, others, texts):
     """Whether an edit can be planted beside others: no function and no cycle of calls is touched twice, and its lines still stand once."""
-    if any(edit.groups & it.groups for it in others):
+    if len(others) == MOST or any(edit.groups & it.groups for it in others):
         return False
     tried = dict(texts)
     if plant(edit, tried):

@@ -6,6 +6,10 @@ import subprocess
 import sys
 import tempfile
 
+import judge
+import said
+from edits import Edit
+
 TOP = os.path.dirname(os.path.dirname(os.path.dirname(os.path.abspath(__file__))))
 CRATE = "waybill"
 # What is wrong in the copy before anything is planted.
@@ -30,6 +34,39 @@ CASES = {
     "no_pairs": ("refuses: sink::is_in_turn yes\nfile: src/sink.rt\nold: number == awaited\n", "it has no pair of 'old:' and 'new:'"),
     "no_text": (b"\xff\xfe\n", "it can't be read"),
 }
+
+# What a check may print of a function whose edit names clause `room`, what one without the written answers may print, and words of the
+# fault that has to be found, or "" where the function is refused as it must be.
+REFUSED = "\nfn a::f: not proved; it stands on `Rattle.a.proofs.f.Answers.returns-clause-room`, which antt refuses"
+ANSWER = "./proofs/f/Answers.antt:3:5: error: `returns-clause-room`: "
+NO_PROOF = f"{ANSWER}as printed, the two types first differ where one has `c.args.x`\n  (expected), and the other has `c.args.y` (found){REFUSED}"
+GONE = f"{ANSWER}record `Rattle.a.proofs.f.Lts.After-len`\n  has no field `push`{REFUSED}"
+RENUMBERED = f"{ANSWER}the two types differ only where one has `c.len-2.result` (expected) and the other has `c.len.result` (found){REFUSED}"
+NOT_READ = "./proofs/f/Answers.antt:2:5: error: `made`: record `R` has no field `push`\n./proofs/f/Answers.antt:9:5: error: 1 declaration that depends on `made`, which was rejected, was not checked: returns-clause-room" + REFUSED
+LEFT_OPEN = "note: src/lib.rt:1:1: it is not proved that what the function ensures holds when it returns (`returns-clause-room`)\nfn a::f: no proof"
+PROVED = "fn a::f: depends on a hole in `Rattle.a.proofs.g.Proof.g_spec`"
+READINGS = {
+    "a clause is left open": (LEFT_OPEN, None, ""),
+    "another clause is left open": (LEFT_OPEN.replace("room", "kept"), None, "none of the named clauses"),
+    "a proof": (PROVED, None, "is still proved"),
+    "an answer proves it no more": (NO_PROOF, None, ""),
+    "an answer proves it no more, nor does the prover": (NO_PROOF, LEFT_OPEN, ""),
+    "an answer proves it no more, but the prover does": (NO_PROOF, PROVED, "is still proved"),
+    "an answer proves it no more, but the prover does, and not another clause": (NO_PROOF, LEFT_OPEN.replace("room", "kept"), "none of the named clauses"),
+    "an answer names what is gone": (GONE, None, "name what is gone"),
+    "an answer names what has another number": (RENUMBERED, None, "name what is gone"),
+    "an answer stands on what is gone": (NOT_READ, None, "name what is gone"),
+    "an answer names what is gone, and the prover finds no proof": (GONE, LEFT_OPEN, ""),
+    "an answer names what is gone, and the prover finds a proof": (GONE, PROVED, "is still proved"),
+}
+
+
+def misread(text, second, fault):
+    """What the judge finds in place of this fault, or of none, or ""."""
+    edit, first = Edit("", "a", "e", refuses=[["f", "room"]]), judge.opens_of(said.verdicts(said.told(text))["f"], "room")
+    opens = judge.with_second(first, judge.opens_of(said.verdicts(second)["f"], "room"), ["room"]) if second else first
+    found = "; ".join(judge.faults(edit, judge.Found(functions={"f": opens})))
+    return "" if fault in found and bool(found) == bool(fault) else found or "no fault"
 
 
 def write(file, text):
@@ -62,7 +99,9 @@ def run():
         ran = subprocess.run([sys.executable, f"{room}/tools/mutants", CRATE, "--jobs", "1"], stdin=subprocess.DEVNULL, stdout=subprocess.PIPE,
                              stderr=subprocess.STDOUT, encoding="utf-8", errors="replace")
     lines = ran.stdout.rstrip().split("\n")
-    missed = 0
+    wrong = {name: misread(*case) for name, case in READINGS.items()}
+    print("self-test, what a check prints: " + ("; ".join(f"MISREAD {name}: {found}" for name, found in wrong.items() if found) or "is read well"), flush=True)
+    missed = int(any(wrong.values()))
     for name, (_, fault) in CASES.items():
         told = next((line for line in lines if line.startswith(f"{CRATE}/{name}: ")), "no line")
         is_seen = told.startswith(f"{CRATE}/{name}: FAILED: ") and fault in told
@@ -71,4 +110,4 @@ def run():
     ends_well = ran.returncode == 1 and lines[-1] == f"0 passed, {len(CASES)} failed"
     print("self-test, the whole run: " + ("fails, as it must" if ends_well else f"NOT SEEN: status {ran.returncode}, {lines[-1]}"), flush=True)
     missed += not ends_well
-    return len(CASES) + 1 - missed, missed
+    return len(CASES) + 2 - missed, missed

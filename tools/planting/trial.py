@@ -1,6 +1,7 @@
 """Tries the mutants of one crate: a control round, in which nothing is planted, and then round after round of mutants."""
 import os
 import shutil
+import signal
 import subprocess
 import tempfile
 
@@ -14,18 +15,23 @@ from answers import delete
 from contract import only_clause
 from layout import homes, symbol_of
 
-# So often answers that don't fit are deleted before a function is given up.
-TRIES = 6
+# So many processor seconds a second check, without answers that don't fit, takes at most, so many more for each edit, and so many more where
+# it has to read all itself, since no control round was needed.
+SECOND, EACH, ALONE = 40, 20, 400
 # The statuses of a check that says something of each function: all proved, some not, or antt could not tell.
 JUDGED = (0, 1, 3)
+# The status of a check that was ended by its limit.
+ENDED = -signal.SIGXCPU
 
 
-def add_misfits(deleted, misfits):
-    """Adds answers that don't fit to those that are to be deleted, by their files. A loop has to have its invariant, so these stay."""
+def deletions(misfits):
+    """The answers that don't fit, by their files. A loop has to have its invariant, and a proof by hand is all that there is, so these stay."""
+    deleted = {}
     for answers in misfits.values():
-        for answer, file in answers.items():
-            if not file.endswith("/Invariants.antt"):
+        for _, (answer, file) in answers:
+            if file.endswith("/Answers.antt"):
                 deleted.setdefault(file, set()).add(answer)
+    return deleted
 
 
 class Trial:
@@ -37,7 +43,7 @@ class Trial:
         self.texts, self.types = room.read_sources(self.folder), homes(self.folder)
         self.sum = kept.crate_sum(self.crate)
         self.at = tempfile.mkdtemp(prefix=f"mutants-{name}-")
-        self.deleted = {it.label: {} for it in edits}
+        self.deleted, self.second_outputs = {}, {}
         self.outputs = {it.label: kept.find(self.key(it)) for it in self.whole()}
         self.controls = {it.key: kept.find(self.control_key(it)) for it in self.functions()}
 
@@ -51,8 +57,8 @@ class Trial:
 
     def key(self, edit):
         """The name under which it is kept what a check of an edit printed, without the answers that are deleted by then."""
-        deleted = [[file, sorted(answers)] for file, answers in sorted(self.deleted[edit.label].items())]
-        return kept.sum_of(self.sum, "edit", edit.pairs, deleted)
+        deleted = [[file, sorted(answers)] for file, answers in sorted(self.deleted.get(edit.label, {}).items())]
+        return kept.sum_of(self.sum, "edit", edit.pairs, [*deleted, SECOND, EACH] if deleted else [])
 
     def control_key(self, function):
         """The name under which it is kept that a function was accepted as it stands."""
@@ -66,12 +72,12 @@ class Trial:
         """Whether something is to be tried."""
         return bool(self.todo()) or None in self.controls.values()
 
-    def check(self, where, only, work):
+    def check(self, where, only, work, limit=None):
         """Checks these functions of a copy, or without one no more than whether it compiles. A check that was killed is made once more."""
         names = [symbol_of(it, self.types) for it in only] or [""]
-        ran = kit.check(self.crate, where, names, work)
-        if ran.status < 0:
-            ran = kit.check(self.crate, where, names, work)
+        ran = kit.check(self.crate, where, names, work, limit)
+        if ran.status < 0 and ran.status != ENDED:
+            ran = kit.check(self.crate, where, names, work, limit)
         self.seconds += ran.seconds
         print(f"{self.crate.name}, {os.path.basename(where)}: {len(only)} functions, {ran.seconds:.0f} processor seconds", flush=True)
         return ran
@@ -104,9 +110,10 @@ class Trial:
 
     def note(self, edit, ran):
         """Keeps what a check printed, unless it was killed, and nothing is known."""
-        self.outputs[edit.label] = {"status": ran.status, "output": said.told(ran.output)}
-        if ran.status in JUDGED:
-            kept.keep(self.key(edit), self.outputs[edit.label])
+        into = self.second_outputs if edit.label in self.deleted else self.outputs
+        into[edit.label] = {"status": ran.status, "output": said.told(ran.output)}
+        if ran.status in (*JUDGED, ENDED):
+            kept.keep(self.key(edit), into[edit.label])
 
     def round(self, number, edits):
         """Plants some edits together and checks their functions. Where these don't compile, each is tried alone."""
@@ -126,52 +133,73 @@ class Trial:
         """The edits of which nothing is known, in rounds."""
         return rounds.rounds_of(self.todo(), self.texts)
 
+    def opens(self, edit, output):
+        """What stands open of each function that an edit changes, by what a check printed, and the first function of which it says nothing, or ""."""
+        verdicts, opens, lacking = said.verdicts(output), {}, ""
+        for function in edit.functions:
+            name = symbol_of(function, self.types)
+            if name in verdicts:
+                opens[name] = judge.opens_of(verdicts[name], only_clause(self.texts[function.path], function))
+            else:
+                lacking = lacking or name
+        return opens, lacking
+
     def found(self, edit):
-        """What came of an edit, by what its last check printed."""
+        """What came of an edit, by what its checks printed."""
         status, output = self.outputs[edit.label]["status"], self.outputs[edit.label]["output"]
         error = said.compile_error(output)
         if error or edit.error or status not in JUDGED:
             return judge.Found(error=error) if error or edit.error else judge.Found(fault=f"its check ended with status {status}: {output[-300:]}")
-        verdicts, found = said.verdicts(output), judge.Found(tried_without=sorted(answer for it in self.deleted[edit.label].values() for answer in it))
-        for function in edit.functions:
-            lines = [(name, it) for name, it in verdicts.items() if name == symbol_of(function, self.types)]
-            if not lines:
-                found.fault = f"the check has no line of {symbol_of(function, self.types)}: {output[-300:]}"
-            only = only_clause(self.texts[function.path], function)
-            found.functions.update({name: judge.opens_of(it, only) for name, it in lines})
+        opens, lacking = self.opens(edit, output)
+        found = judge.Found(functions=opens, fault=f"the check has no line of {lacking}: {output[-300:]}" if lacking else "")
+        second = self.second_outputs.get(edit.label)
+        if second:
+            found.tried_without = sorted(answer for it in self.deleted[edit.label].values() for answer in it)
+            again, _ = self.opens(edit, second["output"])
+            if second["status"] in JUDGED:
+                tried = {name: {clause for clause, _ in it} for name, it in self.misfits(edit).items()}
+                found.functions = {name: judge.with_second(it, again.get(name, it), tried.get(name, ())) for name, it in opens.items()}
+                found.second = "; ".join(f"{name}: " + judge.in_words(it) for name, it in again.items())
+            else:
+                found.second = "no proof was found in time" if second["status"] == ENDED else f"the check ended with status {second['status']}"
         return found
 
     def misfits(self, edit):
-        """The functions with written answers that don't fit, where no clause is open that the edit names, or none at all, by name."""
-        verdicts, names = said.verdicts(self.outputs[edit.label]["output"]), [symbol_of(it, self.types) for it in edit.functions]
-        opens = self.found(edit).functions
-        return {name: verdicts[name].misfits for name in names if name in verdicts and verdicts[name].misfits and judge.misses(edit, name, opens.get(name))}
+        """The functions that are refused, as far as the edit's lines go, only since written answers don't fit, by name, with the clauses and these answers."""
+        output, found = self.outputs[edit.label]["output"], {}
+        verdicts, (opens, _) = said.verdicts(output), self.opens(edit, output)
+        for function in edit.functions:
+            name, only = symbol_of(function, self.types), only_clause(self.texts[function.path], function)
+            resting = judge.resting_on_answers(edit, name, opens.get(name))
+            if resting:
+                found[name] = [(said.clause(answer, only), (answer, file)) for answer, file in verdicts[name].misfits.items()]
+                found[name] = [it for it in found[name] if it[0] in resting]
+        return found
+
+    def is_known(self, edit):
+        """Whether the first check has refused an edit where its lines say, so that a second one may be ended before it finds something."""
+        opens, _ = self.opens(edit, self.outputs[edit.label]["output"])
+        return all(judge.is_refused(edit, name, it) for name, it in opens.items())
 
     def retries(self):
-        """The edits of which only written answers don't fit, in rounds."""
-        return rounds.rounds_of([it for it in self.whole() if self.misfits(it)], self.texts)
+        """The edits that are to be checked once more without the answers that don't fit, in rounds."""
+        again = {it.label: deletions(self.misfits(it)) for it in self.whole() if not said.compile_error(self.outputs[it.label]["output"])}
+        self.deleted = {label: it for label, it in again.items() if it}
+        edits = [it for it in self.whole() if it.label in self.deleted]
+        self.second_outputs = {it.label: kept.find(self.key(it)) for it in edits}
+        left = [it for it in edits if not self.second_outputs[it.label]]
+        known = [it for it in left if self.is_known(it)]
+        return rounds.rounds_of(known, self.texts) + rounds.rounds_of([it for it in left if it not in known], self.texts)
 
     def retry(self, number, edits):
-        """Tries edits once more without the answers that don't fit, and again as long as others don't."""
-        for attempt in range(TRIES):
-            for edit in edits:
-                add_misfits(self.deleted[edit.label], self.misfits(edit))
-                self.outputs[edit.label] = kept.find(self.key(edit)) or self.outputs[edit.label]
-            again = [it for it in edits if kept.find(self.key(it)) is None]
-            if again:
-                self.check_without(f"without-{number}-{attempt}", again)
-            edits = [it for it in edits if self.misfits(it)]
-            if not edits:
-                return
-
-    def check_without(self, name, edits):
-        """Checks edits together once their answers that don't fit are deleted."""
-        functions = [it for edit in edits for it in edit.functions]
+        """Checks edits together without the answers that don't fit."""
+        functions, name = [it for edit in edits for it in edit.functions], f"without-{number}"
         where, _ = self.copy(name, edits, functions)
         for edit in edits:
             for file, answers in self.deleted[edit.label].items():
                 delete(f"{where}/{file}", answers)
-        ran = self.check(where, functions, self.work_for(name))
+        limit = SECOND + EACH * len(edits) + (0 if os.path.isdir(f"{self.at}/work") else ALONE)
+        ran = self.check(where, functions, self.work_for(name), limit if all(map(self.is_known, edits)) else None)
         for edit in edits:
             self.note(edit, ran)
 
