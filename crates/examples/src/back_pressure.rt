@@ -1,23 +1,28 @@
 //! Back-pressure: a channel of one place makes a fast sender wait for a slow receiver.
 
+use crate::jobs::{Job, at_once, last};
 use async_channel::{EventIds, Receiver, Runtime, Sender, bounded};
 use futures::executor::block_on;
-use std::alloc::Global;
+use std::alloc::{AllocGlobal, Global};
+use std::random::RandomSource;
 use std::sync::Wait;
 use std::thread;
 
-fn send_all<R: Runtime>(rt: R, sender: Sender<u64, R>) {
+/// Sends a hundred messages, each as soon as there is a place.
+pub(crate) fn send_fast<R>(rt: R, sender: Sender<u64, R>) -> Option<u64>
+where
+    R: Wait + Copy + RandomSource + AllocGlobal,
+{
     for number in 0..100 {
-        if !matches!(block_on(&rt, sender.send(number)), Ok(Ok(()))) {
-            return;
-        }
+        block_on(&rt, sender.send(number)).ok()?.ok()?;
     }
+    Some(100)
 }
 
 /// How many messages came; `None` where the channel ever held more than one, or a wait was refused.
-fn receive_all<R: Wait + Copy>(receiver: Receiver<u64, R>) -> Option<u64> {
+pub(crate) fn receive_slowly<R: Wait + Copy>(receiver: Receiver<u64, R>) -> Option<u64> {
     let mut count = 0u64;
-    for message in receiver.iter() {
+    for message in &receiver {
         if message.is_err() || receiver.len() > 1 {
             return None;
         }
@@ -30,10 +35,8 @@ fn receive_all<R: Wait + Copy>(receiver: Receiver<u64, R>) -> Option<u64> {
 /// That number for a hundred messages.
 pub(crate) fn count<R: Runtime>(rt: R, alloc: Global, ids: &mut EventIds) -> Option<u64> {
     let (sender, receiver) = bounded(rt, alloc, 1, ids).ok()?;
-    let ((), count) = thread::join(
-        &rt,
-        move || send_all(rt, sender),
-        move || receive_all(receiver),
-    );
-    count
+    let mut threads = Vec::with_capacity(alloc, 2).ok()?;
+    threads.push(Job::SendFast(sender)).ok()?;
+    threads.push(Job::ReceiveSlowly(receiver)).ok()?;
+    last(&at_once(rt, alloc, threads)?)
 }

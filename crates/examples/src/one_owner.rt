@@ -5,7 +5,6 @@ ghost use Rattle.concurrent_queue.specs.Room.{HasPlace};
 
 use concurrent_queue::Exclusive;
 use std::alloc::Global;
-use std::io;
 
 /// Appends a message to an open queue with room for it, which can't be refused.
 fn append<T: Drop>(queue: &mut Exclusive<T>, message: T)
@@ -19,7 +18,7 @@ fn append<T: Drop>(queue: &mut Exclusive<T>, message: T)
 }
 
 /// What a new queue gives after this message was pushed into it: the message. `None` where there was no memory for a queue.
-fn first(message: u64, alloc: Global) -> Option<u64>
+pub(crate) fn first(message: u64, alloc: Global) -> Option<u64>
     ensures { IfSome result (λ popped. popped ≡ message) }
 {
     let mut queue = Exclusive::bounded(alloc, 2).ok()?;
@@ -27,15 +26,5 @@ fn first(message: u64, alloc: Global) -> Option<u64>
     match queue.pop() {
         Ok(popped) => Some(popped),
         Err(_) => unreachable!(),
-    }
-}
-
-/// Prints what the caller got.
-pub fn show<R: Print>(rt: &R, alloc: Global) -> io::Result<()> {
-    match first(1, alloc) {
-        Some(popped) => {
-            println!(rt; "one owner: after a push of 1 into a new queue pop gives {popped}")
-        }
-        None => println!(rt; "one owner: want of memory"),
     }
 }

@@ -1,50 +1,53 @@
-//! A worker pool: three workers share the jobs of one channel, each job going to one of them. The channel is closed by hand;
-//! what was sent before is still done.
+//! A worker pool: workers share the jobs of one channel, each job going to one of them, and put their results into another. The last
+//! sender of jobs shuts it down as it is dropped. What was sent before is still done; then the workers go, and with the last of them
+//! the results end.
 
-use async_channel::{EventIds, ListenError, Receiver, Runtime, Sender, unbounded};
+use crate::jobs::{Job, at_once, last};
+use async_channel::{EventIds, Receiver, Runtime, Sender, bounded};
 use std::alloc::Global;
 use std::sync::Wait;
-use std::thread;
 
-/// One worker: the sum of its jobs. Refused where a wait for a job was refused memory or a serial.
-fn work<R: Wait + Copy>(jobs: &Receiver<u64, R>) -> Result<u64, ListenError> {
-    let mut sum = 0u64;
-    for job in jobs.iter() {
-        sum = sum.wrapping_add(job?);
+/// One worker: how many jobs it did, until there were no more.
+pub(crate) fn work<R: Wait + Copy>(jobs: Receiver<u64, R>, results: Sender<u64, R>) -> Option<u64> {
+    let mut done = 0u64;
+    for job in &jobs {
+        let job = job.ok()?;
+        results.send_blocking(job.wrapping_mul(job)).ok()?;
+        done = done.wrapping_add(1);
     }
-    Ok(sum)
-}
-
-/// Three workers at once: the sum of what each did.
-fn work_together<R: Runtime>(
-    rt: R,
-    first: &Receiver<u64, R>,
-    second: &Receiver<u64, R>,
-    third: &Receiver<u64, R>,
-) -> Option<u64> {
-    let (a, (b, c)) = thread::join(
-        &rt,
-        || work(first),
-        || thread::join(&rt, || work(second), || work(third)),
-    );
-    let done = a.ok()?.wrapping_add(b.ok()?).wrapping_add(c.ok()?);
     Some(done)
 }
 
-/// Thirty jobs, and no more.
-fn give_all<R: Wait + Copy>(sender: &Sender<u64, R>) -> Option<()> {
+/// Gives thirty jobs, and no more.
+pub(crate) fn give<R: Wait + Copy>(jobs: Sender<u64, R>) -> Option<u64> {
     for job in 1..31 {
-        sender.try_send(job).ok()?;
+        jobs.send_blocking(job).ok()?;
     }
-    sender.close();
-    Some(())
+    Some(30)
 }
 
-/// What three workers did together.
+/// The sum of all results.
+pub(crate) fn gather<R: Wait + Copy>(results: Receiver<u64, R>) -> Option<u64> {
+    let mut sum = 0u64;
+    for result in &results {
+        sum = sum.wrapping_add(result.ok()?);
+    }
+    Some(sum)
+}
+
+/// That sum where three workers do the jobs.
 pub(crate) fn sum<R: Runtime>(rt: R, alloc: Global, ids: &mut EventIds) -> Option<u64> {
-    let (sender, first) = unbounded(rt, alloc, ids).ok()?;
-    let second = first.try_clone().ok()?;
-    let third = first.try_clone().ok()?;
-    give_all(&sender)?;
-    work_together(rt, &first, &second, &third)
+    let (jobs, todo) = bounded(rt, alloc, 4, ids).ok()?;
+    let (done, results) = bounded(rt, alloc, 4, ids).ok()?;
+    let mut threads = Vec::new(alloc);
+    for _ in 0..3 {
+        let worker = Job::Work(todo.try_clone().ok()?, done.try_clone().ok()?);
+        threads.push(worker).ok()?;
+    }
+    // The workers alone have these: with the last of them the results end, and jobs are refused.
+    drop(todo);
+    drop(done);
+    threads.push(Job::Give(jobs)).ok()?;
+    threads.push(Job::Gather(results)).ok()?;
+    last(&at_once(rt, alloc, threads)?)
 }

@@ -2,7 +2,6 @@
 
 use event_listener::{Additional, List, ListenError, Notify, Wakes};
 use std::alloc::Global;
-use std::io;
 
 /// Whose turn it is.
 #[derive(Drop)]
@@ -53,33 +52,22 @@ impl Semaphore {
     }
 }
 
-/// Three clients ask for a permit.
-fn ask<R: Print>(rt: &R, semaphore: &mut Semaphore) -> io::Result<()> {
-    for client in 1..4 {
-        match semaphore.acquire(client) {
-            Ok(has) => println!(rt; "a semaphore: client {client} has a permit: {has}")?,
-            Err(error) => println!(rt; "a semaphore: {error}")?,
-        }
-    }
-    Ok(())
-}
-
-/// Each that has a permit gives it back.
-fn give_back<R: Print>(rt: &R, semaphore: &mut Semaphore) -> io::Result<()> {
-    for _ in 0..3 {
-        if let Some(client) = semaphore.release() {
-            println!(rt; "a semaphore: next is client {client}")?;
-        }
-    }
-    Ok(())
-}
-
-/// Prints which of three clients has a permit, and who is next.
-pub fn show<R: Print>(rt: &R, alloc: Global) -> io::Result<()> {
+/// Three clients ask for the only permit, and each that has it gives it back: in which order they have it, as a number of three digits.
+pub(crate) fn order(alloc: Global) -> Option<u64> {
     let mut semaphore = Semaphore {
         free: 1,
         waiting: List::new(alloc),
     };
-    ask(rt, &mut semaphore)?;
-    give_back(rt, &mut semaphore)
+    let mut order = 0u64;
+    for client in 1..4 {
+        if semaphore.acquire(client).ok()? {
+            order = order.wrapping_mul(10).wrapping_add(u64::from(client));
+        }
+    }
+    for _ in 0..3 {
+        if let Some(client) = semaphore.release() {
+            order = order.wrapping_mul(10).wrapping_add(u64::from(client));
+        }
+    }
+    Some(order)
 }

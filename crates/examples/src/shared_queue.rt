@@ -1,58 +1,48 @@
 //! A queue between two threads.
 
+use crate::jobs::{Job, second_of_two};
+use async_channel::Runtime;
 use concurrent_queue::{ConcurrentQueue, PopError, PushError};
-use std::alloc::{AllocError, Global};
+use std::alloc::Global;
 use std::sync::Wait;
-use std::thread::Threads;
-use std::{io, thread};
+use std::thread;
 
-/// Pushes these messages, each as soon as there is room, and closes the queue.
-fn send<R: Wait>(rt: &R, queue: &ConcurrentQueue<u64>, messages: &[u64]) {
-    for message in messages {
-        for _ in rt.forever() {
-            match queue.push(rt, *message) {
-                Err(PushError::Full(_)) => thread::yield_now(),
-                _ => break,
-            }
+/// Pushes a message as soon as there is room for it.
+fn push<R: Wait + Copy>(rt: R, queue: &ConcurrentQueue<u64>, message: u64) -> Option<()> {
+    for _ in rt.forever() {
+        match queue.push(&rt, message) {
+            Ok(()) => return Some(()),
+            Err(PushError::Full(_)) => thread::yield_now(),
+            Err(_) => break,
         }
     }
-    queue.close();
+    None
 }
 
-/// Pops until the queue is closed and empty.
-fn receive<R: Wait>(
-    rt: &R,
-    queue: &ConcurrentQueue<u64>,
-    alloc: Global,
-) -> Result<Vec<u64>, AllocError> {
-    let mut received = Vec::new(alloc);
+/// Pushes the numbers 1 to 4, and closes the queue.
+pub(crate) fn push_all<R: Wait + Copy>(rt: R, queue: &ConcurrentQueue<u64>) -> Option<u64> {
+    for number in 1..5 {
+        push(rt, queue, number)?;
+    }
+    queue.close();
+    Some(4)
+}
+
+/// Pops until the queue is closed and empty: what came, as one number, a digit each.
+pub(crate) fn pop_all<R: Wait + Copy>(rt: R, queue: &ConcurrentQueue<u64>) -> Option<u64> {
+    let mut came = 0u64;
     for _ in rt.forever() {
-        match queue.pop(rt) {
-            Ok(message) => received.push(message)?,
+        match queue.pop(&rt) {
+            Ok(number) => came = came.wrapping_mul(10).wrapping_add(number),
             Err(PopError::Empty) => thread::yield_now(),
             Err(PopError::Closed) => break,
         }
     }
-    Ok(received)
+    Some(came)
 }
 
-fn show_over<R: Threads + Wait + Print + Sync>(
-    rt: &R,
-    queue: &ConcurrentQueue<u64>,
-    alloc: Global,
-) -> io::Result<()> {
-    let (_, received) = thread::join(
-        rt,
-        || send(rt, queue, &[10, 20, 30, 40]),
-        || receive(rt, queue, alloc),
-    );
-    println!(rt; "a queue between two threads: {:?}", received?)
-}
-
-/// Prints what the receiving thread got. It may wait.
-pub fn show<R: Threads + Wait + Print + Sync>(rt: &R, alloc: Global) -> io::Result<()> {
-    match ConcurrentQueue::bounded(alloc, 2) {
-        Ok(queue) => show_over(rt, &queue, alloc),
-        Err(error) => println!(rt; "a queue between two threads: {error}"),
-    }
+/// That number for four messages through two places.
+pub(crate) fn came<R: Runtime>(rt: R, alloc: Global) -> Option<u64> {
+    let queue = ConcurrentQueue::bounded(alloc, 2).ok()?;
+    second_of_two(rt, alloc, Job::Push(&queue), Job::Pop(&queue))
 }

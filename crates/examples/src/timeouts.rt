@@ -1,94 +1,144 @@
-//! A receive and a send that have so much time, by the kit's timers. A send whose time is over has kept its message.
+//! A receive and a send with a time limit, to copy.
 
-ghost use Rattle.tokio.specs.Timers.{timeout_future};
-
-use async_channel::{EventIds, Receiver, Runtime, Sender, bounded};
+use crate::jobs::{Job, at_once, last};
+use async_channel::{
+    EventIds, ListenError, Receiver, RecvError, Refused, Runtime, SendError, Sender, TryRecvError,
+    TrySendError, bounded,
+};
+use event_listener::{Event, Parker};
 use futures::Future;
 use futures::executor::block_on;
-use futures::task::{Context, Poll};
+use futures::future::{Either, select};
 use std::alloc::Global;
 use std::thread;
 use std::time::{Clock, Duration, Instant};
-use tokio::time::{Driver, Timeout};
 
-/// How many milliseconds each has.
-const MILLIS: u64 = 20;
-
-/// A future with the timers that it waits for: a thread that has no other tasks turns them itself, between short sleeps. `None`
-/// where the clock can't be read.
-#[derive(Drop)]
-struct Timed<'a, F, R> {
-    rt: &'a R,
-    timers: &'a mut Driver,
-    future: Timeout<F>,
-}
-
-impl<F: Future, R: Clock> Future for Timed<'_, F, R> {
-    type Output = Option<Result<F::Output, ()>>;
-
-    ghost use Rattle.tokio.specs.Timers.{timeout_future};
-
-    ghost can_poll = { λ t. F.can_poll (timeout_future t.future) };
-
-    fn poll(&mut self, cx: &mut Context<'_>) -> Poll<Option<Result<F::Output, ()>>> {
-        if let Poll::Ready(answer) = self.future.poll(cx) {
-            return Poll::Ready(Some(answer.map_err(|_| ())));
-        }
-        let Ok(now) = Instant::now(self.rt) else {
-            return Poll::Ready(None);
-        };
-        let _ = self.timers.turn(cx, now);
-        thread::sleep(self.rt, Duration::from_millis(1));
-        cx.yield_now()
-    }
-}
-
-/// What a future came to; `Err` where its time was over first, and `None` where there was no memory or no clock.
-fn waits<R: Runtime, F: Future>(
-    rt: &R,
-    timers: &mut Driver,
-    future: Timeout<F>,
-) -> Option<Result<F::Output, ()>>
-    requires { F.can_poll (timeout_future future) }
-{
-    let timed = Timed { rt, timers, future };
-    block_on(rt, timed).ok()?
-}
-
-/// Whether no message came in time.
-fn receives_in_vain<R: Runtime>(
+/// Polls a future until it is ready or the time is over: its output, or `None`. `Err` where memory was refused. The thread sleeps until
+/// the future is woken or the time is over; a clock that can't be read counts as time that is over.
+///
+/// A helper thread keeps the time. It sleeps on a bell for as long as the limit says, and then notifies an event. The calling thread polls
+/// the future and a listener of that event together. If the future is ready first, it rings the bell, which ends the helper's sleep. Both
+/// threads are joined before this returns, so no helper outlives it.
+fn within<F: Future, R: Runtime>(
     rt: R,
-    timers: &mut Driver,
-    receiver: &Receiver<u64, R>,
-) -> Option<bool> {
-    let future = timers
-        .handle()
-        .timeout(&rt, Duration::from_millis(MILLIS), receiver.recv())
-        .ok()?;
-    let answer = waits(&rt, timers, future)?;
-    Some(answer.is_err())
-}
-
-/// The message of a send that found no place in time.
-fn sends_in_vain<R: Runtime>(rt: R, timers: &mut Driver, sender: &Sender<u64, R>) -> Option<u64> {
-    let mut send = sender.send(2);
-    let future = timers
-        .handle()
-        .timeout(&rt, Duration::from_millis(MILLIS), &mut send)
-        .ok()?;
-    match waits(&rt, timers, future)? {
-        Ok(_) => None,
-        Err(()) => send.give_up(),
+    limit: Duration,
+    future: F,
+) -> Result<Option<F::Output>, ListenError>
+    requires { F.can_poll future }
+{
+    let mut ids = EventIds::new(); // of its own, since nobody compares this event with another
+    let id = ids.next().map_err(|_| ListenError::SerialsUsedUp)?;
+    let event = Event::new(rt.alloc(), id);
+    let time_over = event.listen(&rt)?;
+    let bell = Parker::new();
+    let keep_time = || {
+        bell.sleep_for(&rt, &rt, limit);
+        event.notify_additional(&rt, 1);
+    };
+    let poll = ||
+        requires { F.can_poll future }
+    {
+        let first = block_on(&rt, select(future, time_over));
+        bell.ring(&rt);
+        first
+    };
+    let ((), first) = thread::join(&rt, keep_time, poll);
+    match first.map_err(|_| ListenError::NoMemory)? {
+        Either::Left((output, _)) => Ok(Some(output)),
+        Either::Right(_) => Ok(None),
     }
 }
 
-/// The message that a full channel of one place let back, after a receive of the empty one got none.
-pub(crate) fn back<R: Runtime>(rt: R, alloc: Global, ids: &mut EventIds) -> Option<u64> {
-    let (sender, receiver) = bounded(rt, alloc, 1, ids).ok()?;
-    let mut timers = Driver::new(alloc, Instant::now(&rt).ok()?).ok()?;
-    if !receives_in_vain(rt, &mut timers, &receiver)? {
+/// Receives a message, and waits for it no longer than this limit. It is refused as `Empty` once the time is over, and as `Closed` where
+/// the channel is closed and empty. `NoMemory` stands for want of memory and of serials.
+pub(crate) fn recv_within<T: Drop, R: Runtime>(
+    rt: R,
+    receiver: &Receiver<T, R>,
+    limit: Duration,
+) -> Result<T, Refused<TryRecvError>> {
+    match within(rt, limit, receiver.recv()) {
+        Ok(Some(Ok(message))) => Ok(message),
+        Ok(Some(Err(Refused::Plain(RecvError)))) => Err(Refused::Plain(TryRecvError::Closed)),
+        Ok(None) => Err(Refused::Plain(TryRecvError::Empty)),
+        Ok(Some(Err(_))) | Err(_) => Err(Refused::NoMemory(())),
+    }
+}
+
+/// Sends a message, and waits for a place no longer than this limit. It is refused as `Full` once the time is over, and as `Closed` where
+/// the channel is closed. `NoMemory` stands for want of memory and of serials. Each refusal hands the message back.
+pub(crate) fn send_within<T: Drop, R: Runtime>(
+    rt: R,
+    sender: &Sender<T, R>,
+    message: T,
+    limit: Duration,
+) -> Result<(), Refused<TrySendError<T>, T>> {
+    let mut send = sender.send(message);
+    let answer = within(rt, limit, &mut send);
+    if let Ok(Some(Err(Refused::Plain(SendError(message))))) = answer {
+        return Err(Refused::Plain(TrySendError::Closed(message)));
+    }
+    match send.give_up() {
+        None => Ok(()),
+        Some(message) if matches!(answer, Ok(None)) => {
+            Err(Refused::Plain(TrySendError::Full(message)))
+        }
+        Some(message) => Err(Refused::NoMemory(message)),
+    }
+}
+
+/// So many milliseconds are over soon.
+const SHORT: u64 = 20;
+
+/// So many are not over while this program runs.
+const LONG: u64 = 60_000;
+
+/// Sends a 5 after a short time, within a long one.
+pub(crate) fn send_soon<R: Runtime>(rt: R, sender: Sender<u64, R>) -> Option<u64> {
+    thread::sleep(&rt, Duration::from_millis(SHORT));
+    send_within(rt, &sender, 5, Duration::from_millis(LONG)).ok()?;
+    Some(1)
+}
+
+/// Receives what comes after a short time, within a long one. `None` where it was waited for until the end.
+pub(crate) fn receive_soon<R: Runtime>(rt: R, receiver: Receiver<u64, R>) -> Option<u64> {
+    let start = Instant::now(&rt).ok()?;
+    let message = recv_within(rt, &receiver, Duration::from_millis(LONG)).ok()?;
+    let passed = start.elapsed(&rt).ok()?;
+    if passed < Duration::from_millis(LONG) {
+        Some(message)
+    } else {
+        None
+    }
+}
+
+/// The message that a full channel of one place refused once the time was over, after a receive of the empty one got none.
+fn refused<R: Runtime>(rt: R, sender: &Sender<u64, R>, receiver: &Receiver<u64, R>) -> Option<u64> {
+    let limit = Duration::from_millis(SHORT);
+    let none = recv_within(rt, receiver, limit).err()?;
+    if !none.is_empty() {
         return None;
     }
-    sender.try_send(1).ok()?;
-    sends_in_vain(rt, &mut timers, &sender)
+    send_within(rt, sender, 1, limit).ok()?;
+    let full = send_within(rt, sender, 2, limit).err()?;
+    let message = receiver.try_recv().ok()?;
+    if full.is_full() && message == 1 {
+        Some(full.into_inner())
+    } else {
+        None
+    }
+}
+
+/// That message, and one that came in time, as one number.
+pub(crate) fn refused_and_received<R: Runtime>(
+    rt: R,
+    alloc: Global,
+    ids: &mut EventIds,
+) -> Option<u64> {
+    let (sender, receiver) = bounded(rt, alloc, 1, ids).ok()?;
+    let back = refused(rt, &sender, &receiver)?;
+    let mut threads = Vec::with_capacity(alloc, 2).ok()?;
+    threads.push(Job::SendSoon(sender)).ok()?;
+    threads.push(Job::ReceiveSoon(receiver)).ok()?;
+    let came = last(&at_once(rt, alloc, threads)?)?;
+    Some(back.wrapping_mul(10).wrapping_add(came))
 }

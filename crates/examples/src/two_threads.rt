@@ -5,7 +5,7 @@ use std::alloc::Global;
 use std::sync::Wait;
 use std::thread;
 
-fn send_all<R: Wait + Copy>(sender: Sender<u64, R>) {
+pub(crate) fn send_all<R: Wait + Copy>(sender: Sender<u64, R>) {
     for number in 1..101 {
         if sender.send_blocking(number).is_err() {
             return;
