@@ -44,6 +44,22 @@ long wait(const uint32_t *word, bool by_the_clock, uint32_t expected, const time
     abort();
 }
 
+// What the kit's functions answer that get memory: whether they got it, and where it is.
+struct Block {
+    bool got;
+    void *at;
+};
+
+// Larger than any memory: so a block is refused by the kit's own function.
+constexpr size_t TOO_LARGE = size_t(1) << 62;
+
+// Whether a request for memory is refused: one in so many of a thread that is not the first one, where any are.
+bool is_refused()
+{
+    static const char *often = getenv("SCHEDULES_REFUSED_ONCE_IN");
+    return often && scheduler::self() != 0 && scheduler::random() % atol(often) == 0;
+}
+
 void write_counts()
 {
     const char *path = getenv("SCHEDULES_COUNTS");
@@ -63,6 +79,16 @@ struct WrittenAtTheEnd {
 } // namespace
 
 extern "C" {
+
+Block rattle_alloc(size_t size, size_t align);
+Block rattle_realloc(void *at, size_t kept, size_t size, size_t align);
+
+Block schedules_rattle_alloc(size_t size, size_t align) { return rattle_alloc(is_refused() ? TOO_LARGE : size, align); }
+
+Block schedules_rattle_realloc(void *at, size_t kept, size_t size, size_t align)
+{
+    return rattle_realloc(at, kept, is_refused() ? TOO_LARGE : size, align);
+}
 
 [[noreturn]] void schedules__exit(int status)
 {

@@ -18,9 +18,11 @@ SECONDS = 60
 HANGS = 300
 # The words of a run of a program, or of a part of it: for a seed, sizes that vary, so that few threads and many have their turn. Histories
 # are of two and of three threads: where four or more overlap as they do here, now and then there are too many orders for the judge to
-# decide.
+# decide. In one run of three memory is scarce: so often a thread's request for some is refused.
+SCARCE = "scarce"
+REFUSED_ONCE_IN = 5
 WORDS = {
-    ("channel_histories", ""): lambda seed: [20, 2 + seed % 2, seed * 1000],
+    ("channel_histories", ""): lambda seed: [20, 2 + seed % 2, seed * 1000, *[SCARCE] * (seed % 3 == 0)],
     ("channel_histories", "crowds"): lambda seed: ["crowds", 1 + seed % 4, 2 + seed // 4 % 5],
 }
 COUNTS = ("rounds", "points", "switches", "timed out", "for no reason")
@@ -59,6 +61,8 @@ def built(name, top=TOP, out=OUT):
 def run_once(path, seed, words, threads):
     with tempfile.NamedTemporaryFile(prefix="schedules-") as counts:
         asked = {"SCHEDULES_SEED": str(seed), "SCHEDULES_COUNTS": counts.name}
+        if SCARCE in words:
+            asked["SCHEDULES_REFUSED_ONCE_IN"] = str(REFUSED_ONCE_IN)
         if threads is not None:
             asked["SCHEDULES_THREADS"] = str(threads)
         how = {"env": {**os.environ, **asked}, "stdin": subprocess.DEVNULL}

@@ -13,7 +13,11 @@ pub enum Act {
     SendBlocking,
     TryRecv,
     RecvMany,
+    RecvTooMany,
+    RecvManyInto,
     RecvBlocking,
+    Iter,
+    TryIter,
     PollSend,
     PollRecv,
     PollClosed,
@@ -21,6 +25,10 @@ pub enum Act {
     GiveUpSend,
     GiveUpRecv,
     GiveUpClosed,
+    LetGoSend,
+    LetGoRecv,
+    LetGoClosed,
+    LetGoStream,
     Close,
     Ask(Question),
     CloneSender,
@@ -33,20 +41,28 @@ pub enum Act {
 }
 
 /// How often each call is drawn, of all drawn.
-static WEIGHTS: [(Act, usize); 30] = [
+static WEIGHTS: [(Act, usize); 38] = [
     (Act::TrySend, 14),
     (Act::ForceSend, 14),
     (Act::SendBlocking, 3),
-    (Act::TryRecv, 14),
-    (Act::RecvMany, 14),
+    (Act::TryRecv, 10),
+    (Act::RecvMany, 8),
+    (Act::RecvTooMany, 1),
+    (Act::RecvManyInto, 8),
     (Act::RecvBlocking, 3),
+    (Act::Iter, 3),
+    (Act::TryIter, 8),
     (Act::PollSend, 14),
     (Act::PollRecv, 14),
     (Act::PollClosed, 4),
     (Act::PollNext, 12),
-    (Act::GiveUpSend, 4),
-    (Act::GiveUpRecv, 4),
+    (Act::GiveUpSend, 3),
+    (Act::GiveUpRecv, 3),
     (Act::GiveUpClosed, 1),
+    (Act::LetGoSend, 3),
+    (Act::LetGoRecv, 3),
+    (Act::LetGoClosed, 1),
+    (Act::LetGoStream, 3),
     (Act::Close, 1),
     (Act::Ask(Question::IsClosed), 2),
     (Act::Ask(Question::IsEmpty), 3),
@@ -67,7 +83,7 @@ static WEIGHTS: [(Act, usize); 30] = [
 ];
 
 /// The sum of all weights.
-const ALL: usize = 149;
+const ALL: usize = 167;
 
 impl Act {
     /// The next call of a thread.
@@ -85,7 +101,11 @@ impl<'a, R: Wait + Copy> Party<'a, R> {
             Act::SendBlocking => self.send_blocking(),
             Act::TryRecv => self.try_recv(),
             Act::RecvMany => self.recv_many(),
+            Act::RecvTooMany => self.recv_too_many(),
+            Act::RecvManyInto => self.recv_many_into(),
             Act::RecvBlocking => self.recv_blocking(),
+            Act::Iter => self.next_of_iter(),
+            Act::TryIter => self.next_of_try_iter(),
             Act::PollSend => self.poll_send(),
             Act::PollRecv => self.poll_recv(),
             Act::PollClosed => self.poll_closed(),
@@ -93,6 +113,10 @@ impl<'a, R: Wait + Copy> Party<'a, R> {
             Act::GiveUpSend => self.give_up_send(),
             Act::GiveUpRecv => self.give_up_recv(),
             Act::GiveUpClosed => self.give_up_closed(),
+            Act::LetGoSend => self.let_go_send(),
+            Act::LetGoRecv => self.let_go_recv(),
+            Act::LetGoClosed => self.let_go_closed(),
+            Act::LetGoStream => self.let_go_stream(),
             Act::Close => self.close(),
             Act::Ask(question) => self.ask(question),
             Act::CloneSender => self.clone_sender(),

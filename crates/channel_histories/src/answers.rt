@@ -1,4 +1,4 @@
-//! What a call did, as its answer says.
+//! What a call did, as its answer says. Where memory is scarce it may be refused: then the call did nothing, and its message comes back.
 
 use async_channel::{RecvError, Refused, SendError, TryRecvError, TrySendError};
 use concurrent_queue::error::{ForcePushError, PopError, PushError};
@@ -7,7 +7,11 @@ use futures::task::Poll;
 use history_checker::point::{Did, Point, Sight};
 
 /// A send that doesn't wait.
-pub fn tried_send(message: u64, answer: &Result<(), Refused<TrySendError<u64>, u64>>) -> Did {
+pub fn tried_send(
+    scarce: bool,
+    message: u64,
+    answer: &Result<(), Refused<TrySendError<u64>, u64>>,
+) -> Did {
     match answer {
         Ok(()) => Did::Once(Point::Append(message)),
         Err(Refused::Plain(TrySendError::Full(back))) if *back == message => {
@@ -16,16 +20,18 @@ pub fn tried_send(message: u64, answer: &Result<(), Refused<TrySendError<u64>, u
         Err(Refused::Plain(TrySendError::Closed(back))) if *back == message => {
             Did::saw(Sight::Shut)
         }
+        Err(Refused::NoMemory(back)) => Did::nothing_if(scarce && *back == message),
         Err(_) => Did::Never,
     }
 }
 
 /// A push.
-pub fn pushed(message: u64, answer: &Result<(), PushError<u64>>) -> Did {
+pub fn pushed(scarce: bool, message: u64, answer: &Result<(), PushError<u64>>) -> Did {
     match answer {
         Ok(()) => Did::Once(Point::Append(message)),
         Err(PushError::Full(back)) if *back == message => Did::saw(Sight::Crowded),
         Err(PushError::Closed(back)) if *back == message => Did::saw(Sight::Shut),
+        Err(PushError::NoMemory(back)) => Did::nothing_if(scarce && *back == message),
         Err(_) => Did::Never,
     }
 }
@@ -40,6 +46,7 @@ fn came_in(capacity: Option<usize>, message: u64, oldest: Option<u64>) -> Did {
 
 /// A displacing send.
 pub fn forced_send(
+    scarce: bool,
     capacity: Option<usize>,
     message: u64,
     answer: &Result<Option<u64>, Refused<SendError<u64>, u64>>,
@@ -47,12 +54,14 @@ pub fn forced_send(
     match answer {
         Ok(oldest) => came_in(capacity, message, *oldest),
         Err(Refused::Plain(SendError(back))) if *back == message => Did::saw(Sight::Shut),
+        Err(Refused::NoMemory(back)) => Did::nothing_if(scarce && *back == message),
         Err(_) => Did::Never,
     }
 }
 
 /// A displacing push.
 pub fn forced_push(
+    scarce: bool,
     capacity: Option<usize>,
     message: u64,
     answer: &Result<Option<u64>, ForcePushError<u64>>,
@@ -60,6 +69,7 @@ pub fn forced_push(
     match answer {
         Ok(oldest) => came_in(capacity, message, *oldest),
         Err(ForcePushError::Closed(back)) if *back == message => Did::saw(Sight::Shut),
+        Err(ForcePushError::NoMemory(back)) => Did::nothing_if(scarce && *back == message),
         Err(_) => Did::Never,
     }
 }
@@ -73,13 +83,39 @@ pub fn tried_recv(answer: &Result<u64, TryRecvError>) -> Did {
     }
 }
 
-/// A receive of at most so many messages that took none. One that may take none is never refused.
-pub fn took_none(limit: usize, error: &Refused<TryRecvError>) -> Did {
+/// A receive of at most so many messages that found none. One that may take none is never refused.
+pub fn found_none(limit: usize, error: TryRecvError) -> Did {
     match (limit, error) {
         (0, _) => Did::Never,
-        (_, Refused::Plain(TryRecvError::Empty)) => Did::saw(Sight::Bare),
-        (_, Refused::Plain(TryRecvError::Closed)) => Did::saw(Sight::Spent),
-        _ => Did::Never,
+        (_, TryRecvError::Empty) => Did::saw(Sight::Bare),
+        (_, TryRecvError::Closed) => Did::saw(Sight::Spent),
+    }
+}
+
+/// The same, but memory may have been refused for its list.
+pub fn took_none(scarce: bool, limit: usize, error: &Refused<TryRecvError>) -> Did {
+    match error {
+        Refused::Plain(error) => found_none(limit, *error),
+        Refused::NoMemory(()) => Did::nothing_if(scarce && limit > 0),
+        Refused::SerialsUsedUp(()) => Did::Never,
+    }
+}
+
+/// A step of a walk that doesn't wait.
+pub fn found(item: Option<u64>) -> Did {
+    match item {
+        Some(message) => Did::Once(Point::Take(message)),
+        None => Did::saw(Sight::Over),
+    }
+}
+
+/// A step of a walk that waits.
+pub fn walked(scarce: bool, item: &Option<Result<u64, ListenError>>) -> Did {
+    match item {
+        Some(Ok(message)) => Did::Once(Point::Take(*message)),
+        Some(Err(ListenError::NoMemory)) => Did::nothing_if(scarce),
+        Some(Err(_)) => Did::Never,
+        None => Did::saw(Sight::Spent),
     }
 }
 
@@ -93,49 +129,58 @@ pub fn popped(answer: &Result<u64, PopError>) -> Did {
 }
 
 /// A send that blocks.
-pub fn sent(message: u64, answer: &Result<(), Refused<SendError<u64>, u64>>) -> Did {
+pub fn sent(scarce: bool, message: u64, answer: &Result<(), Refused<SendError<u64>, u64>>) -> Did {
     match answer {
         Ok(()) => Did::Once(Point::Append(message)),
         Err(Refused::Plain(SendError(back))) if *back == message => Did::saw(Sight::Shut),
+        Err(Refused::NoMemory(back)) => Did::nothing_if(scarce && *back == message),
         Err(_) => Did::Never,
     }
 }
 
 /// A receive that blocks.
-pub fn received(answer: &Result<u64, Refused<RecvError>>) -> Did {
+pub fn received(scarce: bool, answer: &Result<u64, Refused<RecvError>>) -> Did {
     match answer {
         Ok(message) => Did::Once(Point::Take(*message)),
         Err(Refused::Plain(RecvError)) => Did::saw(Sight::Spent),
+        Err(Refused::NoMemory(())) => Did::nothing_if(scarce),
         Err(_) => Did::Never,
     }
 }
 
 /// A poll of a send. One that is pending found the channel full.
-pub fn polled_send(message: u64, answer: &Poll<Result<(), Refused<SendError<u64>>>>) -> Did {
+pub fn polled_send(
+    scarce: bool,
+    message: u64,
+    answer: &Poll<Result<(), Refused<SendError<u64>>>>,
+) -> Did {
     match answer {
         Poll::Ready(Ok(())) => Did::Once(Point::Append(message)),
         Poll::Ready(Err(Refused::Plain(SendError(back)))) if *back == message => {
             Did::saw(Sight::Shut)
         }
+        Poll::Ready(Err(Refused::NoMemory(()))) => Did::nothing_if(scarce),
         Poll::Ready(Err(_)) => Did::Never,
         Poll::Pending => Did::saw(Sight::Crowded),
     }
 }
 
 /// A poll of a receive. One that is pending found the channel empty.
-pub fn polled_recv(answer: &Poll<Result<u64, Refused<RecvError>>>) -> Did {
+pub fn polled_recv(scarce: bool, answer: &Poll<Result<u64, Refused<RecvError>>>) -> Did {
     match answer {
         Poll::Ready(Ok(message)) => Did::Once(Point::Take(*message)),
         Poll::Ready(Err(Refused::Plain(RecvError))) => Did::saw(Sight::Spent),
+        Poll::Ready(Err(Refused::NoMemory(()))) => Did::nothing_if(scarce),
         Poll::Ready(Err(_)) => Did::Never,
         Poll::Pending => Did::saw(Sight::Bare),
     }
 }
 
 /// A poll of a wait for the closing. One that is pending found the channel open.
-pub fn polled_closed(answer: &Poll<Result<(), ListenError>>) -> Did {
+pub fn polled_closed(scarce: bool, answer: &Poll<Result<(), ListenError>>) -> Did {
     match answer {
         Poll::Ready(Ok(())) => Did::saw(Sight::Shut),
+        Poll::Ready(Err(ListenError::NoMemory)) => Did::nothing_if(scarce),
         Poll::Ready(Err(_)) => Did::Never,
         Poll::Pending => Did::saw(Sight::Open),
     }
@@ -143,11 +188,13 @@ pub fn polled_closed(answer: &Poll<Result<(), ListenError>>) -> Did {
 
 /// A poll of a stream. One that is pending found the channel empty, unless it waited before: then it only asks whether it was
 /// told.
-pub fn polled_next(waited: bool, answer: &Poll<Option<Result<u64, ListenError>>>) -> Did {
+pub fn polled_next(
+    scarce: bool,
+    waited: bool,
+    answer: &Poll<Option<Result<u64, ListenError>>>,
+) -> Did {
     match answer {
-        Poll::Ready(Some(Ok(message))) => Did::Once(Point::Take(*message)),
-        Poll::Ready(Some(Err(_))) => Did::Never,
-        Poll::Ready(None) => Did::saw(Sight::Spent),
+        Poll::Ready(item) => walked(scarce, item),
         Poll::Pending if waited => Did::Nothing,
         Poll::Pending => Did::saw(Sight::Bare),
     }

@@ -2,6 +2,7 @@
 
 use crate::leaving::{let_go, upgrade_receiver, upgrade_sender};
 use crate::party::Party;
+use async_channel::Receiver;
 use history_checker::log::Log;
 use history_checker::point::{Did, Point, Side};
 use std::sync::Wait;
@@ -20,21 +21,31 @@ impl<'a, R: Wait + Copy> Party<'a, R> {
         match self.hands.sender.try_clone() {
             Ok(sender) => {
                 self.note(begin, Did::Once(Point::Raise(Side::Senders)));
-                keep(&mut self.senders, sender, self.log);
+                keep(&mut self.kept.senders, sender, self.log);
             }
             Err(_) => self.log.spoiled = true,
         }
     }
 
-    /// One more receiver.
-    pub fn clone_receiver(&mut self) {
+    /// One more receiver, made now; none where it was refused.
+    pub fn one_more_receiver(&mut self) -> Option<Receiver<u64, R>> {
         let begin = self.stamps.stamp();
         match self.hands.receiver.try_clone() {
             Ok(receiver) => {
                 self.note(begin, Did::Once(Point::Raise(Side::Receivers)));
-                keep(&mut self.receivers, receiver, self.log);
+                Some(receiver)
             }
-            Err(_) => self.log.spoiled = true,
+            Err(_) => {
+                self.log.spoiled = true;
+                None
+            }
+        }
+    }
+
+    /// One more receiver.
+    pub fn clone_receiver(&mut self) {
+        if let Some(receiver) = self.one_more_receiver() {
+            keep(&mut self.kept.receivers, receiver, self.log);
         }
     }
 
@@ -42,7 +53,7 @@ impl<'a, R: Wait + Copy> Party<'a, R> {
     pub fn upgrade_sender(&mut self) {
         let made = upgrade_sender(&self.hands.weak_sender, self.stamps, self.log);
         if let Some(sender) = made {
-            keep(&mut self.senders, sender, self.log);
+            keep(&mut self.kept.senders, sender, self.log);
         }
     }
 
@@ -50,7 +61,7 @@ impl<'a, R: Wait + Copy> Party<'a, R> {
     pub fn upgrade_receiver(&mut self) {
         let made = upgrade_receiver(&self.hands.weak_receiver, self.stamps, self.log);
         if let Some(receiver) = made {
-            keep(&mut self.receivers, receiver, self.log);
+            keep(&mut self.kept.receivers, receiver, self.log);
         }
     }
 
@@ -68,14 +79,14 @@ impl<'a, R: Wait + Copy> Party<'a, R> {
 
     /// The last sender that was made is dropped.
     pub fn drop_sender(&mut self) {
-        if let Some(sender) = self.senders.pop() {
+        if let Some(sender) = self.kept.senders.pop() {
             let_go(sender, Side::Senders, self.stamps, self.log);
         }
     }
 
     /// The last receiver that was made is dropped.
     pub fn drop_receiver(&mut self) {
-        if let Some(receiver) = self.receivers.pop() {
+        if let Some(receiver) = self.kept.receivers.pop() {
             let_go(receiver, Side::Receivers, self.stamps, self.log);
         }
     }

@@ -3,7 +3,7 @@
 use crate::place::Standing;
 use history_checker::history::History;
 use history_checker::log::Log;
-use std::alloc::Global;
+use std::alloc::{AllocError, Global};
 use std::rt::Clock;
 use std::sync::atomic::{AtomicU64, Ordering};
 use std::thread;
@@ -29,6 +29,14 @@ pub enum Failure {
     Thread,
     /// Nothing moves any more, and the threads stand so, as far as they say it.
     Still(Vec<Standing>),
+}
+
+/// The log of a thread that has made no call, with room for so many moments: so the thread asks for no memory but by its calls.
+pub fn log_with_room(alloc: Global, moments: usize) -> Result<Log, AllocError> {
+    Ok(Log {
+        moments: Vec::with_capacity(alloc, moments)?,
+        spoiled: false,
+    })
 }
 
 /// A history, unless there is none.

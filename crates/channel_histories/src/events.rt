@@ -23,12 +23,12 @@ const LONGEST: usize = 30_000;
 
 const MOST_TOLD: usize = 3;
 
-/// What threads did: how many notices were counted as told, how many were taken, and whether memory was refused.
+/// What threads did: how many notices were counted as told, how many were taken, and how many calls were refused memory.
 #[derive(Clone, Copy, PartialEq, Eq, Debug)]
 pub struct Tally {
     pub told: usize,
     pub taken: usize,
-    pub refused: bool,
+    pub refused: usize,
 }
 
 impl Tally {
@@ -36,7 +36,7 @@ impl Tally {
         Tally {
             told: 0,
             taken: 0,
-            refused: false,
+            refused: 0,
         }
     }
 
@@ -44,13 +44,15 @@ impl Tally {
         Tally {
             told: self.told.wrapping_add(other.told),
             taken: self.taken.wrapping_add(other.taken),
-            refused: self.refused || other.refused,
+            refused: self.refused.wrapping_add(other.refused),
         }
     }
 
-    /// Whether each notice that was counted was taken.
-    pub fn is_right(self) -> bool {
-        self.told == self.taken && !self.refused
+    /// Whether each notice that was counted was taken, and memory was refused only where it may be. A wait that is refused lets its
+    /// listener go, and with it a notice that nobody else waits for.
+    pub fn is_right(self, scarce: bool) -> bool {
+        let lost = self.told.wrapping_sub(self.taken);
+        lost <= self.refused && (scarce || self.refused == 0)
     }
 }
 
@@ -99,7 +101,7 @@ fn took(answer: Option<bool>) -> Tally {
     Tally {
         told: 0,
         taken: usize::from(answer == Some(true)),
-        refused: answer.is_none(),
+        refused: usize::from(answer.is_none()),
     }
 }
 

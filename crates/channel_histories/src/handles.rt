@@ -1,10 +1,10 @@
 //! A history over the handles of one channel.
 
-use crate::crew::{Ended, Failure, Outcome, join_all};
+use crate::crew::{Ended, Failure, Outcome, join_all, log_with_room};
 use crate::form::Form;
 use crate::gate::Gate;
-use crate::job::{Job, Shared, may_block, run_job};
-use crate::party::Hands;
+use crate::job::{CALLS, Job, MOMENTS, Shared, may_block, run_job};
+use crate::party::{Hands, Kept};
 use crate::place::Place;
 use crate::referee::Referee;
 use async_channel::{Receiver, Runtime, Sender, bounded, unbounded};
@@ -56,24 +56,20 @@ where
         seed,
         place,
         hands,
-        stream,
+        kept: Kept::new(stream, alloc, CALLS)?,
+        log: log_with_room(alloc, MOMENTS).ok()?,
     })
 }
 
 /// Starts a thread with this job.
-fn start<R>(
-    rt: R,
-    alloc: Global,
-    shared: &Arc<Shared>,
-    job: Job<R>,
-) -> Result<JoinHandle<Log>, Failure>
+fn start<R>(rt: R, shared: &Arc<Shared>, job: Job<R>) -> Result<JoinHandle<Log>, Failure>
 where
     R: Runtime + 'static,
 {
     let Ok(shared) = Arc::try_clone(shared) else {
         return Err(Failure::Memory);
     };
-    let work = move || run_job(rt, alloc, &shared, job);
+    let work = move || run_job(rt, &shared, job);
     thread::spawn(&rt, work).ok().ok_or(Failure::Thread)
 }
 
@@ -91,7 +87,7 @@ where
 {
     for _ in 0..shared.threads {
         let job = new_job(rt, alloc, referee, seed).ok_or(Failure::Memory)?;
-        let one = start(rt, alloc, shared, job)?;
+        let one = start(rt, shared, job)?;
         if started.push(one).is_err() {
             return Err(Failure::Memory);
         }
@@ -100,13 +96,14 @@ where
 }
 
 /// What threads share that have not begun; none where memory was refused.
-fn share(alloc: Global, threads: usize) -> Option<Arc<Shared>> {
+fn share(alloc: Global, threads: usize, scarce: bool) -> Option<Arc<Shared>> {
     let shared = Shared {
         stamps: Stamps::new(),
         begin: Gate::new(),
         rest: Gate::new(),
         ended: Ended::new(),
         threads: threads as u64,
+        scarce,
     };
     Arc::new(alloc, shared).ok()
 }
@@ -142,7 +139,14 @@ where
 }
 
 /// A history over the handles of a channel of this form. The referee has two handles, and is one thread more.
-pub fn over_handles<R>(rt: R, alloc: Global, form: Form, threads: usize, seed: u64) -> Outcome
+pub fn over_handles<R>(
+    rt: R,
+    alloc: Global,
+    form: Form,
+    threads: usize,
+    seed: u64,
+    scarce: bool,
+) -> Outcome
 where
     R: Runtime + 'static,
 {
@@ -152,7 +156,7 @@ where
         logs: Vec::new(alloc),
         rests: Vec::new(alloc),
     };
-    let shared = share(alloc, threads).ok_or(Failure::Memory)?;
+    let shared = share(alloc, threads, scarce).ok_or(Failure::Memory)?;
     let ends = open(rt, alloc, form).ok_or(Failure::Memory)?;
     run(rt, alloc, &shared, ends, seed, &mut history)?;
     Ok(history)

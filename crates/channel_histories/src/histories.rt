@@ -24,15 +24,22 @@ pub struct Amount {
     histories: u64,
     threads: Option<u64>,
     seed: u64,
+    scarce: bool,
 }
 
 impl Amount {
-    /// So many of each form, of so many threads, the first of this seed.
-    pub fn new(histories: Option<u64>, threads: Option<u64>, seed: Option<u64>) -> Amount {
+    /// So many of each form, of so many threads, the first of this seed. Where memory is scarce calls may be refused it.
+    pub fn new(
+        histories: Option<u64>,
+        threads: Option<u64>,
+        seed: Option<u64>,
+        scarce: bool,
+    ) -> Amount {
         Amount {
             histories: histories.unwrap_or(HISTORIES),
             threads,
             seed: seed.unwrap_or(SEED),
+            scarce,
         }
     }
 
@@ -128,9 +135,9 @@ fn fits_outcome<R: Print>(rt: &R, alloc: Global, outcome: Outcome) -> io::Result
 }
 
 /// Whether each notice of this history was taken. What is wrong with it, or why there is none, is printed.
-fn took_all<R: Print>(rt: &R, outcome: Result<Tally, Failure>) -> io::Result<bool> {
+fn took_all<R: Print>(rt: &R, outcome: Result<Tally, Failure>, scarce: bool) -> io::Result<bool> {
     match outcome {
-        Ok(tally) if tally.is_right() => Ok(true),
+        Ok(tally) if tally.is_right(scarce) => Ok(true),
         Ok(tally) => {
             println!(rt; "{tally:?}")?;
             Ok(false)
@@ -143,20 +150,27 @@ fn took_all<R: Print>(rt: &R, outcome: Result<Tally, Failure>) -> io::Result<boo
 }
 
 /// The history of this seed. Whether it fits.
-fn check_one<R>(rt: R, alloc: Global, over: Over, threads: usize, seed: u64) -> io::Result<bool>
+fn check_one<R>(
+    rt: R,
+    alloc: Global,
+    over: Over,
+    threads: usize,
+    seed: u64,
+    scarce: bool,
+) -> io::Result<bool>
 where
     R: Runtime + Print + 'static,
 {
     match over {
         Over::Handles(form) => {
-            let outcome = over_handles(rt, alloc, form, threads, seed);
+            let outcome = over_handles(rt, alloc, form, threads, seed, scarce);
             fits_outcome(&rt, alloc, outcome)
         }
         Over::Queue(form) => {
-            let outcome = over_queue(rt, alloc, form, threads, seed);
+            let outcome = over_queue(rt, alloc, form, threads, seed, scarce);
             fits_outcome(&rt, alloc, outcome)
         }
-        Over::Event => took_all(&rt, over_event(rt, alloc, threads, seed)),
+        Over::Event => took_all(&rt, over_event(rt, alloc, threads, seed), scarce),
     }
 }
 
@@ -168,7 +182,7 @@ where
     for number in 0..amount.histories {
         let seed = amount.seed.wrapping_add(number);
         let threads = amount.threads(number);
-        if !check_one(rt, alloc, over, threads, seed)? {
+        if !check_one(rt, alloc, over, threads, seed, amount.scarce)? {
             println!(&rt; "{name}: seed {seed}, {threads} threads")?;
             return Ok(false);
         }

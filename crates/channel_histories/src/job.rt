@@ -2,18 +2,18 @@
 
 use crate::crew::Ended;
 use crate::gate::Gate;
-use crate::leaving::{leave_receiving, leave_sending, let_go};
-use crate::party::{Hands, Party};
+use crate::leaving::{leave_receiving, leave_sending};
+use crate::party::{Hands, Kept, Party};
 use crate::place::{At, Place};
 use crate::random::Random;
-use async_channel::Receiver;
 use history_checker::log::{Log, Stamps};
-use history_checker::point::Side;
-use std::alloc::Global;
 use std::sync::{Arc, Wait};
 
 /// How many calls each thread makes before the rest.
-const CALLS: u64 = 7;
+pub const CALLS: u64 = 7;
+
+/// How many moments all calls of a thread have at most: room for them is there from the start.
+pub const MOMENTS: usize = 100;
 
 /// How far apart the first messages of two threads are.
 const MESSAGES: u64 = 1_000;
@@ -26,6 +26,8 @@ pub struct Shared {
     pub rest: Gate,
     pub ended: Ended,
     pub threads: u64,
+    /// Whether calls may be refused memory.
+    pub scarce: bool,
 }
 
 /// What a thread of a history is given.
@@ -35,7 +37,8 @@ pub struct Job<R: Wait + Copy> {
     pub seed: u64,
     pub place: Arc<Place>,
     pub hands: Hands<R>,
-    pub stream: Receiver<u64, R>,
+    pub kept: Kept<R>,
+    pub log: Log,
 }
 
 /// Whether the threads of a history of this seed may block: in every other one.
@@ -43,7 +46,7 @@ pub fn may_block(seed: u64) -> bool {
     seed % 2 == 0
 }
 
-/// The calls up to the rest, and after it the drops of what was cloned.
+/// The calls up to the rest, and after it the drops of what was cloned, and of the stream.
 fn make_calls<R: Wait + Copy>(rt: &R, party: &mut Party<'_, R>, shared: &Shared, blocks: bool) {
     shared.begin.pass(rt, shared.threads);
     party.make_calls(CALLS, blocks);
@@ -53,6 +56,7 @@ fn make_calls<R: Wait + Copy>(rt: &R, party: &mut Party<'_, R>, shared: &Shared,
         party.drop_sender();
         party.drop_receiver();
     }
+    party.let_go_stream();
 }
 
 /// The number below the messages of this thread.
@@ -60,54 +64,67 @@ fn first_message(thread: usize) -> u64 {
     (thread as u64).wrapping_mul(MESSAGES)
 }
 
-/// The calls of a thread, up to the drops of its operations and of what it cloned; they are noted in the log.
-fn run_party<R: Wait + Copy>(
-    rt: R,
-    alloc: Global,
+/// The handles of a thread go.
+fn leave<R: Wait + Copy>(
     shared: &Shared,
-    job: &mut Job<R>,
-    random: Random,
+    hands: Hands<R>,
+    sends_last: bool,
+    message: u64,
     log: &mut Log,
 ) {
-    let mut party = Party::new(
-        rt,
-        &job.hands,
-        &mut job.stream,
-        &job.place,
-        &shared.stamps,
-        random,
-        first_message(job.thread),
-        alloc,
-        log,
-    );
-    make_calls(&rt, &mut party, shared, may_block(job.seed));
-}
-
-/// The handles of a thread go, the stream first.
-fn leave<R: Wait + Copy>(job: Job<R>, sends_last: bool, stamps: &Stamps, log: &mut Log) {
-    let Job {
-        thread,
-        seed: _,
-        place: _,
-        hands,
-        stream,
-    } = job;
-    let_go(stream, Side::Receivers, stamps, log);
+    let stamps = &shared.stamps;
     if sends_last {
-        leave_sending(hands, first_message(thread), stamps, log);
+        leave_sending(hands, message, shared.scarce, stamps, log);
     } else {
         leave_receiving(hands, stamps, log);
     }
 }
 
-/// What one thread does: it drops its sender before its receivers, or after them.
-pub fn run_job<R: Wait + Copy>(rt: R, alloc: Global, shared: &Shared, job: Job<R>) -> Log {
-    let mut job = job;
-    let mut random = Random::new(job.seed, job.thread);
+/// The calls of a thread, up to the drops of its operations and of what it made; they are noted in the log.
+fn run_party<R: Wait + Copy>(
+    rt: R,
+    shared: &Shared,
+    hands: &Hands<R>,
+    place: &Place,
+    kept: Kept<R>,
+    random: Random,
+    seed: u64,
+    message: u64,
+    log: &mut Log,
+) {
+    let stamps = &shared.stamps;
+    let mut party = Party::new(
+        rt,
+        hands,
+        place,
+        stamps,
+        random,
+        shared.scarce,
+        message,
+        kept,
+        log,
+    );
+    make_calls(&rt, &mut party, shared, may_block(seed));
+}
+
+/// What one thread does: it drops its sender before its receiver, or after it.
+pub fn run_job<R: Wait + Copy>(rt: R, shared: &Shared, job: Job<R>) -> Log {
+    let Job {
+        thread,
+        seed,
+        place,
+        hands,
+        kept,
+        log,
+    } = job;
+    let mut log = log;
+    let message = first_message(thread);
+    let mut random = Random::new(seed, thread);
     let sends_last = random.once_in(2);
-    let mut log = Log::new(alloc);
-    run_party(rt, alloc, shared, &mut job, random, &mut log);
-    leave(job, sends_last, &shared.stamps, &mut log);
+    run_party(
+        rt, shared, &hands, &place, kept, random, seed, message, &mut log,
+    );
+    leave(shared, hands, sends_last, message, &mut log);
     shared.ended.note();
     log
 }

@@ -91,6 +91,7 @@ pub fn leave_receiving<R: Wait + Copy>(hands: Hands<R>, stamps: &Stamps, log: &m
 pub fn leave_sending<R: Wait + Copy>(
     hands: Hands<R>,
     message: u64,
+    scarce: bool,
     stamps: &Stamps,
     log: &mut Log,
 ) {
@@ -109,7 +110,8 @@ pub fn leave_sending<R: Wait + Copy>(
     log.note(begin, stamps.stamp(), Did::saw(receivers));
     let begin = stamps.stamp();
     let answer = sender.try_send(message);
-    log.note(begin, stamps.stamp(), tried_send(message, &answer));
+    let grows = scarce && sender.capacity().is_none();
+    log.note(begin, stamps.stamp(), tried_send(grows, message, &answer));
     if let Some(another) = upgrade_receiver(&weak_receiver, stamps, log) {
         let_go(another, Side::Receivers, stamps, log);
     }

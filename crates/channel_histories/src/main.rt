@@ -2,7 +2,8 @@
 //! crowds of threads whose messages are counted (`crowds`).
 //!
 //! Without words a thousand histories of each form are made, of three and four threads, and then the crowds.
-//! `channel_histories HISTORIES THREADS SEED` makes so many histories alone. `channel_histories crowds MESSAGES THREADS` makes the
+//! `channel_histories HISTORIES THREADS SEED` makes so many histories alone; with a fourth word, `scarce`, one in which calls may be
+//! refused memory is right too. `channel_histories crowds MESSAGES THREADS` makes the
 //! crowds alone, where each sender has so many messages, and which are of so many threads; `channel_histories times` says how long it
 //! takes to wake one of many.
 #![tactic(auto)]
@@ -56,14 +57,22 @@ fn number(word: &Option<String>) -> Option<u64> {
 }
 
 /// What these words ask for.
-fn read(first: Option<String>, second: Option<String>, third: Option<String>) -> Asked {
+fn read(
+    first: Option<String>,
+    second: Option<String>,
+    third: Option<String>,
+    scarce: bool,
+) -> Asked {
     let Some(word) = &first else {
         return Asked::All;
     };
     match word.as_str() {
         "crowds" => Asked::Crowds(crowd_size(number(&second), number(&third))),
         "times" => Asked::Times,
-        _ => Asked::Histories(Amount::new(number(&first), number(&second), number(&third))),
+        _ => {
+            let (histories, threads, seed) = (number(&first), number(&second), number(&third));
+            Asked::Histories(Amount::new(histories, threads, seed, scarce))
+        }
     }
 }
 
@@ -71,13 +80,14 @@ fn read(first: Option<String>, second: Option<String>, third: Option<String>) ->
 fn read_words<R: Env + Alloc<A = Global>>(rt: &R) -> io::Result<Asked> {
     let mut words = env::args(rt)?.skip(1);
     let (first, second, third) = (words.next(), words.next(), words.next());
+    let scarce = words.next().is_some();
     drop(words);
-    Ok(read(first, second, third))
+    Ok(read(first, second, third, scarce))
 }
 
 /// Makes all that the gate makes. Whether nothing is wrong.
 fn run_all<R: Runtime + Print + 'static>(rt: R, alloc: Global) -> io::Result<bool> {
-    if fit(rt, alloc, Amount::new(None, None, None))? {
+    if fit(rt, alloc, Amount::new(None, None, None, false))? {
         hold(rt, alloc, crowd_size(None, None))
     } else {
         Ok(false)

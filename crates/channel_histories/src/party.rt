@@ -3,7 +3,9 @@
 use crate::acts::Act;
 use crate::place::{At, Place, Standing};
 use crate::random::Random;
-use async_channel::{Closed, Receiver, Recv, Send, Sender, WeakReceiver, WeakSender};
+use async_channel::{
+    Closed, Iter, Receiver, Recv, Send, Sender, TryIter, WeakReceiver, WeakSender,
+};
 use history_checker::log::{Log, Stamps};
 use history_checker::point::Did;
 use std::alloc::Global;
@@ -31,15 +33,41 @@ impl<R: Wait + Copy> Hands<R> {
     }
 }
 
+/// How many messages fit into the list of a receive of several.
+const ROOM: usize = 4;
+
+/// What a thread makes and fills. Each list has room from the start, so that a thread asks for no memory but by calls of the channel.
+#[derive(Drop)]
+pub struct Kept<R: Wait + Copy> {
+    /// The receiver that is polled as a stream.
+    pub stream: Option<Receiver<u64, R>>,
+    pub senders: Vec<Sender<u64, R>>,
+    pub receivers: Vec<Receiver<u64, R>>,
+    pub messages: Vec<u64>,
+}
+
+impl<R: Wait + Copy> Kept<R> {
+    /// This stream, and room for what so many calls make.
+    pub fn new(stream: Receiver<u64, R>, alloc: Global, calls: u64) -> Option<Kept<R>> {
+        Some(Kept {
+            stream: Some(stream),
+            senders: Vec::with_capacity(alloc, calls as usize).ok()?,
+            receivers: Vec::with_capacity(alloc, calls as usize).ok()?,
+            messages: Vec::with_capacity(alloc, ROOM).ok()?,
+        })
+    }
+}
+
 /// A thread's handles, operations and log.
 #[derive(Drop)]
 pub struct Party<'a, R: Wait + Copy> {
     rt: R,
     pub hands: &'a Hands<R>,
-    pub stream: &'a mut Receiver<u64, R>,
     pub place: &'a Place,
     pub stamps: &'a Stamps,
     pub random: Random,
+    /// Whether calls may be refused memory.
+    pub scarce: bool,
     /// The last new message.
     pub message: u64,
     /// The message of the send that waits.
@@ -47,10 +75,12 @@ pub struct Party<'a, R: Wait + Copy> {
     pub send: Option<Send<'a, u64, R>>,
     pub recv: Option<Recv<'a, u64, R>>,
     pub closed: Option<Closed<'a, u64, R>>,
-    /// Whether the stream's last poll was pending.
-    pub streams: bool,
-    pub senders: Vec<Sender<u64, R>>,
-    pub receivers: Vec<Receiver<u64, R>>,
+    /// A walk that waits.
+    pub iter: Iter<'a, u64, R>,
+    /// A walk that doesn't.
+    pub try_iter: TryIter<'a, u64, R>,
+    pub standing: Standing,
+    pub kept: Kept<R>,
     pub log: &'a mut Log,
 }
 
@@ -59,31 +89,37 @@ impl<'a, R: Wait + Copy> Party<'a, R> {
     pub fn new(
         rt: R,
         hands: &'a Hands<R>,
-        stream: &'a mut Receiver<u64, R>,
         place: &'a Place,
         stamps: &'a Stamps,
         random: Random,
+        scarce: bool,
         message: u64,
-        alloc: Global,
+        kept: Kept<R>,
         log: &'a mut Log,
     ) -> Party<'a, R> {
         Party {
             rt,
             hands,
-            stream,
             place,
             stamps,
             random,
+            scarce,
             message,
             sending: message,
             send: None,
             recv: None,
             closed: None,
-            streams: false,
-            senders: Vec::new(alloc),
-            receivers: Vec::new(alloc),
+            iter: hands.receiver.iter(),
+            try_iter: hands.receiver.try_iter(),
+            standing: Standing::new(),
+            kept,
             log,
         }
+    }
+
+    /// Whether a send may be refused memory that doesn't wait: only a channel without a bound asks for any.
+    pub fn grows(&self) -> bool {
+        self.scarce && self.hands.sender.capacity().is_none()
     }
 
     /// The next new message.
@@ -99,15 +135,9 @@ impl<'a, R: Wait + Copy> Party<'a, R> {
     }
 
     /// It is at this now, with what is pending.
-    pub fn stand(&self, at: At) {
-        let standing = Standing {
-            at,
-            send: self.send.is_some(),
-            recv: self.recv.is_some(),
-            closed: self.closed.is_some(),
-            stream: self.streams,
-        };
-        self.place.say(&self.rt, standing);
+    pub fn stand(&mut self, at: At) {
+        self.standing.at = at;
+        self.place.say(&self.rt, self.standing);
     }
 
     /// Makes so many calls, with a yield before some of them. It blocks only where it may.
@@ -119,6 +149,7 @@ impl<'a, R: Wait + Copy> Party<'a, R> {
             match Act::draw(&mut self.random) {
                 Act::SendBlocking if !may_block => self.try_send(),
                 Act::RecvBlocking if !may_block => self.try_recv(),
+                Act::Iter if !may_block => self.next_of_try_iter(),
                 act => self.act(act),
             }
         }

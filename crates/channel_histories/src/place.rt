@@ -9,23 +9,63 @@ use std::io;
 use std::random::RandomSource;
 use std::sync::{Mutex, Wait};
 
-/// The tasks that poll: one for each kind of operation.
+/// Which of two tasks polls.
+#[derive(Clone, Copy, PartialEq, Eq, Debug)]
+pub enum By {
+    First,
+    Second,
+}
+
+/// Two tasks that poll one operation in turn.
+#[derive(Drop)]
+pub struct Pair {
+    first: MockTask,
+    second: MockTask,
+}
+
+impl Pair {
+    /// Tasks that were not woken; refused where memory or random bits are.
+    fn new<R: RandomSource + AllocGlobal>(rt: &R) -> io::Result<Pair> {
+        Ok(Pair {
+            first: MockTask::new(rt)?,
+            second: MockTask::new(rt)?,
+        })
+    }
+
+    /// This one of them.
+    pub fn of(&self, by: By) -> &MockTask {
+        match by {
+            By::First => &self.first,
+            By::Second => &self.second,
+        }
+    }
+
+    /// Whether the one was woken that polled last an operation that is pending, if one is.
+    fn is_woken(&self, polled: Option<By>) -> Option<bool> {
+        match polled {
+            Some(by) => Some(self.of(by).is_woken()),
+            None => None,
+        }
+    }
+}
+
+/// The tasks that poll: two for each kind of operation.
 #[derive(Drop)]
 pub struct Tasks {
-    pub send: MockTask,
-    pub recv: MockTask,
-    pub closed: MockTask,
-    pub stream: MockTask,
+    pub send: Pair,
+    pub recv: Pair,
+    pub closed: Pair,
+    pub stream: Pair,
 }
 
 impl Tasks {
     /// Tasks that were not woken; refused where memory or random bits are.
     fn new<R: RandomSource + AllocGlobal>(rt: &R) -> io::Result<Tasks> {
         Ok(Tasks {
-            send: MockTask::new(rt)?,
-            recv: MockTask::new(rt)?,
-            closed: MockTask::new(rt)?,
-            stream: MockTask::new(rt)?,
+            send: Pair::new(rt)?,
+            recv: Pair::new(rt)?,
+            closed: Pair::new(rt)?,
+            stream: Pair::new(rt)?,
         })
     }
 }
@@ -41,14 +81,27 @@ pub enum At {
     Rest,
 }
 
-/// What a thread is at, and which of its operations are pending.
+/// What a thread is at, and of each operation that is pending, who polled it last.
 #[derive(Clone, Copy, PartialEq, Eq, Debug)]
 pub struct Standing {
     pub at: At,
-    pub send: bool,
-    pub recv: bool,
-    pub closed: bool,
-    pub stream: bool,
+    pub send: Option<By>,
+    pub recv: Option<By>,
+    pub closed: Option<By>,
+    pub stream: Option<By>,
+}
+
+impl Standing {
+    /// Of a thread that has made no call.
+    pub fn new() -> Standing {
+        Standing {
+            at: At::Calls,
+            send: None,
+            recv: None,
+            closed: None,
+            stream: None,
+        }
+    }
 }
 
 /// What a thread shares with whoever watches it.
@@ -61,16 +114,9 @@ pub struct Place {
 impl Place {
     /// Of a thread that has made no call; refused where memory or random bits are.
     pub fn new<R: RandomSource + AllocGlobal>(rt: &R) -> io::Result<Place> {
-        let standing = Standing {
-            at: At::Calls,
-            send: false,
-            recv: false,
-            closed: false,
-            stream: false,
-        };
         Ok(Place {
             tasks: Tasks::new(rt)?,
-            standing: Mutex::new(standing),
+            standing: Mutex::new(Standing::new()),
         })
     }
 
@@ -94,10 +140,10 @@ impl Place {
         };
         let tasks = &self.tasks;
         Some(Look {
-            send: standing.send.then_some(tasks.send.is_woken()),
-            recv: standing.recv.then_some(tasks.recv.is_woken()),
-            closed: standing.closed.then_some(tasks.closed.is_woken()),
-            stream: standing.stream.then_some(tasks.stream.is_woken()),
+            send: tasks.send.is_woken(standing.send),
+            recv: tasks.recv.is_woken(standing.recv),
+            closed: tasks.closed.is_woken(standing.closed),
+            stream: tasks.stream.is_woken(standing.stream),
             blocking,
             messages: sender.len(),
             capacity: sender.capacity(),

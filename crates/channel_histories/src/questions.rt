@@ -33,7 +33,10 @@ impl<'a, R: Wait + Copy> Party<'a, R> {
             Question::IsTerminated => Did::saw(Sight::Ended(r.is_terminated())),
             Question::SenderCount => Did::saw(Sight::Count(Side::Senders, r.sender_count())),
             Question::ReceiverCount => Did::saw(Sight::Count(Side::Receivers, s.receiver_count())),
-            Question::SameChannel => Did::nothing_if(r.same_channel(&*self.stream)),
+            Question::SameChannel => match &self.kept.stream {
+                Some(stream) => Did::nothing_if(r.same_channel(stream)),
+                None => Did::Nothing,
+            },
         }
     }
 

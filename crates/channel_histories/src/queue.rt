@@ -1,7 +1,7 @@
 //! A history over a queue that threads share.
 
 use crate::answers::{closed, forced_push, is_closed, popped, pushed};
-use crate::crew::{Ended, Failure, Outcome, join_all};
+use crate::crew::{Ended, Failure, Outcome, join_all, log_with_room};
 use crate::form::Form;
 use crate::gate::Gate;
 use crate::random::Random;
@@ -18,6 +18,9 @@ use std::thread::JoinHandle;
 
 /// How many calls each thread makes.
 const CALLS: u64 = 10;
+
+/// How many moments they have at most: room for them is there from the start.
+const MOMENTS: usize = 30;
 
 /// How far apart the first messages of two threads are.
 const MESSAGES: u64 = 1_000;
@@ -60,15 +63,19 @@ struct Shared {
     gate: Gate,
     ended: Ended,
     threads: u64,
+    /// Whether calls may be refused memory.
+    scarce: bool,
 }
 
 /// One call: what it did.
-fn call<R: Wait>(rt: &R, queue: &ConcurrentQueue<u64>, act: Act, message: u64) -> Did {
+fn call<R: Wait>(rt: &R, shared: &Shared, act: Act, message: u64) -> Did {
+    let queue = &shared.queue;
+    let grows = shared.scarce && queue.capacity().is_none();
     match act {
-        Act::Push => pushed(message, &queue.push(rt, message)),
+        Act::Push => pushed(grows, message, &queue.push(rt, message)),
         Act::ForcePush => {
             let answer = queue.force_push(rt, message);
-            forced_push(queue.capacity(), message, &answer)
+            forced_push(grows, queue.capacity(), message, &answer)
         }
         Act::Pop => popped(&queue.pop(rt)),
         Act::Close => closed(queue.close()),
@@ -81,9 +88,9 @@ fn call<R: Wait>(rt: &R, queue: &ConcurrentQueue<u64>, act: Act, message: u64) -
 }
 
 /// The calls of one thread.
-fn make_calls<R: Wait>(rt: &R, alloc: Global, shared: &Shared, thread: usize, seed: u64) -> Log {
+fn make_calls<R: Wait>(rt: &R, shared: &Shared, log: Log, thread: usize, seed: u64) -> Log {
     let mut random = Random::new(seed, thread);
-    let mut log = Log::new(alloc);
+    let mut log = log;
     let mut message = (thread as u64).wrapping_mul(MESSAGES);
     shared.gate.pass(rt, shared.threads);
     for _ in 0..CALLS {
@@ -93,7 +100,7 @@ fn make_calls<R: Wait>(rt: &R, alloc: Global, shared: &Shared, thread: usize, se
         message = message.wrapping_add(1);
         let act = random.pick(&WEIGHTS, ALL).unwrap_or(Act::Pop);
         let begin = shared.stamps.stamp();
-        let did = call(rt, &shared.queue, act, message);
+        let did = call(rt, shared, act, message);
         log.note(begin, shared.stamps.stamp(), did);
     }
     shared.ended.note();
@@ -123,7 +130,10 @@ where
         let Ok(mine) = Arc::try_clone(shared) else {
             return Err(Failure::Memory);
         };
-        let work = move || make_calls(&rt, alloc, &mine, thread as usize, seed);
+        let Ok(log) = log_with_room(alloc, MOMENTS) else {
+            return Err(Failure::Memory);
+        };
+        let work = move || make_calls(&rt, &mine, log, thread as usize, seed);
         let Ok(one) = thread::spawn(&rt, work) else {
             return Err(Failure::Thread);
         };
@@ -135,19 +145,27 @@ where
 }
 
 /// A queue of this form and what threads share beside it; none where memory was refused.
-fn share(alloc: Global, form: Form, threads: usize) -> Option<Arc<Shared>> {
+fn share(alloc: Global, form: Form, threads: usize, scarce: bool) -> Option<Arc<Shared>> {
     let shared = Shared {
         queue: open(alloc, form)?,
         stamps: Stamps::new(),
         gate: Gate::new(),
         ended: Ended::new(),
         threads: threads as u64,
+        scarce,
     };
     Arc::new(alloc, shared).ok()
 }
 
 /// A history over a queue of this form.
-pub fn over_queue<R>(rt: R, alloc: Global, form: Form, threads: usize, seed: u64) -> Outcome
+pub fn over_queue<R>(
+    rt: R,
+    alloc: Global,
+    form: Form,
+    threads: usize,
+    seed: u64,
+    scarce: bool,
+) -> Outcome
 where
     R: Runtime + 'static,
 {
@@ -156,7 +174,7 @@ where
         logs: Vec::new(alloc),
         rests: Vec::new(alloc),
     };
-    let shared = share(alloc, form, threads).ok_or(Failure::Memory)?;
+    let shared = share(alloc, form, threads, scarce).ok_or(Failure::Memory)?;
     let mut started = Vec::new(alloc);
     start_all(rt, alloc, &shared, seed, &mut started)?;
     if !shared.ended.wait_for(&rt, shared.threads) {

@@ -1,10 +1,51 @@
 //! Calls that are made at once: sends and receives that try or block, and closings.
 
-use crate::answers::{closed, forced_send, received, sent, took_none, tried_recv, tried_send};
+use crate::answers::{
+    closed, forced_send, found, found_none, received, sent, took_none, tried_recv, tried_send,
+    walked,
+};
 use crate::party::Party;
 use crate::place::At;
-use history_checker::point::Side;
+use async_channel::{Refused, TryRecvError};
+use history_checker::log::Log;
+use history_checker::point::{Did, Side};
 use std::sync::Wait;
+
+/// Fills the list with so many numbers, from 0 on, and says how many more fit.
+fn fill(list: &mut Vec<u64>, count: usize) -> usize {
+    list.clear();
+    for number in 0..count {
+        let _ = list.push(number as u64);
+    }
+    list.capacity().saturating_sub(list.len())
+}
+
+/// Whether the list begins with so many numbers, from 0 on.
+fn begins_so(list: &[u64], count: usize) -> bool {
+    (0..count).all(|number| list.get(number) == Some(&(number as u64)))
+}
+
+/// Notes a receive into the room of a list that had so many numbers.
+fn note_filled(
+    list: &[u64],
+    there: usize,
+    limit: usize,
+    begin: u64,
+    end: u64,
+    answer: Result<usize, TryRecvError>,
+    log: &mut Log,
+) {
+    let taken = list.get(there..).unwrap_or(&[]);
+    match answer {
+        Ok(count) if count == taken.len() && begins_so(list, there) => {
+            log.note_taken(begin, end, limit, taken)
+        }
+        Err(error) if taken.is_empty() && begins_so(list, there) => {
+            log.note(begin, end, found_none(limit, error))
+        }
+        _ => log.spoiled = true,
+    }
+}
 
 impl<'a, R: Wait + Copy> Party<'a, R> {
     /// A send that tries.
@@ -12,7 +53,7 @@ impl<'a, R: Wait + Copy> Party<'a, R> {
         let message = self.next_message();
         let begin = self.stamps.stamp();
         let answer = self.hands.sender.try_send(message);
-        self.note(begin, tried_send(message, &answer));
+        self.note(begin, tried_send(self.grows(), message, &answer));
     }
 
     /// A send that displaces the oldest message of a full channel.
@@ -21,7 +62,7 @@ impl<'a, R: Wait + Copy> Party<'a, R> {
         let capacity = self.hands.sender.capacity();
         let begin = self.stamps.stamp();
         let answer = self.hands.sender.force_send(message);
-        self.note(begin, forced_send(capacity, message, &answer));
+        self.note(begin, forced_send(self.grows(), capacity, message, &answer));
     }
 
     /// A send that blocks.
@@ -31,7 +72,7 @@ impl<'a, R: Wait + Copy> Party<'a, R> {
         self.stand(At::Blocking(Side::Senders));
         let answer = self.hands.sender.send_blocking(message);
         self.stand(At::Calls);
-        self.note(begin, sent(message, &answer));
+        self.note(begin, sent(self.scarce, message, &answer));
     }
 
     /// A receive that tries.
@@ -49,8 +90,45 @@ impl<'a, R: Wait + Copy> Party<'a, R> {
         let end = self.stamps.stamp();
         match &answer {
             Ok(messages) => self.log.note_taken(begin, end, limit, messages.as_slice()),
-            Err(error) => self.log.note(begin, end, took_none(limit, error)),
+            Err(error) => self
+                .log
+                .note(begin, end, took_none(self.scarce, limit, error)),
         }
+    }
+
+    /// A receive of more than fit into memory, which is refused before it takes any.
+    pub fn recv_too_many(&mut self) {
+        let begin = self.stamps.stamp();
+        let answer = self.hands.receiver.recv_many(usize::MAX);
+        let refused = matches!(&answer, Err(Refused::NoMemory(())));
+        self.note(begin, Did::nothing_if(refused));
+    }
+
+    /// A receive of several, of three at most, into the room of a list, behind what is there.
+    pub fn recv_many_into(&mut self) {
+        let there = self.random.below(4).wrapping_add(1);
+        let limit = fill(&mut self.kept.messages, there);
+        let begin = self.stamps.stamp();
+        let answer = self.hands.receiver.recv_many_into(&mut self.kept.messages);
+        let end = self.stamps.stamp();
+        let list = self.kept.messages.as_slice();
+        note_filled(list, there, limit, begin, end, answer, self.log);
+    }
+
+    /// The next message of a walk that doesn't wait, and goes on where it found none before.
+    pub fn next_of_try_iter(&mut self) {
+        let begin = self.stamps.stamp();
+        let item = self.try_iter.next();
+        self.note(begin, found(item));
+    }
+
+    /// The next message of a walk that waits.
+    pub fn next_of_iter(&mut self) {
+        let begin = self.stamps.stamp();
+        self.stand(At::Blocking(Side::Receivers));
+        let item = self.iter.next();
+        self.stand(At::Calls);
+        self.note(begin, walked(self.scarce, &item));
     }
 
     /// A receive that blocks.
@@ -59,7 +137,7 @@ impl<'a, R: Wait + Copy> Party<'a, R> {
         self.stand(At::Blocking(Side::Receivers));
         let answer = self.hands.receiver.recv_blocking();
         self.stand(At::Calls);
-        self.note(begin, received(&answer));
+        self.note(begin, received(self.scarce, &answer));
     }
 
     /// A closing, from either side.
