@@ -101,12 +101,21 @@ fn done<R: Runtime>(rt: R, alloc: Global, job: Job<'_, R>) -> Option<u64> {
 }
 
 /// Does all of them at once, each in a thread of its own: what each came to, in their order. `None` where there is no memory.
+///
+/// The closure's clause says nothing. Without it the check derives one from `done`, and finds no proof of it at a job that borrows.
 pub(crate) fn at_once<R: Runtime>(
     rt: R,
     alloc: Global,
     jobs: Vec<Job<'_, R>>,
 ) -> Option<Vec<Option<u64>>> {
-    thread::map_vec(&rt, jobs, &|job| done(rt, alloc, job)).ok()
+    thread::map_vec(
+        &rt,
+        jobs,
+        &|job|
+            ensures { Unit }
+        { done(rt, alloc, job) },
+    )
+    .ok()
 }
 
 /// Does two at once that borrow from one place: what the second one came to. `None` where either was refused something.
