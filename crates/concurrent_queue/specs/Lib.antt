@@ -43,3 +43,6 @@ pub mod Places
 pub mod Blocks
 pub mod Parties
 pub mod machine
+pub mod history
+pub mod Memory
+pub mod QueueTables

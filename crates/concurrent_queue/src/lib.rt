@@ -10,6 +10,7 @@ pub mod call;
 pub mod cells;
 pub mod error;
 pub mod exclusive;
+pub mod history;
 pub mod laws;
 pub mod plain;
 mod pool;
