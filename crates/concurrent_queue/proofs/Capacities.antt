@@ -1,5 +1,5 @@
 -- The question how many messages a queue with a bound can hold: one step, which touches no cell.
-use Rattle.std.proofs.Common.{◌≡◌, ℕ, ◌==◌, Bool, true, false, Some, refl, sym, ap, ◌∙◌, subst, eqb→eq}
+use Rattle.std.proofs.Common.{◌≡◌, ℕ, ◌==◌, Bool, true, false, Some, refl, sym, ap, subst, eqb→eq}
 use lib.Dec as dec
 use Rattle.concurrent_queue.specs.Deeds.{Deed}
 use Rattle.concurrent_queue.specs.Walked.{MakesBounded, WalkedFrom}
@@ -9,7 +9,6 @@ use Rattle.concurrent_queue.specs.machine.Single as single_move
 use Rattle.concurrent_queue.specs.declared.bounded.RingAction.TheVariants as act
 use Rattle.concurrent_queue.specs.declared.call.QueueAsk.TheVariants as ask
 use Rattle.concurrent_queue.specs.declared.call.QueueMark.TheVariants.{Nothing}
-use Rattle.concurrent_queue.specs.declared.call.QueueReply.{QueueReply}
 use Rattle.concurrent_queue.specs.declared.call.QueueReply.TheVariants as reply
 use Rattle.concurrent_queue.specs.declared.call.Stepped.{Stepped}
 use Rattle.concurrent_queue.specs.declared.cells.QueueForm.{QueueForm}

@@ -1,16 +1,16 @@
 -- A call that was walked to its answer has ended in its party's view, with that reply.
 use Rattle.std.proofs.Common.{◌≡◌, ℕ, zero, suc, ◌⊎◌, inl, inr, ⊎_elim, List, [], ◌∷◌, ◌++◌, Bool, true, false, refl, sym, ap, ◌∙◌, subst, append-nil}
-use Rattle.std.specs.Prelude.{Option, None, Some, MatchOption, ◌==◌}
-use Rattle.concurrent_queue.specs.Bridge.{asking, does}
+use Rattle.std.specs.Prelude.{Option, None, Some, ◌==◌}
+use Rattle.concurrent_queue.specs.Bridge.{asking}
 use Rattle.concurrent_queue.specs.Deeds.{Deed, Notes, Move, Makes, loads, stores, exchanges, adds, sets_bits, keeps_bits, puts, takes, spares, retires, rests, loaded, stored, exchanged, added, bits_set, bits_kept, did_put, did_take, spared, retired}
 use Rattle.concurrent_queue.specs.Replies.{MayAnswer, MayCall}
 use Rattle.concurrent_queue.specs.Tracked.{one_state}
 use Rattle.concurrent_queue.specs.Walked.{first_bounded, first_of, standing, MakesBounded, MakesFirst, StateMakes, Walked}
-use Rattle.concurrent_queue.specs.machine.Dispatch.{ring_cap, in_single, in_ring, ended}
+use Rattle.concurrent_queue.specs.machine.Dispatch.{ring_cap, in_single, in_ring}
 use Rattle.concurrent_queue.specs.machine.FastPath.{Leads}
 use Rattle.concurrent_queue.specs.machine.RingMoves.{RingMakes, ring_moves}
-use Rattle.concurrent_queue.specs.machine.RingWords.{cap_of, ring_mark, ring_start}
-use Rattle.concurrent_queue.specs.machine.Single.{SingleMakes, single_moves, start}
+use Rattle.concurrent_queue.specs.machine.RingWords.{cap_of, ring_mark}
+use Rattle.concurrent_queue.specs.machine.Single.{SingleMakes, single_moves}
 use Rattle.concurrent_queue.specs.declared.bounded.RingAction.{RingAction}
 use Rattle.concurrent_queue.specs.declared.bounded.RingAction.TheVariants as ring
 use Rattle.concurrent_queue.specs.declared.call.QueueAsk.{QueueAsk}
@@ -26,7 +26,7 @@ use Rattle.concurrent_queue.specs.declared.queue_call.QueueCall.{QueueCall}
 use Rattle.concurrent_queue.specs.declared.single.SingleAction.{SingleAction}
 use Rattle.concurrent_queue.specs.declared.single.SingleAction.TheVariants as single
 use Rattle.concurrent_queue.specs.history.Calls.{HasNoBlocks, AsksCells, HasMade, still_none}
-use Rattle.concurrent_queue.specs.history.Runs.{moves, begun, after_step}
+use Rattle.concurrent_queue.specs.history.Runs.{begun, after_step}
 use Rattle.concurrent_queue.specs.declared.history.cells.HistoryCells.{HistoryCells}
 use Rattle.concurrent_queue.specs.declared.history.party.Standing.{Standing}
 

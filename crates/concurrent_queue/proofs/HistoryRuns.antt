@@ -1,6 +1,6 @@
 -- One history of a queue's cells is what the promise of its runs asks of parties and cells.
 use Rattle.std.proofs.Common.{◌≡◌, ◌≢◌, ℕ, zero, suc, ◌≤◌, ◌⊎◌, inl, inr, ⊎_elim, List, [], ◌∷◌, ◌++◌, length, refl, sym, ap, ◌∙◌, subst, arith, append_assoc, append-nil}
-use Rattle.std.specs.Prelude.{Option, None, Some, option_to_list}
+use Rattle.std.specs.Prelude.{Option, None, Some}
 use mathlib.Core.Option as home
 use lib.ListN.{get_elem?}
 use Rattle.concurrent_queue.specs.Bridge.{Event, begins, does, asking, Acts, EventsLead, left_under_way, own, MergesAreRuns}

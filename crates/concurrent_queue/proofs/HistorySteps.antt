@@ -1,6 +1,6 @@
 -- Each kind of step keeps the rule: one lemma for all operations on a word, one for an event that leaves all cells as they are, three for
 -- a slot, one each for a new seat and for a look, those of foreign calls, and one for a party that is joined into another's view.
-use Rattle.std.proofs.Common.{◌≡◌, ◌≢◌, ℕ, zero, suc, ◌+◌, ◌-◌, ◌<◌, ◌≤◌, ◌⊎◌, eqb, ⊎_elim, Bool, true, false, List, [], ◌∷◌, ◌++◌, length, map, get_or, set, refl, sym, ap, ◌∙◌, subst, arith, eq-eqb, ne_eqb, length-set, get_or-set_other, get_or-set_same, ◌%◌, ◌^◌}
+use Rattle.std.proofs.Common.{◌≡◌, ◌≢◌, ℕ, zero, suc, ◌+◌, ◌-◌, ◌<◌, ◌≤◌, eqb, ⊎_elim, Bool, true, false, List, [], ◌∷◌, ◌++◌, length, map, get_or, set, refl, sym, ap, ◌∙◌, subst, arith, eq-eqb, ne_eqb, length-set, get_or-set_other, get_or-set_same, ◌%◌, ◌^◌}
 use Rattle.std.proofs.lemmas.List.{map-set, map-append, set-get_or}
 use Rattle.std.specs.Prelude.{Option, None, Some, Result, Ok, Err, MatchResult, slice_index, slice_index_or, slice_get, if◌then◌else◌, bit_and, bit_or}
 use mathlib.Core.Option as home

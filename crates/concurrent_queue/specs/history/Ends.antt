@@ -1,16 +1,15 @@
 -- A step that answers leaves the call where no operation follows, of one slot and of a ring.
 use Rattle.std.specs.Prelude.{◌≡◌, ℕ, ◌+◌, ◌-◌, ◌*◌, ◌%◌, ◌^◌, ◌&&◌, ◌==◌, nat_le, not, Bool, true, false, Option, None, Some, Result, Ok, Err, MatchOption, if◌then◌else◌, refl}
-use Rattle.std.proofs.Common.{sym, ap, ◌∙◌, subst}
-use Rattle.concurrent_queue.specs.Deeds.{Deed, Notes, Makes}
+use Rattle.std.proofs.Common.{sym, subst}
+use Rattle.concurrent_queue.specs.Deeds.{Deed, Notes}
 use Rattle.concurrent_queue.specs.machine.RingMoves as ring_machine
 use Rattle.concurrent_queue.specs.machine.RingMoves.{RingMakes}
 use Rattle.concurrent_queue.specs.machine.RingWords as ring_words
-use Rattle.concurrent_queue.specs.machine.Single.{clear, SingleMakes, after_push, after_force, after_pop, after_close, after_put, after_take}
-use Rattle.concurrent_queue.specs.machine.Single as single_machine
+use Rattle.concurrent_queue.specs.machine.Single.{clear, SingleMakes, after_push, after_force, after_pop, after_put, after_take}
 use Rattle.concurrent_queue.specs.declared.bounded.RingAction.{RingAction}
 use Rattle.concurrent_queue.specs.declared.bounded.RingAction.TheVariants as ring
 use Rattle.concurrent_queue.specs.declared.bounded.WhenFull.{WhenFull}
-use Rattle.concurrent_queue.specs.history.StepTypes.{SingleStep, RingStep, CallStep}
+use Rattle.concurrent_queue.specs.history.StepTypes.{SingleStep, RingStep}
 use Rattle.concurrent_queue.specs.declared.call.QueueReply.TheVariants as reply
 use Rattle.concurrent_queue.specs.declared.error.PopError.TheVariants as pop_error
 use Rattle.concurrent_queue.specs.declared.single.SingleAction.{SingleAction}

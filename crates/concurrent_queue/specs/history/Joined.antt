@@ -1,5 +1,5 @@
 -- Parties that have ended and were joined into a view: the view lists each of them once, with where it stood, and no other view lists it.
-use Rattle.std.specs.Prelude.{◌≡◌, ◌⊎◌, ℕ, Bool, true, List, [], ◌∷◌}
+use Rattle.std.specs.Prelude.{◌≡◌, ◌⊎◌, ℕ, true, List, [], ◌∷◌}
 use mathlib.Core.Option.{some}
 use lib.ListN.{get_elem?}
 use Rattle.concurrent_queue.specs.declared.history.rule.View.{View}

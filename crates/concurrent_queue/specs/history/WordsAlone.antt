@@ -1,15 +1,15 @@
 -- Closing and the questions but for the length, in one slot and in a ring: their operations are on words alone, and the second one at the
 -- latest answers.
-use Rattle.std.specs.Prelude.{◌≡◌, ◌==◌, ℕ, Bool, true, false, Option, None, Some, if◌then◌else◌, refl}
+use Rattle.std.specs.Prelude.{◌≡◌, ℕ, Bool, true, false, Option, None, Some, if◌then◌else◌, refl}
 use Rattle.std.proofs.Common.{sym, ap, ◌∙◌, subst}
-use Rattle.concurrent_queue.specs.Deeds.{Deed, Notes, Move, Makes, loaded, stored, exchanged, added, bits_set, bits_kept, did_put, did_take, spared, retired, loads, stores, exchanges, adds, sets_bits, keeps_bits, puts, takes, spares, retires, rests}
+use Rattle.concurrent_queue.specs.Deeds.{Deed, Notes, Move, Makes, did_put, did_take, spared, retired, loads, stores, exchanges, adds, sets_bits, keeps_bits, puts, takes, spares, retires, rests}
 use Rattle.concurrent_queue.specs.Replies.{IsLastSingle, IsLastRing, IsSoonRing}
 use Rattle.concurrent_queue.specs.machine.RingMoves.{ring_moves, RingMakes}
 use Rattle.concurrent_queue.specs.machine.RingWords.{is_marked}
 use Rattle.concurrent_queue.specs.machine.Single.{clear, single_moves, SingleMakes}
 use Rattle.concurrent_queue.specs.declared.bounded.RingAction.{RingAction}
 use Rattle.concurrent_queue.specs.declared.bounded.RingAction.TheVariants as ring
-use Rattle.concurrent_queue.specs.history.StepTypes.{SingleStep, RingStep, CallStep}
+use Rattle.concurrent_queue.specs.history.StepTypes.{SingleStep, RingStep}
 use Rattle.concurrent_queue.specs.declared.single.SingleAction.{SingleAction}
 use Rattle.concurrent_queue.specs.declared.single.SingleAction.TheVariants as single
 

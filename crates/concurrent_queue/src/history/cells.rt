@@ -3,9 +3,9 @@
 
 ghost use Rattle.std.specs.Prelude.{◌≡◌};
 
+use crate::cells::{Cells, Slot, Word};
 use crate::history::party::{OfQueue, Standing};
 use crate::history::table::CallSeat;
-use crate::cells::{Cells, Slot, Word};
 use crate::{NoMemory, QueueForm};
 use std::sync::Wait;
 

@@ -5,12 +5,12 @@ ghost use Rattle.std.specs.Prelude.{true, false, ◌≡◌, ◌<◌, ◌+◌, []
 ghost use Rattle.concurrent_queue.specs.history.Shared.{slots_of, words_of};
 ghost use Rattle.concurrent_queue.specs.declared.cells.QueueForm.TheVariants.{Bounded};
 
+use crate::cells::{Cells, Slot, Word};
 use crate::history::party::{OfQueue, Standing};
 use crate::history::rule::{Comes, Gives, Passes, TurnsForeign, View, Wins};
 use crate::history::table::{KitTable, RuledTable, flag_index, slot_index, word_index};
-use atomic_table::Seat;
-use crate::cells::{Cells, Slot, Word};
 use crate::{NoMemory, QueueForm};
+use atomic_table::Seat;
 
 /// A seat of the table for foreign calls. It holds no slot.
 #[derive(Drop)]

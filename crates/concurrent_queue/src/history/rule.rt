@@ -1,8 +1,8 @@
 //! What a seat of the table knows, the rule that the table is what one history of operations made of it, and the kinds of steps that
 //! keep the rule. These types are for the proofs alone: no value of them is made.
 
-use atomic_table::{Join, Play, TableRule};
 use crate::QueueForm;
+use atomic_table::{Join, Play, TableRule};
 use std::collections::LinkedList;
 use std::marker::{Brand, PhantomData};
 

@@ -10,13 +10,13 @@ ghost use Rattle.concurrent_queue.specs.history.Shared.{slots_of, stamps_of, wor
 ghost use Rattle.concurrent_queue.specs.declared.cells.QueueForm.TheVariants.{Bounded};
 ghost use Rattle.concurrent_queue.specs.declared.cells.Slot.TheVariants.{At};
 
+use crate::QueueForm;
+use crate::cells::{Slot, Word};
 use crate::history::rule::{
     Adds, Exchanges, Gives, Happened, Happens, KeepsBits, Loads, Looks, Machine, OneHistory, Puts,
     SetsBits, Stores, Takes, View,
 };
 use atomic_table::{Seat, Table};
-use crate::QueueForm;
-use crate::cells::{Slot, Word};
 use std::alloc::{AllocError, Global};
 use std::marker::Brand;
 

@@ -200,10 +200,7 @@ pub(crate) fn tell<T: Drop, S: Trace<T>>(
 
 /// The cells of a call that may be no call of this queue, seen by this trace.
 #[inline(always)]
-fn foreign_cells<'a, T: Drop, S>(
-    table: &'a QueueTable<T>,
-    trace: S,
-) -> Seen<ForeignCells<'a, T>, S>
+fn foreign_cells<'a, T: Drop, S>(table: &'a QueueTable<T>, trace: S) -> Seen<ForeignCells<'a, T>, S>
     ensures form { result.cells.seat.seat.me.0.form ≡ form_of table.now }
     ensures trace { result.trace ≡ trace }
 {

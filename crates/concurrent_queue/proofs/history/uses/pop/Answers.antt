@@ -1,4 +1,4 @@
-use Rattle.std.proofs.Common.{refl, ◌∙◌, ◌≡◌, ap, sym}
+use Rattle.std.proofs.Common.{◌∙◌, ap}
 use Rattle.concurrent_queue.specs.declared.call.QueueAsk.TheVariants.{Pop}
 use Rattle.concurrent_queue.specs.history.Runs.{fresh}
 use Rattle.concurrent_queue.proofs.HistoryCallsEnd.{cells_call_ends}

@@ -1,4 +1,4 @@
-use Rattle.std.proofs.Common.{◌≡◌, ◌∙◌, subst}
+use Rattle.std.proofs.Common.{◌∙◌, subst}
 use Rattle.concurrent_queue.specs.QueueTables.{form_of}
 use Rattle.concurrent_queue.specs.Replies.{MayCall}
 use Rattle.concurrent_queue.specs.Walked.{WalkedFrom}

@@ -1,4 +1,4 @@
-use Rattle.std.proofs.Common.{◌≡◌, ap, ◌∙◌}
+use Rattle.std.proofs.Common.{ap, ◌∙◌}
 use Rattle.concurrent_queue.specs.history.Runs.{fresh}
 use Rattle.concurrent_queue.proofs.shared.ruled.question_cells.Goals as goal
 

@@ -1,4 +1,4 @@
-use Rattle.std.proofs.Common.{◌≡◌, subst}
+use Rattle.std.proofs.Common.{subst}
 use Rattle.concurrent_queue.specs.QueueTables.{form_of}
 use Rattle.concurrent_queue.specs.Replies.{Follows}
 use Rattle.concurrent_queue.specs.declared.cells.QueueForm.{QueueForm}

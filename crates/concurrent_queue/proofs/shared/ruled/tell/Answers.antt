@@ -1,4 +1,4 @@
-use Rattle.std.proofs.Common.{◌≡◌, ◌∙◌, refl, sym, subst}
+use Rattle.std.proofs.Common.{◌∙◌, refl, sym, subst}
 use Rattle.concurrent_queue.specs.Bridge.{asking}
 use Rattle.concurrent_queue.specs.Replies.{MayAnswer}
 use Rattle.concurrent_queue.specs.declared.cells.QueueForm.{QueueForm}

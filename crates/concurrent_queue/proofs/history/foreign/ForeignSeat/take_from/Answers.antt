@@ -1,4 +1,4 @@
-use Rattle.std.proofs.Common.{arith, ◌≡◌, ap, ◌∙◌, ℕ}
+use Rattle.std.proofs.Common.{arith, ◌≡◌, ap, ◌∙◌}
 use Rattle.concurrent_queue.specs.history.Runs.{moves, fresh}
 use Rattle.concurrent_queue.specs.history.Shared.{slot_in}
 use Rattle.concurrent_queue.proofs.HistorySteps.{guard_there, wins_so, returns_so}

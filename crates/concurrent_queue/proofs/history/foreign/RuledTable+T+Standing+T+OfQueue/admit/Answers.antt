@@ -1,4 +1,4 @@
-use Rattle.std.proofs.Common.{refl, [], ◌∙◌, sym}
+use Rattle.std.proofs.Common.{refl, []}
 use Rattle.concurrent_queue.specs.history.Runs.{moves, fresh}
 use Rattle.concurrent_queue.specs.history.Shared.{first_view}
 use Rattle.concurrent_queue.proofs.HistorySteps.{comes_so, turns_so}

@@ -1,4 +1,4 @@
-use Rattle.std.proofs.Common.{◌≡◌, ap, ◌∙◌, refl, subst, sym}
+use Rattle.std.proofs.Common.{ap, ◌∙◌, refl, subst, sym}
 use Rattle.concurrent_queue.specs.Memory.{memory_form}
 use Rattle.concurrent_queue.specs.Replies.{Follows}
 use Rattle.concurrent_queue.specs.SharedQueue.{form_in}

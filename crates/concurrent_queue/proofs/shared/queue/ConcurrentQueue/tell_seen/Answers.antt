@@ -1,9 +1,7 @@
-use Rattle.std.proofs.Common.{◌≡◌, ap, ◌∙◌, refl, subst, sym}
+use Rattle.std.proofs.Common.{ap, ◌∙◌, refl, subst, sym}
 use Rattle.concurrent_queue.specs.Memory.{memory_form}
 use Rattle.concurrent_queue.specs.SharedQueue.{form_in}
-use Rattle.concurrent_queue.specs.Replies.{MayAnswer, MayCall}
-use Rattle.concurrent_queue.specs.declared.call.QueueAsk.TheVariants as ask
-use Rattle.concurrent_queue.specs.declared.call.QueueReply.TheVariants as reply
+use Rattle.concurrent_queue.specs.Replies.{MayAnswer}
 use Rattle.concurrent_queue.specs.declared.cells.QueueForm.{QueueForm}
 use Rattle.concurrent_queue.specs.declared.queue_call.CallState.TheVariants.{Asked}
 use Rattle.concurrent_queue.proofs.Traces.{walked_here}
