@@ -283,12 +283,12 @@ module _ {T S : Type 0} (form_of : S → QueueForm) (of : S → Standing T) (Sam
       (λ (c : IsCapacity r). absurd (never_capacity (form_of s) a r h m c))
       (walked_ends form_of of Same stays joins form call s t r f few under (subst (λ (q : QueueForm). Walked (HasMade form_of of Same) q call s r t) f walked))
 
--- the same over the cells of a call's seat
+-- the same over the cells of a call's seat; its view keeps the parties that were joined in
 abbrev pub SameParty : {T R : Type 0} → HistoryCells T R → HistoryCells T R → Type 0
-SameParty s t = (t.seat.seat.table_id ≡ s.seat.seat.table_id) × (t.seat.seat.me.0.who ≡ s.seat.seat.me.0.who)
+SameParty s t = (t.seat.seat.table_id ≡ s.seat.seat.table_id) × (t.seat.seat.me.0.who ≡ s.seat.seat.me.0.who) × (t.seat.seat.me.0.over ≡ s.seat.seat.me.0.over)
 
 pub cells_call_ends : {T R : Type 0} (most : ℕ) (a : QueueAsk T) → AsksCells a → (call : QueueCall T) → call.state ≡ Asked a → (p : Standing T) (s t : HistoryCells T R) (r : QueueReply T) → s.seat.seat.me.0.form ≡ Bounded most → s.seat.seat.me.0.state ≡ begun a p
     → Walked (HasMade (λ (x : HistoryCells T R). x.seat.seat.me.0.form) (λ x. x.seat.seat.me.0.state) SameParty) s.seat.seat.me.0.form call s r t → MayCall s.seat.seat.me.0.form call.state r
     → (t.seat.seat.me.0.form ≡ s.seat.seat.me.0.form) × SameParty s t × (t.seat.seat.me.0.state.call ≡ None) × (t.seat.seat.me.0.state.asked ≡ p.asked ++ a ∷ []) × (t.seat.seat.me.0.state.replies ≡ p.replies ++ r ∷ [])
 cells_call_ends {T} {R} most a =
-    call_ends (λ (x : HistoryCells T R). x.seat.seat.me.0.form) (λ x. x.seat.seat.me.0.state) SameParty (λ s. (refl, refl)) (λ s t u p q. (q.0 ∙ p.0, q.1 ∙ p.1)) most a
+    call_ends (λ (x : HistoryCells T R). x.seat.seat.me.0.form) (λ x. x.seat.seat.me.0.state) SameParty (λ s. (refl, refl, refl)) (λ s t u p q. (q.0 ∙ p.0, q.1 ∙ p.1, q.2 ∙ p.2)) most a

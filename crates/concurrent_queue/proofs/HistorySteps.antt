@@ -454,7 +454,7 @@ module _ {T A : Type 0} (moves : QueueForm → A → Event T → A → Type 0) (
   -- ---- foreign calls
 
   -- a seat of no call; it is foreign where one was admitted before
-  pub comes_so : (slots k : ℕ) (m0 : M) → m0.0.form ≡ form → k ≡ flag_at form → Enters R slots k (λ n w. rule.comes (step slots k 0 0 home.none) m0 n (w, []))
+  pub comes_so : (slots k : ℕ) (m0 : M) → m0.0.form ≡ form → k ≡ flag_at form → Enters R slots k (λ n w. rule.comes first (step slots k 0 0 home.none) m0 n (w, []))
   comes_so slots k m0 is there s r wide small =
       let found : slice_index s.words k ≡ flag_in form s = ap (slice_index s.words) there in
       dite (ℕ_discrete (slice_index s.words k) 0)
@@ -462,12 +462,12 @@ module _ {T A : Type 0} (moves : QueueForm → A → Event T → A → Type 0) (
         newcomer (length s.views) first false,
         comes_in s (newcomer (length s.views) first false) r refl refl refl refl (λ e. absurd (seats.false_true e))
             (λ z q. histories.arrives moves form first s.views (newcomer (length s.views) first false) (contents form s.words q.values) q.history refl),
-        (sym is, refl, refl, λ no. absurd (no zero)),
+        (sym is, refl, refl, (λ no. absurd (no zero)), refl, refl),
       ))
       (λ some. (
         newcomer (length s.views) first true,
         comes_in s (newcomer (length s.views) first true) r refl refl refl refl (λ e z. some (found ∙ z)) (λ z q. absurd (some (found ∙ z))),
-        (sym is, refl, refl, λ no. refl),
+        (sym is, refl, refl, (λ no. refl), refl, refl),
       ))
 
   -- it is admitted

@@ -46,3 +46,4 @@ pub mod machine
 pub mod history
 pub mod Memory
 pub mod QueueTables
+pub mod Witnessed

@@ -29,3 +29,4 @@ pub use queue_call::QueueCall;
 pub use run::{QueueRefusal, QueueRun, QueueStep, Stopped, run_queue_steps};
 pub use shared::iter::TryIter;
 pub use shared::queue::ConcurrentQueue;
+pub use shared::witnessed::Witnessed;

@@ -10,3 +10,4 @@ pub mod iter;
 pub mod queue;
 pub(crate) mod ruled;
 pub(crate) mod table;
+pub mod witnessed;

@@ -227,8 +227,9 @@ module _ {T A : Type 0} where
   -- ---- foreign calls
 
   -- a new seat of no call; it is foreign where one was admitted before
-  abbrev pub comes : Step (Option T) → Seated T A → ℕ → Seated T A → Type 0
-  comes st m found m' = (m'.0.form ≡ m.0.form) × (m'.0.held ≡ None) × (m'.0.spent ≡ false) × (found ≢ 0 → m'.0.foreign ≡ true)
+  abbrev pub comes : A → Step (Option T) → Seated T A → ℕ → Seated T A → Type 0
+  comes first st m found m' =
+      (m'.0.form ≡ m.0.form) × (m'.0.held ≡ None) × (m'.0.spent ≡ false) × (found ≢ 0 → m'.0.foreign ≡ true) × (m'.0.state ≡ first) × (m'.0.over ≡ [])
 
   -- it is admitted
   abbrev pub turns_foreign : Step (Option T) → Seated T A → ℕ → Seated T A → Type 0

@@ -241,7 +241,8 @@ module _ {T : Type 0} (cap m : ℕ) where
   over_if true x y h g = h
   over_if false x y h g = g
 
-  -- the last step leaves the call where no operation follows
+  -- ---- the last step leaves the call where no operation follows
+
   pub ring_over : (a : RingAction T) → IsLastRing a → (d : Option (Deed T)) (x : RingStep T) → RingMakes cap m Notes None a d x → x.action ≡ ring.Finished
   ring_over (ring.Push k v) l d x h = absurd l
   ring_over (ring.PushShut k v) l d x h = absurd l

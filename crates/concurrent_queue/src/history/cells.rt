@@ -26,7 +26,7 @@ impl<'a, T: Drop, R: Wait> Cells<T> for HistoryCells<'a, T, R> {
 
     ghost form_of = { λ c. c.seat.seat.me.0.form };
 
-    ghost did = { HasMade (λ c. c.seat.seat.me.0.form) (λ c. c.seat.seat.me.0.state) (λ c e. (e.seat.seat.table_id ≡ c.seat.seat.table_id) × (e.seat.seat.me.0.who ≡ c.seat.seat.me.0.who)) };
+    ghost did = { HasMade (λ c. c.seat.seat.me.0.form) (λ c. c.seat.seat.me.0.state) (λ c e. (e.seat.seat.table_id ≡ c.seat.seat.table_id) × (e.seat.seat.me.0.who ≡ c.seat.seat.me.0.who) × (e.seat.seat.me.0.over ≡ c.seat.seat.me.0.over)) };
 
     ghost may = { MayMake (λ c. c.seat.seat.me.0.form) (λ c. c.seat.seat.me.0.state) };
 
@@ -34,7 +34,7 @@ impl<'a, T: Drop, R: Wait> Cells<T> for HistoryCells<'a, T, R> {
 
     ghost ready = { ready (λ c. c.seat.seat.me.0.form) (λ c. c.seat.seat.me.0.state) };
 
-    ghost leads = { leads (λ c. c.seat.seat.me.0.form) (λ c. c.seat.seat.me.0.state) (λ c e. (e.seat.seat.table_id ≡ c.seat.seat.table_id) × (e.seat.seat.me.0.who ≡ c.seat.seat.me.0.who)) };
+    ghost leads = { leads (λ c. c.seat.seat.me.0.form) (λ c. c.seat.seat.me.0.state) (λ c e. (e.seat.seat.table_id ≡ c.seat.seat.table_id) × (e.seat.seat.me.0.who ≡ c.seat.seat.me.0.who) × (e.seat.seat.me.0.over ≡ c.seat.seat.me.0.over)) };
 
     ghost keeps_form = { λ d a b made. made.1 };
 
@@ -138,7 +138,7 @@ impl<'a, T: Drop> Cells<T> for HistoryWords<'a, T> {
 
     ghost form_of = { λ c. c.seat.seat.me.0.form };
 
-    ghost did = { HasMade (λ c. c.seat.seat.me.0.form) (λ c. c.seat.seat.me.0.state) (λ c e. (e.seat.seat.table_id ≡ c.seat.seat.table_id) × (e.seat.seat.me.0.who ≡ c.seat.seat.me.0.who)) };
+    ghost did = { HasMade (λ c. c.seat.seat.me.0.form) (λ c. c.seat.seat.me.0.state) (λ c e. (e.seat.seat.table_id ≡ c.seat.seat.table_id) × (e.seat.seat.me.0.who ≡ c.seat.seat.me.0.who) × (e.seat.seat.me.0.over ≡ c.seat.seat.me.0.over)) };
 
     ghost may = { MayMakeOnWord (λ c. c.seat.seat.me.0.form) (λ c. c.seat.seat.me.0.state) };
 
@@ -146,7 +146,7 @@ impl<'a, T: Drop> Cells<T> for HistoryWords<'a, T> {
 
     ghost ready = { ready_on_words (λ c. c.seat.seat.me.0.form) (λ c. c.seat.seat.me.0.state) };
 
-    ghost leads = { leads_on_words (λ c. c.seat.seat.me.0.form) (λ c. c.seat.seat.me.0.state) (λ c e. (e.seat.seat.table_id ≡ c.seat.seat.table_id) × (e.seat.seat.me.0.who ≡ c.seat.seat.me.0.who)) };
+    ghost leads = { leads_on_words (λ c. c.seat.seat.me.0.form) (λ c. c.seat.seat.me.0.state) (λ c e. (e.seat.seat.table_id ≡ c.seat.seat.table_id) × (e.seat.seat.me.0.who ≡ c.seat.seat.me.0.who) × (e.seat.seat.me.0.over ≡ c.seat.seat.me.0.over)) };
 
     ghost keeps_form = { λ d a b made. made.1 };
 

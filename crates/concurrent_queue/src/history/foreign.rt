@@ -33,7 +33,7 @@ impl<T> RuledTable<T, Standing<T>, OfQueue> {
         ensures form { result.seat.me.0.form ≡ self.now.table.shared.key }
     {
         let at = flag_index(&self.table);
-        let (found, seat) = self.table.shared.load_new_seat::<Comes>(at);
+        let (found, seat) = self.table.shared.load_new_seat::<Comes<OfQueue>>(at);
         let mut seat = seat;
         if found == 0 {
             self.table.shared.store::<TurnsForeign>(&mut seat, at, 1);

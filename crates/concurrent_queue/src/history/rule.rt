@@ -6,7 +6,7 @@ use atomic_table::{Join, Play, TableRule};
 use std::collections::LinkedList;
 use std::marker::{Brand, PhantomData};
 
-/// What a seat knows of its party. A party is whoever has one seat; with a seat for each call it is one call.
+/// What a seat knows of its party. A party is whoever has one seat, and makes calls one after another.
 pub struct View<T, A> {
     /// The party's number, which is its seat's.
     pub who: u64,
@@ -36,8 +36,9 @@ pub trait Machine<T, A> {
     ghost first: { A };
 }
 
-/// The rule: there is one history of what all parties did, which leads from the cells of a new queue to the cells as they are, and each
-/// party's own events are steps of its machine, up to where its view says that it stands. The table's key is the queue's form.
+/// The rule: a slot is out with one seat, which has won its guard; and while no foreign call was admitted there is one history of what all
+/// parties did, which leads from the cells of a new queue to the cells as they are, and in which each party's own events are steps of its
+/// machine, up to where its view says that it stands. The table's key is the queue's form.
 pub struct OneHistory<P> {
     of: PhantomData<P>,
 }
@@ -222,12 +223,14 @@ impl<T, A, P: Machine<T, A>, I: Asks<T>> Play<Option<T>, View<T, A>> for BeginsA
 }
 
 /// A new seat of no call, which is foreign where a foreign call was admitted before.
-pub struct Comes;
+pub struct Comes<P> {
+    of: PhantomData<P>,
+}
 
-impl<T, A> Play<Option<T>, View<T, A>> for Comes {
+impl<T, A, P: Machine<T, A>> Play<Option<T>, View<T, A>> for Comes<P> {
     ghost use Rattle.concurrent_queue.specs.history.Shared.{comes};
 
-    ghost then = { comes };
+    ghost then = { comes P.first };
 }
 
 /// A seat's foreign call is admitted.

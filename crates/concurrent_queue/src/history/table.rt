@@ -181,7 +181,7 @@ impl<'a, T, A, P: Machine<T, A>> CallSeat<'a, T, A, P> {
         requires quiet { LeavesAll self.old.table.now.shared.key E.event }
         requires next { (a : A) × P.moves self.old.seat.me.0.form self.old.seat.me.0.state E.event a }
         ensures made { P.moves self.old.seat.me.0.form self.old.seat.me.0.state E.event self.new.seat.me.0.state }
-        ensures same { (self.new.seat.table_id ≡ self.old.seat.table_id) × (self.new.seat.me.0.who ≡ self.old.seat.me.0.who) × (self.new.seat.me.0.form ≡ self.old.seat.me.0.form) }
+        ensures same { (self.new.seat.table_id ≡ self.old.seat.table_id) × (self.new.seat.me.0.who ≡ self.old.seat.me.0.who) × (self.new.seat.me.0.form ≡ self.old.seat.me.0.form) × (self.new.seat.me.0.over ≡ self.old.seat.me.0.over) }
     {
         let at = flag_index(self.table);
         self.table.shared.load::<Happened<P, E>>(&mut self.seat, at);
@@ -192,7 +192,7 @@ impl<'a, T, A, P: Machine<T, A>> CallSeat<'a, T, A, P> {
     pub fn load(&mut self, at: Word) -> u64
         requires next { (n : ℕ) → (a : A) × P.moves self.old.seat.me.0.form self.old.seat.me.0.state (does (Some (loaded at n))) a }
         ensures made { P.moves self.old.seat.me.0.form self.old.seat.me.0.state (does (Some (loaded at result))) self.new.seat.me.0.state }
-        ensures same { (self.new.seat.table_id ≡ self.old.seat.table_id) × (self.new.seat.me.0.who ≡ self.old.seat.me.0.who) × (self.new.seat.me.0.form ≡ self.old.seat.me.0.form) }
+        ensures same { (self.new.seat.table_id ≡ self.old.seat.table_id) × (self.new.seat.me.0.who ≡ self.old.seat.me.0.who) × (self.new.seat.me.0.form ≡ self.old.seat.me.0.form) × (self.new.seat.me.0.over ≡ self.old.seat.me.0.over) }
     {
         match word_index(self.table, at) {
             Some(index) => self.table.shared.load::<Loads<P>>(&mut self.seat, index),
@@ -208,7 +208,7 @@ impl<'a, T, A, P: Machine<T, A>> CallSeat<'a, T, A, P> {
     pub fn store(&mut self, at: Word, value: u64)
         requires next { (a : A) × P.moves self.old.seat.me.0.form self.old.seat.me.0.state (does (Some (stored at value))) a }
         ensures made { P.moves self.old.seat.me.0.form self.old.seat.me.0.state (does (Some (stored at value))) self.new.seat.me.0.state }
-        ensures same { (self.new.seat.table_id ≡ self.old.seat.table_id) × (self.new.seat.me.0.who ≡ self.old.seat.me.0.who) × (self.new.seat.me.0.form ≡ self.old.seat.me.0.form) }
+        ensures same { (self.new.seat.table_id ≡ self.old.seat.table_id) × (self.new.seat.me.0.who ≡ self.old.seat.me.0.who) × (self.new.seat.me.0.form ≡ self.old.seat.me.0.form) × (self.new.seat.me.0.over ≡ self.old.seat.me.0.over) }
     {
         match word_index(self.table, at) {
             Some(index) => self
@@ -224,7 +224,7 @@ impl<'a, T, A, P: Machine<T, A>> CallSeat<'a, T, A, P> {
     pub fn compare_exchange(&mut self, at: Word, expected: u64, next: u64) -> u64
         requires next { (n : ℕ) → (a : A) × P.moves self.old.seat.me.0.form self.old.seat.me.0.state (does (Some (exchanged at expected next (answer n expected)))) a }
         ensures made { P.moves self.old.seat.me.0.form self.old.seat.me.0.state (does (Some (exchanged at expected next (answer result expected)))) self.new.seat.me.0.state }
-        ensures same { (self.new.seat.table_id ≡ self.old.seat.table_id) × (self.new.seat.me.0.who ≡ self.old.seat.me.0.who) × (self.new.seat.me.0.form ≡ self.old.seat.me.0.form) }
+        ensures same { (self.new.seat.table_id ≡ self.old.seat.table_id) × (self.new.seat.me.0.who ≡ self.old.seat.me.0.who) × (self.new.seat.me.0.form ≡ self.old.seat.me.0.form) × (self.new.seat.me.0.over ≡ self.old.seat.me.0.over) }
     {
         match word_index(self.table, at) {
             Some(index) => self
@@ -243,7 +243,7 @@ impl<'a, T, A, P: Machine<T, A>> CallSeat<'a, T, A, P> {
     pub fn fetch_add(&mut self, at: Word, by: u64) -> u64
         requires next { (n : ℕ) → (a : A) × P.moves self.old.seat.me.0.form self.old.seat.me.0.state (does (Some (added at by n))) a }
         ensures made { P.moves self.old.seat.me.0.form self.old.seat.me.0.state (does (Some (added at by result))) self.new.seat.me.0.state }
-        ensures same { (self.new.seat.table_id ≡ self.old.seat.table_id) × (self.new.seat.me.0.who ≡ self.old.seat.me.0.who) × (self.new.seat.me.0.form ≡ self.old.seat.me.0.form) }
+        ensures same { (self.new.seat.table_id ≡ self.old.seat.table_id) × (self.new.seat.me.0.who ≡ self.old.seat.me.0.who) × (self.new.seat.me.0.form ≡ self.old.seat.me.0.form) × (self.new.seat.me.0.over ≡ self.old.seat.me.0.over) }
     {
         match word_index(self.table, at) {
             Some(index) => self
@@ -262,7 +262,7 @@ impl<'a, T, A, P: Machine<T, A>> CallSeat<'a, T, A, P> {
     pub fn fetch_or(&mut self, at: Word, bits: u64) -> u64
         requires next { (n : ℕ) → (a : A) × P.moves self.old.seat.me.0.form self.old.seat.me.0.state (does (Some (bits_set at bits n))) a }
         ensures made { P.moves self.old.seat.me.0.form self.old.seat.me.0.state (does (Some (bits_set at bits result))) self.new.seat.me.0.state }
-        ensures same { (self.new.seat.table_id ≡ self.old.seat.table_id) × (self.new.seat.me.0.who ≡ self.old.seat.me.0.who) × (self.new.seat.me.0.form ≡ self.old.seat.me.0.form) }
+        ensures same { (self.new.seat.table_id ≡ self.old.seat.table_id) × (self.new.seat.me.0.who ≡ self.old.seat.me.0.who) × (self.new.seat.me.0.form ≡ self.old.seat.me.0.form) × (self.new.seat.me.0.over ≡ self.old.seat.me.0.over) }
     {
         match word_index(self.table, at) {
             Some(index) => self
@@ -281,7 +281,7 @@ impl<'a, T, A, P: Machine<T, A>> CallSeat<'a, T, A, P> {
     pub fn fetch_and(&mut self, at: Word, bits: u64) -> u64
         requires next { (n : ℕ) → (a : A) × P.moves self.old.seat.me.0.form self.old.seat.me.0.state (does (Some (bits_kept at bits n))) a }
         ensures made { P.moves self.old.seat.me.0.form self.old.seat.me.0.state (does (Some (bits_kept at bits result))) self.new.seat.me.0.state }
-        ensures same { (self.new.seat.table_id ≡ self.old.seat.table_id) × (self.new.seat.me.0.who ≡ self.old.seat.me.0.who) × (self.new.seat.me.0.form ≡ self.old.seat.me.0.form) }
+        ensures same { (self.new.seat.table_id ≡ self.old.seat.table_id) × (self.new.seat.me.0.who ≡ self.old.seat.me.0.who) × (self.new.seat.me.0.form ≡ self.old.seat.me.0.form) × (self.new.seat.me.0.over ≡ self.old.seat.me.0.over) }
     {
         match word_index(self.table, at) {
             Some(index) => self
@@ -316,7 +316,7 @@ impl<'a, T, A, P: Machine<T, A>> CallSeat<'a, T, A, P> {
         requires next { (o : Option T) → (a : A) × P.moves self.old.seat.me.0.form self.old.seat.me.0.state (does (Some (did_take at o))) a }
         ensures made { MatchOption result (self.new.seat.me ≡ self.old.seat.me)
             (λ o. P.moves self.old.seat.me.0.form self.old.seat.me.0.state (does (Some (did_take at o))) self.new.seat.me.0.state) }
-        ensures same { (self.new.seat.table_id ≡ self.old.seat.table_id) × (self.new.seat.me.0.who ≡ self.old.seat.me.0.who) × (self.new.seat.me.0.form ≡ self.old.seat.me.0.form) }
+        ensures same { (self.new.seat.table_id ≡ self.old.seat.table_id) × (self.new.seat.me.0.who ≡ self.old.seat.me.0.who) × (self.new.seat.me.0.form ≡ self.old.seat.me.0.form) × (self.new.seat.me.0.over ≡ self.old.seat.me.0.over) }
     {
         match slot_index(self.table, at) {
             Some(index) => self.take_from(index),
@@ -334,7 +334,7 @@ impl<'a, T, A, P: Machine<T, A>> CallSeat<'a, T, A, P> {
         requires next { (o : Result Unit T) → (a : A) × P.moves self.old.seat.me.0.form self.old.seat.me.0.state (does (Some (did_put at value o))) a }
         ensures made { MatchResult result (λ u. P.moves self.old.seat.me.0.form self.old.seat.me.0.state (does (Some (did_put at value (Ok tt)))) self.new.seat.me.0.state)
             (λ e. (e.0 ≡ value) × MatchBool e.1 (P.moves self.old.seat.me.0.form self.old.seat.me.0.state (does (Some (did_put at value (Err value)))) self.new.seat.me.0.state) (self.new.seat.me ≡ self.old.seat.me)) }
-        ensures same { (self.new.seat.table_id ≡ self.old.seat.table_id) × (self.new.seat.me.0.who ≡ self.old.seat.me.0.who) × (self.new.seat.me.0.form ≡ self.old.seat.me.0.form) }
+        ensures same { (self.new.seat.table_id ≡ self.old.seat.table_id) × (self.new.seat.me.0.who ≡ self.old.seat.me.0.who) × (self.new.seat.me.0.form ≡ self.old.seat.me.0.form) × (self.new.seat.me.0.over ≡ self.old.seat.me.0.over) }
     {
         match slot_index(self.table, at) {
             Some(index) => self.put_into(index, value),
@@ -352,7 +352,7 @@ impl<'a, T, A, P: Machine<T, A>> CallSeat<'a, T, A, P> {
         requires next { (o : Option T) → (a : A) × P.moves self.old.seat.me.0.form self.old.seat.me.0.state (does (Some (did_take (At index) o))) a }
         ensures made { MatchOption result (self.new.seat.me ≡ self.old.seat.me)
             (λ o. P.moves self.old.seat.me.0.form self.old.seat.me.0.state (does (Some (did_take (At index) o))) self.new.seat.me.0.state) }
-        ensures same { (self.new.seat.table_id ≡ self.old.seat.table_id) × (self.new.seat.me.0.who ≡ self.old.seat.me.0.who) × (self.new.seat.me.0.form ≡ self.old.seat.me.0.form) }
+        ensures same { (self.new.seat.table_id ≡ self.old.seat.table_id) × (self.new.seat.me.0.who ≡ self.old.seat.me.0.who) × (self.new.seat.me.0.form ≡ self.old.seat.me.0.form) × (self.new.seat.me.0.over ≡ self.old.seat.me.0.over) }
     {
         let shared = &self.table.shared;
         if shared.compare_exchange::<Takes<P>>(&mut self.seat, index, 0, 1) != 0 {
@@ -370,7 +370,7 @@ impl<'a, T, A, P: Machine<T, A>> CallSeat<'a, T, A, P> {
         requires next { (o : Result Unit T) → (a : A) × P.moves self.old.seat.me.0.form self.old.seat.me.0.state (does (Some (did_put (At index) value o))) a }
         ensures made { MatchResult result (λ u. P.moves self.old.seat.me.0.form self.old.seat.me.0.state (does (Some (did_put (At index) value (Ok tt)))) self.new.seat.me.0.state)
             (λ e. (e.0 ≡ value) × MatchBool e.1 (P.moves self.old.seat.me.0.form self.old.seat.me.0.state (does (Some (did_put (At index) value (Err value)))) self.new.seat.me.0.state) (self.new.seat.me ≡ self.old.seat.me)) }
-        ensures same { (self.new.seat.table_id ≡ self.old.seat.table_id) × (self.new.seat.me.0.who ≡ self.old.seat.me.0.who) × (self.new.seat.me.0.form ≡ self.old.seat.me.0.form) }
+        ensures same { (self.new.seat.table_id ≡ self.old.seat.table_id) × (self.new.seat.me.0.who ≡ self.old.seat.me.0.who) × (self.new.seat.me.0.form ≡ self.old.seat.me.0.form) × (self.new.seat.me.0.over ≡ self.old.seat.me.0.over) }
     {
         let shared = &self.table.shared;
         let brought = Some(value);

@@ -27,9 +27,9 @@ pub fn push<T: Drop, R: Wait>(
 {
     let seat = table.begin::<Brand, T>(&value);
     let mut cells = HistoryCells { seat, rt };
-    let reply = complete(rt, QueueCall::push(value), &mut cells);
+    let pushed = complete(rt, QueueCall::push(value), &mut cells);
     let HistoryCells { seat, rt: _ } = cells;
-    (reply, seat.end())
+    (pushed, seat.end())
 }
 
 /// The next push of a party.
@@ -41,7 +41,7 @@ pub fn push_again<T: Drop, R: Wait>(
 ) -> (QueueReply<T>, Witness<T>)
     requires same { witness.seat.table_id ≡ table.now.table.shared.table_id }
     ensures same { result.1.seat.table_id ≡ table.now.table.shared.table_id }
-    ensures party { result.1.seat.me.0.who ≡ witness.seat.me.0.who }
+    ensures party { (result.1.seat.me.0.who ≡ witness.seat.me.0.who) × (result.1.seat.me.0.over ≡ witness.seat.me.0.over) }
     ensures asked { result.1.seat.me.0.state.asked ≡ witness.seat.me.0.state.asked ++ Push value ∷ [] }
     ensures answered { result.1.seat.me.0.state.replies ≡ witness.seat.me.0.state.replies ++ result.0 ∷ [] }
 {

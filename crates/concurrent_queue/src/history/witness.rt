@@ -7,7 +7,7 @@ ghost use Rattle.concurrent_queue.specs.history.Shared.{Shown, both_views, spent
 ghost use Rattle.concurrent_queue.specs.declared.cells.QueueForm.TheVariants.{Bounded};
 
 use crate::history::party::{OfQueue, Standing};
-use crate::history::rule::{Asks, Begins, BeginsAgain, Joined, Looks, Spends, View};
+use crate::history::rule::{Asks, Begins, BeginsAgain, Comes, Joined, Looks, Spends, View};
 use crate::history::table::{CallSeat, RuledTable, flag_index};
 use atomic_table::Seat;
 use std::marker::Brand;
@@ -23,12 +23,24 @@ pub struct Witness<T> {
 }
 
 impl<T> RuledTable<T, Standing<T>, OfQueue> {
+    /// A witness of a new party that has made no call. It costs a load.
+    pub fn witness(&self) -> Witness<T>
+        ensures fresh { result.seat.me.0.state ≡ fresh }
+        ensures alone { result.seat.me.0.over ≡ [] }
+        ensures same { result.seat.table_id ≡ self.now.table.shared.table_id }
+    {
+        let at = flag_index(&self.table);
+        let (_, seat) = self.table.shared.load_new_seat::<Comes<OfQueue>>(at);
+        Witness { seat }
+    }
+
     /// A new party begins a call, in the load that makes its seat. What it asks is picked by the proof of the caller, who says what it is
     /// about.
     #[inline(always)]
     pub fn begin<I: Asks<T>, X>(&self, _about: &X) -> CallSeat<'_, T, Standing<T>, OfQueue>
         ensures begun { result.seat.me.0.state ≡ begun I.ask fresh }
         ensures same { (result.seat.table_id ≡ self.now.table.shared.table_id) × (result.seat.me.0.form ≡ self.now.table.shared.key) }
+        ensures alone { result.seat.me.0.over ≡ [] }
     {
         let at = flag_index(&self.table);
         let (_, seat) = self.table.shared.load_new_seat::<Begins<OfQueue, I>>(at);
@@ -47,7 +59,7 @@ impl<T> RuledTable<T, Standing<T>, OfQueue> {
     ) -> CallSeat<'_, T, Standing<T>, OfQueue>
         requires same { witness.seat.table_id ≡ self.now.table.shared.table_id }
         ensures begun { result.seat.me.0.state ≡ begun I.ask witness.seat.me.0.state }
-        ensures same { (result.seat.table_id ≡ self.now.table.shared.table_id) × (result.seat.me.0.form ≡ self.now.table.shared.key) × (result.seat.me.0.who ≡ witness.seat.me.0.who) }
+        ensures same { (result.seat.table_id ≡ self.now.table.shared.table_id) × (result.seat.me.0.form ≡ self.now.table.shared.key) × (result.seat.me.0.who ≡ witness.seat.me.0.who) × (result.seat.me.0.over ≡ witness.seat.me.0.over) }
     {
         let Witness { seat } = witness;
         let mut seat = seat;

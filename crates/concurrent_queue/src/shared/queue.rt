@@ -13,6 +13,7 @@ use crate::seen::{Lent, NoTrace, Trace};
 use crate::shared::endless::Endless;
 use crate::shared::ruled;
 use crate::shared::ruled::QueueTable;
+use crate::shared::witnessed::Witnessed;
 use std::alloc::Global;
 use std::sync::Wait;
 
@@ -68,8 +69,9 @@ impl<T: Drop> ConcurrentQueue<T> {
 }
 
 impl<T: Drop, W: Copy> ConcurrentQueue<T, W> {
-    ghost use Rattle.std.specs.Prelude.{◌≡◌, ◌<◌, ◌≤◌, ◌^◌, IfOk, Some, None};
+    ghost use Rattle.std.specs.Prelude.{◌≡◌, ◌<◌, ◌≤◌, ◌^◌, IfOk, IfSome, Some, None, []};
     ghost use Rattle.concurrent_queue.specs.SharedQueue.{limit, watch_of};
+    ghost use Rattle.concurrent_queue.specs.Witnessed.{asked_in, replied_in, view_of};
 
     /// A bounded queue, as `bounded`, whose calls show this trace what they do. Each takes a copy of it, so calls of many
     /// threads are seen where a copy leads to what they share. `Err` as there. Own to this project.
@@ -119,6 +121,19 @@ impl<T: Drop, W: Copy> ConcurrentQueue<T, W> {
         match self.form {
             QueueForm::Bounded(capacity) => Some(at_most_greatest(capacity) as usize),
             QueueForm::Unbounded => None,
+        }
+    }
+
+    /// Makes calls of which a witness says what they asked and what they were answered, from none on. `None` of a queue without a bound. It
+    /// waits for nobody. Own to this project.
+    pub fn witnessed(&self) -> Option<Witnessed<'_, T>>
+        ensures asked { IfSome result (λ w. asked_in w ≡ []) }
+        ensures replied { IfSome result (λ w. replied_in w ≡ []) }
+        ensures alone { IfSome result (λ w. (view_of w).over ≡ []) }
+    {
+        match &self.memory {
+            Memory::Ruled(table) => Some(Witnessed::new(table)),
+            Memory::Endless(_) => None,
         }
     }
 

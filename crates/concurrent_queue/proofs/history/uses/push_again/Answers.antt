@@ -36,4 +36,4 @@ returns-clause-party g c =
     let b = c.begin_again-seat.ensures in
     let done = c.complete-reply.ensures in
     let e = cells_call_ends c.args.table.now.table.shared.table_id.slots (Push c.args.value) tt c.push.result c.push.ensures.asked c.args.witness.seat.me.0.state _ _ _ (b.same.1 ∙ c.args.table.now.bounded) b.begun done.walked done.answers in
-    ap (λ s. s.me.0.who) c.end.ensures ∙ (e.1.1 ∙ b.same.2)
+    (ap (λ s. s.me.0.who) c.end.ensures ∙ (e.1.1 ∙ b.same.2), ap (λ s. s.me.0.over) c.end.ensures ∙ (e.1.2 ∙ b.same.3))

@@ -11,10 +11,10 @@ pub returns-in-Ok-clause-deed : goal.returns-in-Ok-clause-deed
 returns-in-Ok-clause-deed g c =
     let i = c.loop.invariant in
     let e = c.in-Ok.ensures in
-    put_done c.args.self.now.seat.seat.me.0 c.loop.self.seat.seat.me.0 c.args.at _ _ c.try_put.new.self.seat.me.0 (ap (λ m. m.0) i.1) i.0 e.made (e.same.0 ∙ i.2) e.same.1 e.same.2
+    put_done c.args.self.now.seat.seat.me.0 c.loop.self.seat.seat.me.0 c.args.at _ _ c.try_put.new.self.seat.me.0 (ap (λ m. m.0) i.1) i.0 e.made (e.same.0 ∙ i.2) e.same.1 e.same.2 e.same.3
 
 pub returns-then-full-clause-deed : goal.returns-then-full-clause-deed
 returns-then-full-clause-deed g c =
     let i = c.loop.invariant in
     let e = c.in-Err.ensures in
-    put_refused c.args.self.now.seat.seat.me.0 c.loop.self.seat.seat.me.0 c.args.at _ _ c.try_put.new.self.seat.me.0 _ _ (ap (λ m. m.0) i.1) i.0 e.made.0 c.if-full.true _ e.made.1 (e.same.0 ∙ i.2) e.same.1 e.same.2
+    put_refused c.args.self.now.seat.seat.me.0 c.loop.self.seat.seat.me.0 c.args.at _ _ c.try_put.new.self.seat.me.0 _ _ (ap (λ m. m.0) i.1) i.0 e.made.0 c.if-full.true _ e.made.1 (e.same.0 ∙ i.2) e.same.1 e.same.2 e.same.3

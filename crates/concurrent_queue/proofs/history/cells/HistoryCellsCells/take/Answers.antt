@@ -14,4 +14,4 @@ pub returns-in-Some-try_take-clause-deed : goal.returns-in-Some-try_take-clause-
 returns-in-Some-try_take-clause-deed g c =
     let i = c.loop.invariant in
     let e = c.in-Some-try_take.ensures in
-    at_last c.args.self.now.seat.seat.me.0 c.loop.self.seat.seat.me.0 c.try_take.new.self.seat.me.0 (ap (λ m. m.0) i.0) (does (Some (did_take c.args.at _))) e.made (e.same.0 ∙ i.1) e.same.1 e.same.2
+    at_last c.args.self.now.seat.seat.me.0 c.loop.self.seat.seat.me.0 c.try_take.new.self.seat.me.0 (ap (λ m. m.0) i.0) (does (Some (did_take c.args.at _))) e.made (e.same.0 ∙ i.1) e.same.1 e.same.2 e.same.3
