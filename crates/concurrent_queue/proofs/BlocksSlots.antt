@@ -1,22 +1,21 @@
 -- A slot of a block that a call is about to put into or take from is its own: a place is filled by one, and taken from by one.
-use Rattle.std.proofs.Common.{◌≡◌, ℕ, zero, suc, ◌+◌, ◌*◌, ◌/◌, ◌%◌, ◌<◌, ◌≤◌, ◌&&◌, Bool, true, false, not, List, [], ◌∷◌, ◌++◌, map, Option, None, Some, nat_lt, slice_get, slice_index_or, refl, sym, ap, ◌∙◌, subst, arith}
+use Rattle.std.proofs.Common.{◌≡◌, ℕ, ◌+◌, ◌*◌, ◌/◌, ◌%◌, ◌≤◌, ◌&&◌, true, false, not, List, [], ◌∷◌, ◌++◌, map, Option, None, Some, nat_lt, slice_get, slice_index_or, sym, ap, ◌∙◌, subst, arith}
 use Rattle.std.proofs.lemmas.Nat.{div-add-mod'}
 use Rattle.concurrent_queue.specs.Contents.{Contents, is_vacant, block_at}
 use Rattle.concurrent_queue.specs.Queue.{Queue, Phase}
 use Rattle.concurrent_queue.specs.Step.{ActiveQueueCall, seat, FitsBy, IsAtBlocks}
 use Rattle.concurrent_queue.specs.Touched.{target, on_slot, IsServed, target_at, served_at}
 use Rattle.concurrent_queue.specs.Walked.{standing}
-use Rattle.concurrent_queue.specs.machine.BlocksCalls as call
 use Rattle.concurrent_queue.specs.machine.BlocksCalls.{Act, KnowsBlocks, IsBlockOf, owes}
 use Rattle.concurrent_queue.specs.machine.BlocksDenotes.{Denotes, act_of, IsProper}
 use Rattle.concurrent_queue.specs.machine.BlocksForm.{seat_of, IsFit, UnboundedMeans}
 use Rattle.concurrent_queue.specs.machine.BlocksMakes.{blocks_moves}
 use Rattle.concurrent_queue.specs.machine.BlocksMoves.{BlocksSeat, owners}
-use Rattle.concurrent_queue.specs.machine.BlocksState.{Blocks, SoundBlocks, Duty, used, fill, take, is_none, owed, number}
+use Rattle.concurrent_queue.specs.machine.BlocksState.{Blocks, SoundBlocks, Duty, fill, take, is_none, owed, number}
 use Rattle.concurrent_queue.specs.machine.Places.{Place, Each}
 use Rattle.concurrent_queue.specs.declared.cells.QueueForm.TheVariants.{Unbounded}
 use Rattle.concurrent_queue.specs.declared.cells.Slot.{Slot}
-use Rattle.concurrent_queue.specs.declared.cells.Slot.TheVariants.{At, In}
+use Rattle.concurrent_queue.specs.declared.cells.Slot.TheVariants.{In}
 use Rattle.concurrent_queue.specs.declared.queue_call.QueueCall.{QueueCall}
 use Rattle.concurrent_queue.specs.declared.unbounded.action.UnboundedAction.{UnboundedAction}
 use Rattle.concurrent_queue.specs.declared.unbounded.action.UnboundedAction.TheVariants as act

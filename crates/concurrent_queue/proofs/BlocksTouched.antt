@@ -1,27 +1,22 @@
 -- A block that a call is about to touch is in use: else all of it was written, taken and counted, and nobody would owe that any more.
-use Rattle.std.proofs.Common.{◌≡◌, ℕ, zero, suc, ◌+◌, ◌-◌, ◌/◌, ◌%◌, ◌<◌, ◌≤◌, ◌==◌, ◌&&◌, Bool, true, false, not, List, [], ◌∷◌, ◌++◌, length, map, ◌⊎◌, inl, inr, ⊎_elim, Option, None, Some, nat_lt, if◌then◌else◌, refl, sym, ap, ◌∙◌, subst, arith}
+use Rattle.std.proofs.Common.{◌≡◌, ℕ, ◌+◌, ◌/◌, ◌%◌, ◌<◌, ◌≤◌, ◌==◌, ◌&&◌, Bool, true, false, not, List, [], ◌∷◌, ◌++◌, length, map, ◌⊎◌, inl, inr, ⊎_elim, Option, None, Some, nat_lt, if◌then◌else◌, refl, sym, ap, ◌∙◌, subst, arith}
 use Rattle.std.proofs.lemmas.Bool.{cases_lt}
 use Rattle.std.proofs.lemmas.Bool.Decides.{nat_tests}
 use Rattle.concurrent_queue.specs.Contents.{Contents}
 use Rattle.concurrent_queue.specs.Queue.{Queue, Phase}
-use Rattle.concurrent_queue.specs.Step.{ActiveQueueCall, seat, FitsAt, FitsForm, FitsSlot, FitsRing, IsAtSingle, IsAtRing, IsAtBlocks, AreAt, FitsBy}
-use Rattle.concurrent_queue.specs.Touched.{Target, target, touched_block, on_word, on_slot, on_spares, on_block, on_nothing, target_at, next_target, IsUnderWayAmong, TouchedBlocksAreInUse, BlocksAreGivenBackAlone}
+use Rattle.concurrent_queue.specs.Step.{ActiveQueueCall, seat, FitsAt, FitsForm, FitsSlot, FitsRing, IsAtSingle, IsAtRing, IsAtBlocks, FitsBy}
+use Rattle.concurrent_queue.specs.Touched.{Target, target, touched_block, on_block, target_at, next_target, TouchedBlocksAreInUse, BlocksAreGivenBackAlone}
 use Rattle.concurrent_queue.specs.Walked.{standing}
 use Rattle.concurrent_queue.specs.machine.BlocksCalls as call
 use Rattle.concurrent_queue.specs.machine.BlocksCalls.{Act, KnowsBlocks, IsBlockOf, same, owes}
 use Rattle.concurrent_queue.specs.machine.BlocksDenotes.{Denotes, act_of, times, is_spare}
 use Rattle.concurrent_queue.specs.machine.BlocksForm.{seat_of, UnboundedMeans}
 use Rattle.concurrent_queue.specs.machine.BlocksMakes.{blocks_moves}
-use Rattle.concurrent_queue.specs.machine.BlocksMoves.{BlocksSeat, BlocksMeans, owners}
+use Rattle.concurrent_queue.specs.machine.BlocksMoves.{BlocksSeat, owners}
 use Rattle.concurrent_queue.specs.machine.BlocksState.{Blocks, SoundBlocks, Duty, Spot, unmade, spare, held, used, fill, take, count, retire, keep, one_if, is_none, is_held, taken_in, owed, number}
-use Rattle.concurrent_queue.specs.machine.BlocksWords.{begin}
 use Rattle.concurrent_queue.specs.machine.Places.{Place, Each}
-use Rattle.concurrent_queue.specs.declared.call.QueueAsk.{QueueAsk}
 use Rattle.concurrent_queue.specs.declared.cells.QueueForm.{QueueForm}
 use Rattle.concurrent_queue.specs.declared.cells.QueueForm.TheVariants.{Bounded, Unbounded}
-use Rattle.concurrent_queue.specs.declared.queue_call.CallState.{CallState}
-use Rattle.concurrent_queue.specs.declared.queue_call.CallState.TheVariants.{Asked, Single, Ring, Finished}
-use Rattle.concurrent_queue.specs.declared.queue_call.CallState.TheVariants as state
 use Rattle.concurrent_queue.specs.declared.queue_call.QueueCall.{QueueCall}
 use Rattle.concurrent_queue.specs.declared.unbounded.action.UnboundedAction.{UnboundedAction}
 use Rattle.concurrent_queue.specs.declared.unbounded.action.UnboundedAction.TheVariants as act

@@ -1,13 +1,10 @@
 -- What a party is about to touch wherever a merge of calls has come.
-use Rattle.std.proofs.Common.{◌≡◌, ℕ, zero, suc, ◌<◌, List, [], ◌∷◌, length, Option, Some, slice_get, refl, sym, ap, ◌∙◌, subst}
-use Rattle.concurrent_queue.specs.Bridge.{Happening}
+use Rattle.std.proofs.Common.{◌≡◌, ℕ, zero, suc, List, [], ◌∷◌, Option, Some, slice_get, subst}
 use Rattle.concurrent_queue.specs.Contents.{Contents}
 use Rattle.concurrent_queue.specs.Step.{ActiveQueueCall}
-use Rattle.concurrent_queue.specs.Touched.{on_slot, on_block, touched_block, next_target, NextIsServed, HasLed, TouchesItsOwn, EachTouchesItsOwn}
-use Rattle.concurrent_queue.specs.machine.BlocksDenotes.{times}
+use Rattle.concurrent_queue.specs.Touched.{on_slot, touched_block, next_target, TouchesItsOwn, EachTouchesItsOwn}
 use Rattle.concurrent_queue.specs.machine.Places.{Each}
 use Rattle.concurrent_queue.specs.declared.cells.QueueForm.{QueueForm}
-use Rattle.concurrent_queue.specs.declared.cells.Slot.{Slot}
 use Rattle.concurrent_queue.specs.declared.queue_call.QueueCall.{QueueCall}
 use Rattle.concurrent_queue.proofs.Among.{parties_are_among_others}
 use Rattle.concurrent_queue.proofs.BlocksTouched.{touched_blocks_are_in_use, blocks_are_given_back_alone}

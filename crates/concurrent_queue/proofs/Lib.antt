@@ -75,3 +75,14 @@ pub mod AloneFacts
 pub mod Interface
 pub mod Guards
 mod ReplyFacts
+pub mod HistoryRuns
+pub mod HistoryOpening
+pub mod Guarding
+pub mod Histories
+pub mod HistoryWords
+pub mod HistorySteps
+pub mod HistoryCallsEnd
+pub mod HistoryAnswers
+mod CallEnded
+mod Capacities
+pub mod HistorySeats

@@ -1,10 +1,10 @@
 -- A slot that a call is about to put into or take from is its own: else two would hold one place.
-use Rattle.std.proofs.Common.{◌≡◌, ℕ, zero, suc, ◌+◌, ◌*◌, ◌/◌, ◌%◌, ◌<◌, ◌≤◌, ◌^◌, ◌==◌, Bool, true, false, List, [], ◌∷◌, ◌++◌, map, ◌⊎◌, inl, inr, Option, None, Some, slice_get, slice_index_or, if◌then◌else◌, refl, sym, ap, ◌∙◌, subst, arith}
+use Rattle.std.proofs.Common.{◌≡◌, ℕ, ◌+◌, ◌*◌, ◌%◌, ◌<◌, ◌≤◌, Bool, List, [], ◌∷◌, ◌++◌, map, inl, inr, Option, None, Some, slice_get, slice_index_or, if◌then◌else◌, refl, sym, ap, ◌∙◌, subst, arith}
 use Rattle.std.proofs.lemmas.Nat.{mod_below}
-use Rattle.concurrent_queue.specs.Contents.{Contents, is_vacant, slot_at, can_put}
+use Rattle.concurrent_queue.specs.Contents.{Contents, is_vacant}
 use Rattle.concurrent_queue.specs.Queue.{Queue, Phase}
 use Rattle.concurrent_queue.specs.Step.{ActiveQueueCall, seat, FitsAt, FitsForm, FitsSlot, FitsRing, IsAtSingle, IsAtRing}
-use Rattle.concurrent_queue.specs.Touched.{Target, target, on_slot, IsServed, target_at, served_at, next_target, NextIsServed, IsUnderWayAmong, SlotsAreTouchedAlone, SlotsAreAsExpected}
+use Rattle.concurrent_queue.specs.Touched.{target, on_slot, IsServed, target_at, served_at, next_target, SlotsAreTouchedAlone, SlotsAreAsExpected}
 use Rattle.concurrent_queue.specs.Walked.{standing}
 use Rattle.concurrent_queue.specs.machine.Places.{Place, Each, sum}
 use Rattle.concurrent_queue.specs.machine.Positions.{pos}
@@ -21,7 +21,7 @@ use Rattle.concurrent_queue.specs.declared.bounded.RingAction.TheVariants as man
 use Rattle.concurrent_queue.specs.declared.cells.QueueForm.{QueueForm}
 use Rattle.concurrent_queue.specs.declared.cells.QueueForm.TheVariants.{Bounded, Unbounded}
 use Rattle.concurrent_queue.specs.declared.cells.Slot.{Slot}
-use Rattle.concurrent_queue.specs.declared.cells.Slot.TheVariants.{At, In}
+use Rattle.concurrent_queue.specs.declared.cells.Slot.TheVariants.{At}
 use Rattle.concurrent_queue.specs.declared.queue_call.QueueCall.{QueueCall}
 use Rattle.concurrent_queue.specs.declared.single.SingleAction.{SingleAction}
 use Rattle.concurrent_queue.specs.declared.single.SingleAction.TheVariants as one

@@ -36,6 +36,13 @@ module _ {T C S : Type 0} (on_cells : Deed T → C → C → Type 0) (did : Deed
   traced_fast reply at (Err call) (n, path) =
       (n, subst (λ (z : S). Leads (StateMakes did form) n s.trace at z (standing form call.state)) (sym to) (leads_seen both did (λ (z : Seen C S). z.trace) shows form n s at t (standing form call.state) path))
 
+-- and of the cells, which are given back
+module _ {T C S : Type 0} (on_cells : Deed T → C → C → Type 0) (did : Deed T → S → S → Type 0) (form : QueueForm) (s t : Seen C S) (y : C) (to : y ≡ t.cells) where
+  pub on_cells_walked : (at : CallState T) (r : QueueReply T) → WalkedFrom (λ (d : Deed T) (a b : Seen C S). on_cells d a.cells b.cells × did d a.trace b.trace) form at s r t → WalkedFrom on_cells form at s.cells r y
+  on_cells_walked at r walked =
+      subst (λ (z : C). WalkedFrom on_cells form at s.cells r z) (sym to)
+      (walked_seen (λ (d : Deed T) (a b : Seen C S). on_cells d a.cells b.cells × did d a.trace b.trace) on_cells (λ (z : Seen C S). z.cells) (λ d a b h. h.0) form s at t r walked)
+
 -- what was seen on cells of an equal form, from an equal trace
 module _ {T S : Type 0} (did : Deed T → S → S → Type 0) (form now : QueueForm) (w x : S) (same : now ≡ form) (from : w ≡ x) where
   pub walked_here : (at : CallState T) (r : QueueReply T) (y : S) → WalkedFrom did now at w r y → WalkedFrom did form at x r y

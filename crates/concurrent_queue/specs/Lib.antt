@@ -43,3 +43,7 @@ pub mod Places
 pub mod Blocks
 pub mod Parties
 pub mod machine
+pub mod history
+pub mod Memory
+pub mod QueueTables
+pub mod Witnessed

@@ -125,9 +125,10 @@ fn capacity_step<T: Drop, S: Trace<T>>(form: QueueForm, trace: &S) -> Stepped<Ca
 }
 
 impl<T: Drop> QueueCall<T> {
-    ghost use Rattle.std.specs.Prelude.{◌≡◌, true};
+    ghost use Rattle.std.specs.Prelude.{◌≡◌, true, MatchResult};
     ghost use Rattle.concurrent_queue.specs.Step.{Starts, mark_of};
     ghost use Rattle.concurrent_queue.specs.Replies.{Follows, IsAsking};
+    ghost use Rattle.concurrent_queue.specs.declared.queue_call.CallState.TheVariants as CallState;
     ghost use Rattle.concurrent_queue.specs.Walked.{CallMakes, HasEnded, standing};
 
     /// The call that asks this. It has made no step.
@@ -169,6 +170,18 @@ impl<T: Drop> QueueCall<T> {
     {
         let QueueCall { state, mark: _ } = self;
         state
+    }
+
+    /// What a call asks that has made no step; else the call.
+    #[inline(always)]
+    pub(crate) fn into_asked(self) -> Result<QueueAsk<T>, QueueCall<T>>
+        ensures { MatchResult result (λ a. self.state ≡ CallState.Asked a) (λ rest. rest ≡ self) }
+    {
+        let QueueCall { state, mark } = self;
+        match state {
+            CallState::Asked(ask) => Ok(ask),
+            state => Err(QueueCall { state, mark }),
+        }
     }
 
     /// Whether it asks how many messages the queue can hold, and has made no step.

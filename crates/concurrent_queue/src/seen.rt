@@ -6,6 +6,8 @@ ghost use Rattle.concurrent_queue.specs.Shown.{Sees};
 
 use crate::cells::{Cells, QueueForm, Slot, Word};
 use crate::error::NoMemory;
+use crate::history::cells::{HistoryCells, HistoryWords};
+use crate::history::foreign::ForeignCells;
 use crate::shared::cells::{SharedCells, WordCells};
 use std::marker::PhantomData;
 use std::sync::Wait;
@@ -144,7 +146,6 @@ pub(crate) struct Seen<C, S> {
 /// The cells of words of a shared queue, seen by this trace.
 #[inline(always)]
 pub(crate) fn see_words<T: Drop, S>(cells: WordCells<'_, T>, trace: S) -> Seen<WordCells<'_, T>, S>
-    ensures form { result.cells.form ≡ cells.entry.form }
     ensures trace { result.trace ≡ trace }
 {
     Seen {
@@ -160,13 +161,77 @@ pub(crate) fn see_cells<'a, T: Drop, R: Wait, S>(
     cells: SharedCells<'a, T, R>,
     trace: S,
 ) -> Seen<SharedCells<'a, T, R>, S>
-    ensures form { result.cells.words.form ≡ cells.entry.words.form }
     ensures trace { result.trace ≡ trace }
 {
     Seen {
         cells,
         trace,
         sight: Sight { of: PhantomData },
+    }
+}
+
+/// The cells of a call of a queue with a bound, seen by this trace.
+#[inline(always)]
+pub(crate) fn see_call<'a, T: Drop, R: Wait, S>(
+    cells: HistoryCells<'a, T, R>,
+    trace: S,
+) -> Seen<HistoryCells<'a, T, R>, S>
+    ensures cells { result.cells ≡ cells.entry }
+    ensures trace { result.trace ≡ trace }
+{
+    Seen {
+        cells,
+        trace,
+        sight: Sight { of: PhantomData },
+    }
+}
+
+/// The same of a call that waits for nobody.
+#[inline(always)]
+pub(crate) fn see_question<T: Drop, S>(
+    cells: HistoryWords<'_, T>,
+    trace: S,
+) -> Seen<HistoryWords<'_, T>, S>
+    ensures cells { result.cells ≡ cells.entry }
+    ensures trace { result.trace ≡ trace }
+{
+    Seen {
+        cells,
+        trace,
+        sight: Sight { of: PhantomData },
+    }
+}
+
+/// The same of a call that may have been begun on another queue.
+#[inline(always)]
+pub(crate) fn see_foreign<T: Drop, S>(
+    cells: ForeignCells<'_, T>,
+    trace: S,
+) -> Seen<ForeignCells<'_, T>, S>
+    ensures cells { result.cells ≡ cells.entry }
+    ensures trace { result.trace ≡ trace }
+{
+    Seen {
+        cells,
+        trace,
+        sight: Sight { of: PhantomData },
+    }
+}
+
+impl<C, S> Seen<C, S> {
+    /// The cells and what saw them.
+    #[inline(always)]
+    pub(crate) fn into_parts(self) -> (C, S)
+        ensures cells { result.0 ≡ self.cells }
+        ensures trace { result.1 ≡ self.trace }
+    {
+        let Seen {
+            cells,
+            trace,
+            sight,
+        } = self;
+        let Sight { of: _ } = sight;
+        (cells, trace)
     }
 }
 

@@ -4,7 +4,10 @@
 pub(crate) mod blocks;
 pub mod calls;
 pub(crate) mod cells;
+pub(crate) mod endless;
 pub(crate) mod guard;
 pub mod iter;
 pub mod queue;
+pub(crate) mod ruled;
 pub(crate) mod table;
+pub mod witnessed;

@@ -110,3 +110,39 @@ pub(crate) fn call_fast<T: Drop, C: Cells<T> + Drop, S: Trace<T>>(
     let made = fast_path::call_fast(call, &mut seen);
     (made, seen.into_trace())
 }
+
+/// The steps of a call up to its answer, over cells that are given back. A push or a pop is made at once where nothing stands against it.
+#[inline(always)]
+pub(crate) fn complete<T: Drop, R: Wait, C: Cells<T>, S: Trace<T>>(
+    rt: &R,
+    call: QueueCall<T>,
+    seen: Seen<C, S>,
+) -> (QueueReply<T>, C, S)
+    requires stands { C.stands (standing (C.form_of seen.cells) call.state) seen.cells }
+    ensures cells { Walked C.did (C.form_of seen.cells) call seen.cells (result.0) (result.1) }
+    ensures walked { Walked S.did (C.form_of seen.cells) call seen.trace (result.0) (result.2) }
+    ensures answers { MayCall (C.form_of seen.cells) call.state (result.0) }
+{
+    let mut seen = seen;
+    let reply = whole::complete(rt, call, &mut seen);
+    let (cells, trace) = seen.into_parts();
+    (reply, cells, trace)
+}
+
+/// The same of a call that waits for nobody.
+#[inline(always)]
+pub(crate) fn complete_question<T: Drop, C: Cells<T>, S: Trace<T>>(
+    ask: QueueAsk<T>,
+    seen: Seen<C, S>,
+) -> (QueueReply<T>, C, S)
+    requires words { AsksWords ask }
+    requires stands { C.stands (first_of (C.form_of seen.cells) ask) seen.cells }
+    ensures cells { WalkedAsking C.did (C.form_of seen.cells) ask seen.cells (result.0) (result.1) }
+    ensures walked { WalkedAsking S.did (C.form_of seen.cells) ask seen.trace (result.0) (result.2) }
+    ensures answers { MayAnswer (C.form_of seen.cells) ask (result.0) }
+{
+    let mut seen = seen;
+    let reply = whole::tell(ask, &mut seen);
+    let (cells, trace) = seen.into_parts();
+    (reply, cells, trace)
+}

@@ -93,7 +93,7 @@ impl<T: Drop> Blocks<T> {
         if stock.spares.reserve(wanted).is_err() {
             return Err(NoMemory);
         }
-        let Ok(block) = SharedTable::new(self.alloc, SLOTS as usize, WRITTEN + 1, None) else {
+        let Ok(block) = SharedTable::new(self.alloc, SLOTS as usize, WRITTEN + 1) else {
             return Err(NoMemory);
         };
         if self.made.set_placed(rt, number, block).is_err() {

@@ -1,5 +1,5 @@
-//! The cells of a shared queue, on which a call steps: one form with the runtime value, and one of words alone for the calls
-//! that wait for nobody. Nothing is known of what they hold, since any thread may step on them at any time.
+//! The cells of a shared queue without a bound, on which a call steps: with the runtime value, and of words alone for the calls that
+//! wait for nobody. Nothing is known of what they hold, since any thread may step on them at any time.
 
 ghost use Rattle.std.specs.Prelude.{◌≡◌, ◌<◌};
 ghost use Rattle.concurrent_queue.specs.Places.{place_of, flag_of, IsNear, OwnPlaces, OwnFlags};
@@ -67,9 +67,8 @@ fn place_of(at: Word) -> Place
 /// last, since a call stays with one block for most of its steps.
 #[derive(Drop)]
 pub(crate) struct WordCells<'a, T: Drop> {
-    form: QueueForm,
     own: SeatedTable<'a, T>,
-    blocks: Option<&'a Blocks<T>>,
+    blocks: &'a Blocks<T>,
     near: Option<SeatedTable<'a, T>>,
     number: u64,
 }
@@ -77,17 +76,10 @@ pub(crate) struct WordCells<'a, T: Drop> {
 impl<'a, T: Drop> WordCells<'a, T> {
     ghost use Rattle.std.specs.Prelude.{◌≡◌};
 
-    /// The cells of a queue with these words, these slots and these blocks.
+    /// The cells of a queue with these ends and these blocks.
     #[inline(always)]
-    pub(crate) fn new(
-        form: QueueForm,
-        own: SeatedTable<'a, T>,
-        blocks: Option<&'a Blocks<T>>,
-    ) -> WordCells<'a, T>
-        ensures { result.form ≡ form }
-    {
+    pub(crate) fn new(own: SeatedTable<'a, T>, blocks: &'a Blocks<T>) -> WordCells<'a, T> {
         WordCells {
-            form,
             own,
             blocks,
             near: None,
@@ -98,30 +90,27 @@ impl<'a, T: Drop> WordCells<'a, T> {
     /// Looks up the block of this number.
     #[inline(always)]
     fn look_up(&mut self, block: u64)
-        ensures form { self.new.form ≡ self.old.form }
         ensures number { self.new.number ≡ block }
     {
         if self.near.is_none() || self.number != block {
-            self.near = match self.blocks {
-                Some(blocks) => blocks.seat(block),
-                None => None,
-            };
+            self.near = self.blocks.seat(block);
             self.number = block;
         }
     }
 }
 
 impl<'a, T: Drop> Cells<T> for WordCells<'a, T> {
-    ghost use Rattle.std.specs.Prelude.{◌≡◌};
+    ghost use Rattle.std.specs.Prelude.{refl};
     ghost use Rattle.concurrent_queue.specs.Contents.{no_contents};
+    ghost use Rattle.concurrent_queue.specs.declared.cells.QueueForm.TheVariants.{Unbounded};
 
     ghost known = { ⊥ };
 
-    ghost contents = { λ c. no_contents c.form };
+    ghost contents = { λ _. no_contents Unbounded };
 
-    ghost form_of = { λ c. c.form };
+    ghost form_of = { λ _. Unbounded };
 
-    ghost did = { λ _ a b. b.form ≡ a.form };
+    ghost did = { λ _ a b. Unit {0} };
 
     ghost may = { λ _ _. Unit {0} };
 
@@ -131,7 +120,7 @@ impl<'a, T: Drop> Cells<T> for WordCells<'a, T> {
 
     ghost leads = { λ at s t d r stands done next. tt };
 
-    ghost keeps_form = { λ _ a b kept. kept };
+    ghost keeps_form = { λ _ a b done. refl };
 
     ghost exact_form = { λ known. absurd known };
 
@@ -139,7 +128,7 @@ impl<'a, T: Drop> Cells<T> for WordCells<'a, T> {
 
     #[inline(always)]
     fn form(&self) -> QueueForm {
-        self.form
+        QueueForm::Unbounded
     }
 
     #[inline(always)]
@@ -249,7 +238,7 @@ impl<'a, T: Drop> Cells<T> for WordCells<'a, T> {
     #[inline(always)]
     fn put(&mut self, at: Slot, value: T) -> Result<(), T> {
         match at {
-            Slot::At(index) => self.own.put(index as usize, value),
+            Slot::At(_) => Err(value),
             Slot::In(block, offset) => {
                 self.look_up(block);
                 match &mut self.near {
@@ -263,7 +252,7 @@ impl<'a, T: Drop> Cells<T> for WordCells<'a, T> {
     #[inline(always)]
     fn take(&mut self, at: Slot) -> Option<T> {
         match at {
-            Slot::At(index) => self.own.take(index as usize),
+            Slot::At(_) => None,
             Slot::In(block, offset) => {
                 self.look_up(block);
                 match &mut self.near {
@@ -289,16 +278,17 @@ pub(crate) struct SharedCells<'a, T: Drop, R: Wait> {
 }
 
 impl<'a, T: Drop, R: Wait> Cells<T> for SharedCells<'a, T, R> {
-    ghost use Rattle.std.specs.Prelude.{◌≡◌};
+    ghost use Rattle.std.specs.Prelude.{refl};
     ghost use Rattle.concurrent_queue.specs.Contents.{no_contents};
+    ghost use Rattle.concurrent_queue.specs.declared.cells.QueueForm.TheVariants.{Unbounded};
 
     ghost known = { ⊥ };
 
-    ghost contents = { λ c. no_contents c.words.form };
+    ghost contents = { λ _. no_contents Unbounded };
 
-    ghost form_of = { λ c. c.words.form };
+    ghost form_of = { λ _. Unbounded };
 
-    ghost did = { λ _ a b. b.words.form ≡ a.words.form };
+    ghost did = { λ _ a b. Unit {0} };
 
     ghost may = { λ _ _. Unit {0} };
 
@@ -308,7 +298,7 @@ impl<'a, T: Drop, R: Wait> Cells<T> for SharedCells<'a, T, R> {
 
     ghost leads = { λ at s t d r stands done next. tt };
 
-    ghost keeps_form = { λ _ a b kept. kept };
+    ghost keeps_form = { λ _ a b done. refl };
 
     ghost exact_form = { λ known. absurd known };
 
@@ -316,7 +306,7 @@ impl<'a, T: Drop, R: Wait> Cells<T> for SharedCells<'a, T, R> {
 
     #[inline(always)]
     fn form(&self) -> QueueForm {
-        self.words.form
+        QueueForm::Unbounded
     }
 
     #[inline(always)]
@@ -361,16 +351,13 @@ impl<'a, T: Drop, R: Wait> Cells<T> for SharedCells<'a, T, R> {
 
     #[inline(always)]
     fn spare(&mut self) -> Result<u64, NoMemory> {
-        match self.words.blocks {
-            Some(blocks) => blocks.spare(self.rt, &mut blocks.stock(self.rt)),
-            None => Err(NoMemory),
-        }
+        let blocks = self.words.blocks;
+        blocks.spare(self.rt, &mut blocks.stock(self.rt))
     }
 
     #[inline(always)]
     fn retire(&mut self, block: u64) {
-        if let Some(blocks) = self.words.blocks {
-            blocks.retire(&mut blocks.stock(self.rt), block);
-        }
+        let blocks = self.words.blocks;
+        blocks.retire(&mut blocks.stock(self.rt), block);
     }
 }

@@ -1,19 +1,30 @@
 //! A queue that threads share.
 
-ghost use Rattle.std.specs.Prelude.{◌≡◌, ◌<◌, ◌≤◌, ◌^◌, IfOk};
-ghost use Rattle.concurrent_queue.specs.Replies.{MayAnswer, AsksWords};
+ghost use Rattle.std.specs.Prelude.{◌≡◌};
+ghost use Rattle.concurrent_queue.specs.Memory.{memory_form};
+ghost use Rattle.concurrent_queue.specs.Replies.{AsksWords, MayAnswer};
 
 use crate::bounded::{GREATEST, at_most_greatest};
 use crate::call::{QueueAsk, QueueReply};
 use crate::cells::QueueForm;
 use crate::error::{NoMemory, PopError, PushError};
-use crate::queue_call::{QueueCall, seen};
-use crate::seen::{Lent, NoTrace, Seen, Trace, see_cells, see_words};
-use crate::shared::blocks::Blocks;
-use crate::shared::cells::{STAMPS, SharedCells, WordCells};
-use crate::shared::table::SharedTable;
-use std::alloc::{AllocError, Global};
+use crate::queue_call::QueueCall;
+use crate::seen::{Lent, NoTrace, Trace};
+use crate::shared::endless::Endless;
+use crate::shared::ruled;
+use crate::shared::ruled::QueueTable;
+use crate::shared::witnessed::Witnessed;
+use std::alloc::Global;
 use std::sync::Wait;
+
+/// What a queue is made of.
+#[derive(Drop)]
+pub(crate) enum Memory<T: Drop> {
+    /// With a bound: one table.
+    Ruled(QueueTable<T>),
+    /// Without one: its ends, and blocks.
+    Endless(Endless<T>),
+}
 
 /// A queue that threads share through a `&` and that can be closed, as `ConcurrentQueue` of `concurrent-queue` 2.5.0. Each
 /// call makes the steps of `queue_call`, whichever other calls are under way, and yields before it makes an action again.
@@ -27,17 +38,9 @@ use std::sync::Wait;
 #[derive(Drop)]
 pub struct ConcurrentQueue<T: Drop, W: Copy = NoTrace> {
     form: QueueForm,
-    own: SharedTable<T>,
-    blocks: Option<Blocks<T>>,
+    memory: Memory<T>,
     watch: W,
-}
-
-/// The table of a new queue: its own words, all 0, and the stamps of a ring, each of which waits for the message that is first
-/// at its index.
-fn own_table<T>(alloc: Global, slots: usize) -> Result<SharedTable<T>, AllocError>
-    requires { slots ≤ 2 ^ 58 }
-{
-    SharedTable::new(alloc, slots, STAMPS + slots, Some(STAMPS))
+    ghost fits: { memory_form memory ≡ form },
 }
 
 impl<T: Drop> ConcurrentQueue<T> {
@@ -66,8 +69,9 @@ impl<T: Drop> ConcurrentQueue<T> {
 }
 
 impl<T: Drop, W: Copy> ConcurrentQueue<T, W> {
-    ghost use Rattle.std.specs.Prelude.{◌≡◌, ◌<◌, ◌≤◌, ◌^◌, IfOk, Some, None};
+    ghost use Rattle.std.specs.Prelude.{◌≡◌, ◌<◌, ◌≤◌, ◌^◌, IfOk, IfSome, Some, None, []};
     ghost use Rattle.concurrent_queue.specs.SharedQueue.{limit, watch_of};
+    ghost use Rattle.concurrent_queue.specs.Witnessed.{asked_in, replied_in, view_of};
 
     /// A bounded queue, as `bounded`, whose calls show this trace what they do. Each takes a copy of it, so calls of many
     /// threads are seen where a copy leads to what they share. `Err` as there. Own to this project.
@@ -84,11 +88,10 @@ impl<T: Drop, W: Copy> ConcurrentQueue<T, W> {
         if capacity > GREATEST {
             return Err(NoMemory);
         }
-        match own_table(alloc, capacity) {
-            Ok(own) => Ok(ConcurrentQueue {
+        match QueueTable::new(alloc, capacity) {
+            Ok(table) => Ok(ConcurrentQueue {
                 form: QueueForm::Bounded(capacity),
-                own,
-                blocks: None,
+                memory: Memory::Ruled(table),
                 watch,
             }),
             Err(_) => Err(NoMemory),
@@ -101,16 +104,12 @@ impl<T: Drop, W: Copy> ConcurrentQueue<T, W> {
         ensures limit { IfOk result (λ q. limit q ≡ None) }
         ensures watch { IfOk result (λ q. watch_of q ≡ watch) }
     {
-        match own_table(alloc, 0) {
-            Ok(own) => match Blocks::new(alloc) {
-                Ok(blocks) => Ok(ConcurrentQueue {
-                    form: QueueForm::Unbounded,
-                    own,
-                    blocks: Some(blocks),
-                    watch,
-                }),
-                Err(_) => Err(NoMemory),
-            },
+        match Endless::new(alloc) {
+            Ok(endless) => Ok(ConcurrentQueue {
+                form: QueueForm::Unbounded,
+                memory: Memory::Endless(endless),
+                watch,
+            }),
             Err(_) => Err(NoMemory),
         }
     }
@@ -125,79 +124,25 @@ impl<T: Drop, W: Copy> ConcurrentQueue<T, W> {
         }
     }
 
+    /// Makes calls of which a witness says what they asked and what they were answered, from none on. `None` of a queue without a bound. It
+    /// waits for nobody. Own to this project.
+    pub fn witnessed(&self) -> Option<Witnessed<'_, T>>
+        ensures asked { IfSome result (λ w. asked_in w ≡ []) }
+        ensures replied { IfSome result (λ w. replied_in w ≡ []) }
+        ensures alone { IfSome result (λ w. (view_of w).over ≡ []) }
+    {
+        match &self.memory {
+            Memory::Ruled(table) => Some(Witnessed::new(table)),
+            Memory::Endless(_) => None,
+        }
+    }
+
     /// What watches it, as each call takes it. Own to this project.
     #[inline(always)]
     pub(crate) fn watch(&self) -> W
         ensures { result ≡ watch_of self.now }
     {
         self.watch
-    }
-}
-
-impl<T: Drop, W: Copy> ConcurrentQueue<T, W> {
-    ghost use Rattle.std.specs.Prelude.{◌≡◌};
-
-    /// The cells of words and slots, from a new seat.
-    #[inline(always)]
-    fn word_cells(&self) -> WordCells<'_, T>
-        ensures { result.form ≡ self.now.form }
-    {
-        WordCells::new(self.form, self.own.seat(), self.blocks.as_ref())
-    }
-
-    /// The same, seen by this trace.
-    #[inline(always)]
-    fn words<S>(&self, trace: S) -> Seen<WordCells<'_, T>, S>
-        ensures form { result.cells.form ≡ self.now.form }
-        ensures trace { result.trace ≡ trace }
-    {
-        see_words(self.word_cells(), trace)
-    }
-
-    /// The same with the runtime value.
-    #[inline(always)]
-    fn cells<'a, R: Wait, S>(&'a self, rt: &'a R, trace: S) -> Seen<SharedCells<'a, T, R>, S>
-        ensures form { result.cells.words.form ≡ self.now.form }
-        ensures trace { result.trace ≡ trace }
-    {
-        let words = self.word_cells();
-        see_cells(SharedCells { words, rt }, trace)
-    }
-}
-
-// A call that goes on has cells of its own: those of one that is made at once are lent to no function that stands apart, so they
-// need no place in memory.
-impl<T: Drop, W: Copy> ConcurrentQueue<T, W> {
-    ghost use Rattle.concurrent_queue.specs.SharedQueue.{form_in};
-    ghost use Rattle.concurrent_queue.specs.Replies.{MayCall};
-    ghost use Rattle.concurrent_queue.specs.Walked.{Walked};
-
-    /// Steps a call to its end. What straight code hands on is to make an action again, so it yields first.
-    fn finish_seen<R: Wait, S: Trace<T>>(
-        &self,
-        rt: &R,
-        call: QueueCall<T>,
-        trace: S,
-    ) -> (QueueReply<T>, S)
-        ensures walked { Walked S.did (form_in self.now) call trace (result.0) (result.1) }
-        ensures answers { MayCall (form_in self.now) call.state (result.0) }
-    {
-        seen::finish(rt, call, self.cells(rt, trace))
-    }
-
-    /// The same, apart from a push or a pop that is made at once, which so has no room to make for it.
-    #[cold]
-    #[inline(never)]
-    fn finish_apart<R: Wait, S: Trace<T>>(
-        &self,
-        rt: &R,
-        call: QueueCall<T>,
-        trace: S,
-    ) -> (QueueReply<T>, S)
-        ensures walked { Walked S.did (form_in self.now) call trace (result.0) (result.1) }
-        ensures answers { MayCall (form_in self.now) call.state (result.0) }
-    {
-        self.finish_seen(rt, call, trace)
     }
 }
 
@@ -222,7 +167,10 @@ impl<T: Drop, W: Copy> ConcurrentQueue<T, W> {
         ensures deed { CallMakes S.did (form_in self.now) trace call.old (result.1) call.new (result.0) }
         ensures answers { IsSharedStep self.now call.old call.new (result.0) }
     {
-        seen::step(call, self.cells(rt, trace))
+        match &self.memory {
+            Memory::Ruled(table) => ruled::step(table, call, trace),
+            Memory::Endless(endless) => endless.step(rt, call, trace),
+        }
     }
 
     /// The steps of a call up to its answer, as `complete`: the trace sees each operation, with the answers by which this one
@@ -237,10 +185,9 @@ impl<T: Drop, W: Copy> ConcurrentQueue<T, W> {
         ensures walked { Walked S.did (form_in self.now) call trace (result.0) (result.1) }
         ensures answers { IsSharedCall self.now call (result.0) }
     {
-        let (made, trace) = seen::call_fast(call, self.cells(rt, trace));
-        match made {
-            Ok(reply) => (reply, trace),
-            Err(rest) => self.finish_seen(rt, rest, trace),
+        match &self.memory {
+            Memory::Ruled(table) => ruled::complete(table, self.form, rt, call, trace),
+            Memory::Endless(endless) => endless.complete(rt, call, trace),
         }
     }
 
@@ -258,7 +205,10 @@ impl<T: Drop, W: Copy> ConcurrentQueue<T, W> {
         if call.asks_capacity() {
             return (call.step_capacity(self.form, &trace), trace);
         }
-        seen::step(call, self.words(trace))
+        match &self.memory {
+            Memory::Ruled(table) => ruled::step(table, call, trace),
+            Memory::Endless(endless) => endless.step_words(call, trace),
+        }
     }
 
     /// A push, as `push`: the trace sees its operations and nothing else. Own to this project.
@@ -272,16 +222,9 @@ impl<T: Drop, W: Copy> ConcurrentQueue<T, W> {
         ensures walked { WalkedAsking S.did (form_in self.now) (ask.Push value) trace (reply.Push (result.0)) (result.1) }
         ensures answers { MayAnswer (form_in self.now) (ask.Push value) (reply.Push (result.0)) }
     {
-        let (made, trace) = seen::push_fast(value, self.cells(rt, trace));
-        match made {
-            Ok(answer) => (answer, trace),
-            Err(rest) => {
-                let (reply, trace) = self.finish_apart(rt, rest, trace);
-                match reply {
-                    QueueReply::Push(answer) => (answer, trace),
-                    _ => unreachable!(),
-                }
-            }
+        match &self.memory {
+            Memory::Ruled(table) => ruled::push(table, rt, value, trace),
+            Memory::Endless(endless) => endless.push(rt, value, trace),
         }
     }
 
@@ -290,16 +233,9 @@ impl<T: Drop, W: Copy> ConcurrentQueue<T, W> {
     pub fn pop_seen<R: Wait, S: Trace<T>>(&self, rt: &R, trace: S) -> (Result<T, PopError>, S)
         ensures walked { WalkedAsking S.did (form_in self.now) ask.Pop trace (reply.Pop (result.0)) (result.1) }
     {
-        let (made, trace) = seen::pop_fast(self.cells(rt, trace));
-        match made {
-            Ok(answer) => (answer, trace),
-            Err(rest) => {
-                let (reply, trace) = self.finish_apart(rt, rest, trace);
-                match reply {
-                    QueueReply::Pop(answer) => (answer, trace),
-                    _ => unreachable!(),
-                }
-            }
+        match &self.memory {
+            Memory::Ruled(table) => ruled::pop(table, rt, trace),
+            Memory::Endless(endless) => endless.pop(rt, trace),
         }
     }
 
@@ -314,7 +250,10 @@ impl<T: Drop, W: Copy> ConcurrentQueue<T, W> {
         ensures walked { WalkedAsking S.did (form_in self.now) ask trace (result.0) (result.1) }
         ensures answers { MayAnswer (form_in self.now) ask (result.0) }
     {
-        self.finish_seen(rt, QueueCall::new(ask), trace)
+        match &self.memory {
+            Memory::Ruled(table) => ruled::any(table, self.form, rt, ask, trace),
+            Memory::Endless(endless) => endless.make(rt, ask, trace),
+        }
     }
 
     /// A call that waits for nobody: the trace sees its operations and nothing else. Own to this project.
@@ -324,7 +263,10 @@ impl<T: Drop, W: Copy> ConcurrentQueue<T, W> {
         ensures walked { WalkedAsking S.did (form_in self.now) ask trace (result.0) (result.1) }
         ensures answers { MayAnswer (form_in self.now) ask (result.0) }
     {
-        seen::tell(ask, self.words(trace))
+        match &self.memory {
+            Memory::Ruled(table) => ruled::tell(table, self.form, ask, trace),
+            Memory::Endless(endless) => endless.tell(ask, trace),
+        }
     }
 }
 

@@ -35,13 +35,8 @@ pub(crate) struct SeatedTable<'a, T> {
     ghost seated: { (seat.table_id ≡ table.now.shared.table_id) × (seat.me ≡ (None, [])) },
 }
 
-/// All words of a new table: the guards, all 0, then so many words, and more where they are few.
-fn first_words(
-    alloc: Global,
-    slots: usize,
-    words: usize,
-    stamps: Option<usize>,
-) -> Result<Vec<u64>, AllocError>
+/// All words of a new table: the guards, then so many words, and more where they are few. All are 0.
+fn first_words(alloc: Global, slots: usize, words: usize) -> Result<Vec<u64>, AllocError>
     ensures { IfOk result (λ v. (slots + 18 ≤ length v.items) × AreFree slots v.items) }
 {
     let Some(all) = slots.checked_add(words.max(LEAST)) else {
@@ -49,34 +44,19 @@ fn first_words(
     };
     let mut first = Vec::with_capacity(alloc, all)?;
     for place in 0..all {
-        first.push(word_at(slots, stamps, place))?;
+        first.push(0)?;
     }
     Ok(first)
 }
 
-/// What a new table holds at this place: 0, and behind the first stamp how far it lies behind.
-fn word_at(slots: usize, stamps: Option<usize>, place: usize) -> u64
-    ensures { place < slots → result ≡ 0 }
-{
-    if place < slots {
-        return 0;
-    }
-    match stamps {
-        Some(first) => (place - slots).saturating_sub(first) as u64,
-        None => 0,
-    }
-}
-
 impl<T> SharedTable<T> {
-    /// A table of so many words, and of so many empty slots. The words hold 0; from the first stamp on, if there are some, they
-    /// hold 0, 1, 2 and so on.
+    /// A table of so many words, which hold 0, and of so many empty slots.
     pub(crate) fn new(
         alloc: Global,
         slots: usize,
         words: usize,
-        stamps: Option<usize>,
     ) -> Result<SharedTable<T>, AllocError> {
-        let first = first_words(alloc, slots, words, stamps)?;
+        let first = first_words(alloc, slots, words)?;
         let (table, _seat) = Table::vacant(alloc, first.as_slice(), slots, &())?;
         Ok(SharedTable { table })
     }

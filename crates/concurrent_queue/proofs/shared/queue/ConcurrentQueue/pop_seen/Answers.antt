@@ -1,25 +1,20 @@
-use Rattle.std.proofs.Common.{subst}
+use Rattle.std.proofs.Common.{ap, ◌∙◌, refl, sym}
+use Rattle.concurrent_queue.specs.Memory.{memory_form}
 use Rattle.concurrent_queue.specs.SharedQueue.{form_in}
-use Rattle.concurrent_queue.specs.Walked.{WalkedFrom}
 use Rattle.concurrent_queue.specs.declared.call.QueueAsk.TheVariants as ask
-use Rattle.concurrent_queue.specs.declared.call.QueueReply.{QueueReply}
 use Rattle.concurrent_queue.specs.declared.call.QueueReply.TheVariants as reply
 use Rattle.concurrent_queue.specs.declared.queue_call.CallState.TheVariants.{Asked}
-use Rattle.concurrent_queue.proofs.Traces.{answered, went_on}
+use Rattle.concurrent_queue.proofs.Traces.{walked_here}
 use Rattle.concurrent_queue.proofs.shared.queue.ConcurrentQueue.pop_seen.Goals as goal
 
-pub returns-in-Ok : goal.returns-in-Ok
-returns-in-Ok g c =
+pub returns-in-Ruled : goal.returns-in-Ruled
+returns-in-Ruled g c =
     record {
-      walked = answered g.S.Trace.did (form_in c.args.self.now) c.cells.result.cells.words.form c.cells.result.trace c.args.trace c.cells.ensures.form c.cells.ensures.trace (λ r. reply.Pop r) (Asked ask.Pop) c.pop_fast-made.result.1 c.pop_fast-made.result.0 c.pop_fast-made.ensures.deeds
-          c.in-Ok.answer c.in-Ok.is;
+      walked = walked_here g.S.Trace.did (form_in c.args.self.now) _ c.args.trace c.args.trace (sym (ap memory_form c.in-Ruled.is) ∙ c.args.self.now.fits) refl (Asked ask.Pop) (reply.Pop c.pop.result.0) c.pop.result.1 c.pop.ensures.walked;
     }
 
-pub returns-in-Pop : goal.returns-in-Pop
-returns-in-Pop g c =
-    let made = c.finish_apart-reply.result in
-    let walked = subst (λ (r : QueueReply g.row.T.Denot). WalkedFrom g.S.Trace.did (form_in c.args.self.now) c.in-Err.rest.state c.pop_fast-made.result.1 r made.1) c.in-Pop.is c.finish_apart-reply.ensures.walked in
+pub returns-in-Endless : goal.returns-in-Endless
+returns-in-Endless g c =
     record {
-      walked = went_on g.S.Trace.did (form_in c.args.self.now) c.cells.result.cells.words.form c.cells.result.trace c.args.trace c.cells.ensures.form c.cells.ensures.trace (λ r. reply.Pop r) (Asked ask.Pop) c.pop_fast-made.result.1 c.pop_fast-made.result.0 c.pop_fast-made.ensures.deeds
-          c.in-Err.rest (reply.Pop c.in-Pop.answer) made.1 c.in-Err.is walked;
+      walked = walked_here g.S.Trace.did (form_in c.args.self.now) _ c.args.trace c.args.trace (sym (ap memory_form c.in-Endless.is) ∙ c.args.self.now.fits) refl (Asked ask.Pop) (reply.Pop c.pop-in-Endless.result.0) c.pop-in-Endless.result.1 c.pop-in-Endless.ensures.walked;
     }

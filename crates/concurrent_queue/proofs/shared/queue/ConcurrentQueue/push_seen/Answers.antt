@@ -1,21 +1,26 @@
-use Rattle.std.proofs.Common.{subst}
+use Rattle.std.proofs.Common.{ap, ◌∙◌, refl, subst, sym}
+use Rattle.concurrent_queue.specs.Memory.{memory_form}
 use Rattle.concurrent_queue.specs.SharedQueue.{form_in}
-use Rattle.concurrent_queue.specs.Walked.{WalkedFrom}
+use Rattle.concurrent_queue.specs.Replies.{MayAnswer}
 use Rattle.concurrent_queue.specs.declared.call.QueueAsk.TheVariants as ask
-use Rattle.concurrent_queue.specs.declared.call.QueueReply.{QueueReply}
 use Rattle.concurrent_queue.specs.declared.call.QueueReply.TheVariants as reply
+use Rattle.concurrent_queue.specs.declared.cells.QueueForm.{QueueForm}
 use Rattle.concurrent_queue.specs.declared.queue_call.CallState.TheVariants.{Asked}
-use Rattle.concurrent_queue.proofs.Traces.{answered, went_on}
+use Rattle.concurrent_queue.proofs.Traces.{walked_here}
 use Rattle.concurrent_queue.proofs.shared.queue.ConcurrentQueue.push_seen.Goals as goal
 
-pub returns-in-Ok-clause-walked : goal.returns-in-Ok-clause-walked
-returns-in-Ok-clause-walked g c =
-    answered g.S.Trace.did (form_in c.args.self.now) c.cells.result.cells.words.form c.cells.result.trace c.args.trace c.cells.ensures.form c.cells.ensures.trace (λ r. reply.Push r) (Asked (ask.Push c.args.value)) c.push_fast-made.result.1 c.push_fast-made.result.0 c.push_fast-made.ensures.deeds
-    c.in-Ok.answer c.in-Ok.is
+pub returns-in-Ruled-clause-walked : goal.returns-in-Ruled-clause-walked
+returns-in-Ruled-clause-walked g c =
+    walked_here g.S.Trace.did (form_in c.args.self.now) _ c.args.trace c.args.trace (sym (ap memory_form c.in-Ruled.is) ∙ c.args.self.now.fits) refl (Asked (ask.Push c.args.value)) (reply.Push c.push.result.0) c.push.result.1 c.push.ensures.walked
 
-pub returns-in-Push-clause-walked : goal.returns-in-Push-clause-walked
-returns-in-Push-clause-walked g c =
-    let made = c.finish_apart-reply.result in
-    let walked = subst (λ (r : QueueReply g.row.T.Denot). WalkedFrom g.S.Trace.did (form_in c.args.self.now) c.in-Err.rest.state c.push_fast-made.result.1 r made.1) c.in-Push.is c.finish_apart-reply.ensures.walked in
-    went_on g.S.Trace.did (form_in c.args.self.now) c.cells.result.cells.words.form c.cells.result.trace c.args.trace c.cells.ensures.form c.cells.ensures.trace (λ r. reply.Push r) (Asked (ask.Push c.args.value)) c.push_fast-made.result.1 c.push_fast-made.result.0 c.push_fast-made.ensures.deeds
-    c.in-Err.rest (reply.Push c.in-Push.answer) made.1 c.in-Err.is walked
+pub returns-in-Ruled-clause-answers : goal.returns-in-Ruled-clause-answers
+returns-in-Ruled-clause-answers g c =
+    subst (λ (f : QueueForm). MayAnswer f (ask.Push c.args.value) (reply.Push c.push.result.0)) (sym (ap memory_form c.in-Ruled.is) ∙ c.args.self.now.fits) c.push.ensures.answers
+
+pub returns-in-Endless-clause-walked : goal.returns-in-Endless-clause-walked
+returns-in-Endless-clause-walked g c =
+    walked_here g.S.Trace.did (form_in c.args.self.now) _ c.args.trace c.args.trace (sym (ap memory_form c.in-Endless.is) ∙ c.args.self.now.fits) refl (Asked (ask.Push c.args.value)) (reply.Push c.push-in-Endless.result.0) c.push-in-Endless.result.1 c.push-in-Endless.ensures.walked
+
+pub returns-in-Endless-clause-answers : goal.returns-in-Endless-clause-answers
+returns-in-Endless-clause-answers g c =
+    subst (λ (f : QueueForm). MayAnswer f (ask.Push c.args.value) (reply.Push c.push-in-Endless.result.0)) (sym (ap memory_form c.in-Endless.is) ∙ c.args.self.now.fits) c.push-in-Endless.ensures.answers

@@ -1,8 +1,16 @@
+use Rattle.std.proofs.Common.{ap, ◌∙◌, refl, subst, sym}
+use Rattle.concurrent_queue.specs.Memory.{memory_form}
 use Rattle.concurrent_queue.specs.SharedQueue.{form_in}
+use Rattle.concurrent_queue.specs.Replies.{MayAnswer}
+use Rattle.concurrent_queue.specs.declared.cells.QueueForm.{QueueForm}
 use Rattle.concurrent_queue.specs.declared.queue_call.CallState.TheVariants.{Asked}
 use Rattle.concurrent_queue.proofs.Traces.{walked_here}
 use Rattle.concurrent_queue.proofs.shared.queue.ConcurrentQueue.tell_seen.Goals as goal
 
-pub returns-clause-walked : goal.returns-clause-walked
-returns-clause-walked g c =
-    walked_here g.S.Trace.did (form_in c.args.self.now) c.words.result.cells.form c.words.result.trace c.args.trace c.words.ensures.form c.words.ensures.trace (Asked c.args.ask) c.tell.result.0 c.tell.result.1 c.tell.ensures.walked
+pub returns-in-Endless-clause-walked : goal.returns-in-Endless-clause-walked
+returns-in-Endless-clause-walked g c =
+    walked_here g.S.Trace.did (form_in c.args.self.now) _ c.args.trace c.args.trace (sym (ap memory_form c.in-Endless.is) ∙ c.args.self.now.fits) refl (Asked c.args.ask) (c.tell-in-Endless.result.0) c.tell-in-Endless.result.1 c.tell-in-Endless.ensures.walked
+
+pub returns-in-Endless-clause-answers : goal.returns-in-Endless-clause-answers
+returns-in-Endless-clause-answers g c =
+    subst (λ (f : QueueForm). MayAnswer f c.args.ask c.tell-in-Endless.result.0) (sym (ap memory_form c.in-Endless.is) ∙ c.args.self.now.fits) c.tell-in-Endless.ensures.answers

@@ -1,0 +1,12 @@
+use Rattle.concurrent_queue.proofs.HistorySteps.{sets_so}
+use Rattle.concurrent_queue.proofs.HistoryWords.{absent_set}
+use Rattle.concurrent_queue.proofs.history.table.CallSeat.fetch_or.Goals as goal
+
+pub fetch_or-requires : goal.fetch_or-requires
+fetch_or-requires g c =
+    let p = c.args.self.now in
+    let i = c.in-Some.ensures in
+    (p.seated.0, i.2, sets_so _ _ _ _ _ _ _ _ p.slots i.0 i.1 p.live c.args.bits c.requires.next)
+
+pub happen-requires : goal.happen-requires
+happen-requires g c = record { quiet = absent_set _ c.args.at c.in-None.ensures c.args.bits; next = c.requires.next 0 }

@@ -1,0 +1,243 @@
+-- Where a call stands whose party a view of the rule follows, and the laws that `Cells` asks of cells that go by it. They are proved here,
+-- and not beside the other proofs, since the laws of an impl can cite no proof of their own crate.
+use Rattle.std.specs.Prelude.{◌≡◌, ◌⊎◌, ℕ, ◌==◌, Bool, true, false, Option, None, Some, MatchOption, refl}
+use Rattle.std.proofs.Common.{inl, inr, sym, ap, ◌∙◌, subst, ⊎_elim}
+use Rattle.concurrent_queue.specs.Bridge.{does}
+use Rattle.concurrent_queue.specs.Deeds.{Deed, Notes}
+use Rattle.concurrent_queue.specs.Replies.{IsSoon, IsLast}
+use Rattle.concurrent_queue.specs.Stands.{Next, MayGoOn, GoesOn}
+use Rattle.concurrent_queue.specs.Tracked as tracked
+use Rattle.concurrent_queue.specs.Walked.{first_of, standing, MakesBounded, MakesFirst, StateMakes}
+use Rattle.concurrent_queue.specs.machine.Dispatch.{ring_cap, in_single, in_ring}
+use Rattle.concurrent_queue.specs.machine.RingWords.{cap_of, ring_mark, ring_start}
+use Rattle.concurrent_queue.specs.machine.Single.{start}
+use Rattle.concurrent_queue.specs.declared.bounded.RingAction.TheVariants as ring
+use Rattle.concurrent_queue.specs.declared.call.QueueAsk.{QueueAsk}
+use Rattle.concurrent_queue.specs.declared.call.QueueAsk.TheVariants.{Capacity}
+use Rattle.concurrent_queue.specs.declared.call.QueueReply.{QueueReply}
+use Rattle.concurrent_queue.specs.history.StepTypes.{SingleStep, RingStep, CallStep}
+use Rattle.concurrent_queue.specs.declared.cells.QueueForm.{QueueForm}
+use Rattle.concurrent_queue.specs.declared.cells.QueueForm.TheVariants.{Bounded, Unbounded}
+use Rattle.concurrent_queue.specs.declared.queue_call.CallState.{CallState}
+use Rattle.concurrent_queue.specs.declared.queue_call.CallState.TheVariants.{Asked, Single, Ring, Blocks, Finished}
+use Rattle.concurrent_queue.specs.declared.queue_call.QueueCall.{QueueCall}
+use Rattle.concurrent_queue.specs.declared.single.SingleAction.TheVariants as single
+use Rattle.concurrent_queue.specs.history.Ends.{SingleEnds, RingEnds, single_ends, ring_ends}
+use Rattle.concurrent_queue.specs.history.Runs.{moves, after_step}
+use Rattle.concurrent_queue.specs.history.WordsAlone as words
+use Rattle.concurrent_queue.specs.history.WordsAlone.{IsOnCell, IsOnWord}
+use Rattle.concurrent_queue.specs.declared.history.party.Standing.{Standing}
+
+-- a party with a call under way
+abbrev UnderWay : Type 0 → Type 0
+UnderWay T = (s : Standing T) × (call : QueueCall T) × (s.call ≡ Some call)
+
+module _ {T : Type 0} where
+  -- an action of a call of one slot or of a ring
+  abbrev pub HasNoBlocks : CallState T → Type 0
+  HasNoBlocks (Asked a) = ⊥
+  HasNoBlocks (Single a) = Unit {0}
+  HasNoBlocks (Ring a) = Unit {0}
+  HasNoBlocks (Blocks a) = ⊥
+  HasNoBlocks Finished = Unit {0}
+
+  -- a question that the cells answer; how many messages fit is known without them
+  abbrev pub AsksCells : QueueAsk T → Type 0
+  AsksCells Capacity = ⊥
+  AsksCells _ = Unit {0}
+
+  -- no operation is made from there
+  abbrev pub Rests : QueueForm → CallState T → Type 0
+  Rests form at = (d : Deed T) (r : CallStep T) → Next form at d r → ⊥
+
+  -- the party's call is under way at this action, or no operation is made from there, as where the call is over
+  abbrev pub StandsAt : QueueForm → Standing T → CallState T → Type 0
+  StandsAt form s at = HasNoBlocks at × (((call : QueueCall T) × (s.call ≡ Some call) × (standing form call.state ≡ at)) ⊎ Rests form at)
+
+  -- and it is one whose operations are on words alone
+  abbrev pub StandsAtWords : QueueForm → Standing T → CallState T → Type 0
+  StandsAtWords form s at = StandsAt form s at × ((IsSoon at ⊎ IsLast at) ⊎ Rests form at)
+
+  -- this operation with this answer is the party's next
+  abbrev pub Can : QueueForm → Standing T → Deed T → Type 0
+  Can form s d = (t : Standing T) × moves form s (does (Some d)) t
+
+  -- ---- where a step has answered no operation follows
+
+  abbrev IsOver : CallState T → Type 0
+  IsOver (Asked a) = ⊥
+  IsOver (Single a) = a ≡ single.Finished
+  IsOver (Ring a) = a ≡ ring.Finished
+  IsOver (Blocks a) = ⊥
+  IsOver Finished = Unit {0}
+
+  no_deed : (d : Deed T) → Some d ≡ None → ⊥
+  no_deed d e = cc
+
+  over_rests : (form : QueueForm) (at : CallState T) → IsOver at → Rests form at
+  over_rests form (Asked a) e d r n = absurd e
+  over_rests form (Single a) e d r n = no_deed d ((subst (λ b. Next form (Single b) d r) e n).1.0)
+  over_rests form (Ring a) e d r n = no_deed d ((subst (λ b. Next form (Ring b) d r) e n).1.0)
+  over_rests form (Blocks a) e d r n = absurd e
+  over_rests form Finished e d r n = no_deed d n.0
+
+  abbrev Answers : CallState T → Option (QueueReply T) → Type 0
+  Answers at reply = MatchOption reply (Unit {0}) (λ _. IsOver at)
+
+  from_single : (r : CallStep T) (x : SingleStep T) → r ≡ in_single x → SingleEnds x → Answers r.action r.reply
+  from_single r x e h = subst (λ (z : CallStep T). Answers z.action z.reply) (sym e) h
+
+  from_ring : (r : CallStep T) (x : RingStep T) → r ≡ in_ring x → RingEnds x → Answers r.action r.reply
+  from_ring r x e h = subst (λ (z : CallStep T). Answers z.action z.reply) (sym e) h
+
+  module _ (form : QueueForm) where
+    answered : (at : CallState T) (d : Deed T) (r : CallStep T) → HasNoBlocks at → Next form at d r → Answers r.action r.reply
+    answered (Asked a) d r b n = absurd b
+    answered (Single a) d r b (x, made, e) = from_single r x e (single_ends a (Some d) x made)
+    answered (Ring a) d r b (x, made, e) = from_ring r x e (ring_ends (ring_cap form) (ring_mark (ring_cap form)) a (Some d) x made)
+    answered (Blocks a) d r b n = absurd b
+    answered Finished d r b n = absurd (no_deed d n.0)
+
+    bounded_answers : (b : Bool) (cap : ℕ) (a : QueueAsk T) (d : Deed T) (r : CallStep T) → MakesBounded Notes b cap None a (Some d) r → Answers r.action r.reply
+    bounded_answers true cap a d r (x, made, e) = from_single r x e (single_ends (start a) (Some d) x made)
+    bounded_answers false cap a d r (x, made, e) = from_ring r x e (ring_ends cap (ring_mark cap) (ring_start a) (Some d) x made)
+
+    first_answers : (of : QueueForm) (a : QueueAsk T) (d : Deed T) (r : CallStep T) → HasNoBlocks (first_of of a) → MakesFirst Notes of None a (Some d) r → Answers r.action r.reply
+    first_answers (Bounded cap) a d r b made = bounded_answers (cap == 1) (cap_of cap) a d r made
+    first_answers Unbounded a d r b made = absurd b
+
+    -- the same of a call that may have made no step
+    made_answers : (at : CallState T) (d : Deed T) (r : CallStep T) → HasNoBlocks (standing form at) → StateMakes Notes form None at (Some d) r → Answers r.action r.reply
+    made_answers (Asked a) d r b n = first_answers form a d r b n
+    made_answers (Single a) d r b n = answered (Single a) d r tt n
+    made_answers (Ring a) d r b n = answered (Ring a) d r tt n
+    made_answers (Blocks a) d r b n = absurd b
+    made_answers Finished d r b n = absurd (no_deed d n.0)
+
+    over_stands : (at : CallState T) → IsOver at → standing form at ≡ at
+    over_stands (Asked a) o = absurd o
+    over_stands (Single a) o = refl
+    over_stands (Ring a) o = refl
+    over_stands (Blocks a) o = absurd o
+    over_stands Finished o = refl
+
+    on_cell : (at : CallState T) (d : Deed T) (r : CallStep T) → HasNoBlocks at → Next form at d r → IsOnCell d
+    on_cell (Asked a) d r b n = absurd b
+    on_cell (Single a) d r b (x, made, e) = words.single_on_cell a d x made
+    on_cell (Ring a) d r b (x, made, e) = words.ring_on_cell (ring_cap form) (ring_mark (ring_cap form)) a d x made
+    on_cell (Blocks a) d r b n = absurd b
+    on_cell Finished d r b n = absurd (no_deed d n.0)
+
+    no_blocks_so : (r x : CallStep T) → r ≡ x → HasNoBlocks x.action → HasNoBlocks r.action
+    no_blocks_so r x e h = subst (λ (z : CallStep T). HasNoBlocks z.action) (sym e) h
+
+    pub still_none : (at : CallState T) (d : Deed T) (r : CallStep T) → HasNoBlocks at → Next form at d r → HasNoBlocks r.action
+    still_none (Asked a) d r b n = absurd b
+    still_none (Single a) d r b (x, made, e) = no_blocks_so r (in_single x) e tt
+    still_none (Ring a) d r b (x, made, e) = no_blocks_so r (in_ring x) e tt
+    still_none (Blocks a) d r b n = absurd b
+    still_none Finished d r b n = absurd (no_deed d n.0)
+
+    -- ---- its operations are on words
+
+    abbrev WordsAlone : CallState T → Type 0
+    WordsAlone at = (IsSoon at ⊎ IsLast at) ⊎ Rests form at
+
+    on_word : (at : CallState T) (d : Deed T) (r : CallStep T) → HasNoBlocks at → WordsAlone at → Next form at d r → IsOnWord d
+    on_word at d r b (inr rests) n = absurd (rests d r n)
+    on_word (Asked a) d r b (inl w) n = absurd b
+    on_word (Single a) d r b (inl (inl soon)) n = absurd soon
+    on_word (Single a) d r b (inl (inr last)) (x, made, e) = words.single_on_word a last d x made
+    on_word (Ring a) d r b (inl (inl soon)) (x, made, e) = (words.ring_nears (ring_cap form) (ring_mark (ring_cap form)) a soon d x made).0
+    on_word (Ring a) d r b (inl (inr last)) (x, made, e) = words.ring_last_on_word (ring_cap form) (ring_mark (ring_cap form)) a last d x made
+    on_word (Blocks a) d r b (inl w) n = absurd b
+    on_word Finished d r b (inl w) n = absurd (no_deed d n.0)
+
+    over_so : (r x : CallStep T) → r ≡ x → IsOver x.action → WordsAlone r.action
+    over_so r x e h = inr (over_rests form r.action (subst (λ (z : CallStep T). IsOver z.action) (sym e) h))
+
+    last_so : (r x : CallStep T) → r ≡ x → IsLast x.action → WordsAlone r.action
+    last_so r x e h = inl (inr (subst (λ (z : CallStep T). IsLast z.action) (sym e) h))
+
+    words_on : (at : CallState T) (d : Deed T) (r : CallStep T) → HasNoBlocks at → WordsAlone at → Next form at d r → WordsAlone r.action
+    words_on at d r b (inr rests) n = absurd (rests d r n)
+    words_on (Asked a) d r b (inl w) n = absurd b
+    words_on (Single a) d r b (inl (inl soon)) n = absurd soon
+    words_on (Single a) d r b (inl (inr last)) (x, made, e) = over_so r (in_single x) e (words.single_over a last (Some d) x made)
+    words_on (Ring a) d r b (inl (inl soon)) (x, made, e) = last_so r (in_ring x) e ((words.ring_nears (ring_cap form) (ring_mark (ring_cap form)) a soon d x made).1)
+    words_on (Ring a) d r b (inl (inr last)) (x, made, e) = over_so r (in_ring x) e (words.ring_over (ring_cap form) (ring_mark (ring_cap form)) a last (Some d) x made)
+    words_on (Blocks a) d r b (inl w) n = absurd b
+    words_on Finished d r b (inl w) n = absurd (no_deed d n.0)
+
+    -- ---- a call under way
+
+    moves_so : (u : UnderWay T) (d : Deed T) (next : QueueCall T) → tracked.Moves form u.1 d next → Can form u.0 d
+    moves_so (s, call, under) d next (reply, made) = (after_step s next reply, (call, next, reply, under, made, refl))
+
+    can_go : (at : CallState T) (s : Standing T) (d : Deed T) (r : CallStep T) (call : QueueCall T) → s.call ≡ Some call → standing form call.state ≡ at → Next form at d r → Can form s d
+    can_go at s d r call under e n =
+        tracked.tracked_may (λ (u : UnderWay T). form) (λ (u : UnderWay T). u.1) (λ (x : Deed T) (u : UnderWay T). Can form u.0 x) moves_so at (s, call, under) d r e n
+
+    or_that : QueueCall T → Option (QueueCall T) → QueueCall T
+    or_that c (Some x) = x
+    or_that c None = c
+
+    same_call : (x y : QueueCall T) → Some x ≡ Some y → x ≡ y
+    unfolding or_that
+    same_call x y e = ap (or_that x) e
+
+    -- where its operation leads it
+    led_on : (at : CallState T) (s t : Standing T) (d : Deed T) (r : CallStep T) (begun : QueueCall T) → HasNoBlocks at → s.call ≡ Some begun → standing form begun.state ≡ at → moves form s (does (Some d)) t → Next form at d r
+        → StandsAt form t r.action
+    led_on at s t d r begun b under e (call, next, reply, was, made, is) n =
+        let same : call ≡ begun = same_call call begun (sym was ∙ under) in
+        let so : tracked.Moves form begun d next = subst (λ (c : QueueCall T). tracked.Moves form c d next) same (reply, made) in
+        let on : standing form next.state ≡ r.action =
+        tracked.tracked_goes (λ (c : QueueCall T). form) (λ (c : QueueCall T). c) (λ (x : Deed T) (c f : QueueCall T). tracked.Moves form c x f) (λ c f x m. m) (λ c f x m. refl) at begun next d r e so n in (
+          still_none at d r b n,
+          subst (λ (z : Standing T). ((c : QueueCall T) × (z.call ≡ Some c) × (standing form c.state ≡ r.action)) ⊎ Rests form r.action) (sym is) (rests_after reply next (made_answers begun.state d _ (subst (λ (z : CallState T). HasNoBlocks z) (sym e) b) (subst (λ (c : QueueCall T). StateMakes Notes form None c.state (Some d) (record { action = next.state; mark = next.mark; reply = reply })) same made)) on),
+        )
+      where
+        rests_after : (reply : Option (QueueReply T)) (next : QueueCall T) → Answers next.state reply → standing form next.state ≡ r.action → ((c : QueueCall T) × ((after_step s next reply).call ≡ Some c) × (standing form c.state ≡ r.action)) ⊎ Rests form r.action
+        rests_after None next over on = inl (next, refl, on)
+        rests_after (Some x) next over on = inr (over_rests form r.action (subst (λ (z : CallState T). IsOver z) (sym (over_stands next.state over) ∙ on) over))
+        -- ---- cells that go by a view
+
+module _ {T S : Type 0} (form_of : S → QueueForm) (of : S → Standing T) where
+  abbrev pub MayMake : Deed T → S → Type 0
+  MayMake d s = IsOnCell d × Can (form_of s) (of s) d
+
+  abbrev pub Stands : CallState T → S → Type 0
+  Stands at s = StandsAt (form_of s) (of s) at
+
+  may_go : (at : CallState T) (s : S) (d : Deed T) (r : CallStep T) → Stands at s → Next (form_of s) at d r → Can (form_of s) (of s) d
+  may_go at s d r st n =
+      ⊎_elim (λ (u : (call : QueueCall T) × ((of s).call ≡ Some call) × (standing (form_of s) call.state ≡ at)). can_go (form_of s) at (of s) d r u.0 u.1 u.2 n) (λ (rests : Rests (form_of s) at). absurd (rests d r n)) st.1
+
+  pub ready : MayGoOn Stands form_of MayMake
+  ready at s d r st n = (on_cell (form_of s) at d r st.0 n, may_go at s d r st n)
+
+  -- ---- of calls on words alone
+
+  abbrev pub MayMakeOnWord : Deed T → S → Type 0
+  MayMakeOnWord d s = IsOnWord d × Can (form_of s) (of s) d
+
+  abbrev pub StandsOnWords : CallState T → S → Type 0
+  StandsOnWords at s = StandsAtWords (form_of s) (of s) at
+
+  pub ready_on_words : MayGoOn StandsOnWords form_of MayMakeOnWord
+  ready_on_words at s d r st n = (on_word (form_of s) at d r st.0.0 st.1 n, may_go at s d r st.0 n)
+
+  module _ (Same : S → S → Type 0) where
+    -- the operation was made, by the same party on the same cells
+    abbrev pub HasMade : Deed T → S → S → Type 0
+    HasMade d s t = moves (form_of s) (of s) (does (Some d)) (of t) × (form_of t ≡ form_of s) × Same s t
+
+    pub leads : GoesOn Stands form_of HasMade
+    leads at s t d r st made n =
+        subst (λ (f : QueueForm). StandsAt f (of t) r.action) (sym made.1)
+        (⊎_elim (λ (u : (call : QueueCall T) × ((of s).call ≡ Some call) × (standing (form_of s) call.state ≡ at)). led_on (form_of s) at (of s) (of t) d r u.0 st.0 u.1 u.2 made.0 n) (λ (rests : Rests (form_of s) at). absurd (rests d r n)) st.1)
+
+    pub leads_on_words : GoesOn StandsOnWords form_of HasMade
+    leads_on_words at s t d r st made n =
+        (leads at s t d r st.0 made n, subst (λ (f : QueueForm). (IsSoon r.action ⊎ IsLast r.action) ⊎ Rests f r.action) (sym made.1) (words_on (form_of s) at d r st.0.0 st.1 n))

@@ -1,0 +1,291 @@
+//! Calls that may be no call of this queue. A `QueueCall` is a plain value, which may have been begun on another queue, so its step may be
+//! any operation at any place. The first such call sets a flag, once; from then on the guards are kept, and no history.
+
+ghost use Rattle.std.specs.Prelude.{true, false, ◌≡◌, ◌<◌, ◌+◌, [], None, IfErr};
+ghost use Rattle.concurrent_queue.specs.history.Shared.{slots_of, words_of};
+ghost use Rattle.concurrent_queue.specs.declared.cells.QueueForm.TheVariants.{Bounded};
+
+use crate::cells::{Cells, Slot, Word};
+use crate::history::party::{OfQueue, Standing};
+use crate::history::rule::{Comes, Gives, Passes, TurnsForeign, View, Wins};
+use crate::history::table::{KitTable, RuledTable, flag_index, slot_index, word_index};
+use crate::{NoMemory, QueueForm};
+use atomic_table::Seat;
+
+/// A seat of the table for foreign calls. It holds no slot.
+#[derive(Drop)]
+pub struct ForeignSeat<'a, T> {
+    pub(crate) table: &'a KitTable<T, Standing<T>, OfQueue>,
+    pub(crate) seat: Seat<Option<T>, View<T, Standing<T>>>,
+    ghost bounded: { table.now.shared.key ≡ Bounded table.now.shared.table_id.slots },
+    ghost slots: { table.now.shared.table_id.slots ≡ slots_of table.now.shared.key },
+    ghost words: { table.now.shared.table_id.words ≡ slots_of table.now.shared.key + words_of table.now.shared.key },
+    ghost seated: { (seat.table_id ≡ table.now.shared.table_id) × (seat.me.0.form ≡ table.now.shared.key) },
+    ghost free: { (seat.me.0.held ≡ None) × (seat.me.1 ≡ []) },
+    ghost live: { seat.me.0.spent ≡ false },
+    ghost foreign: { seat.me.0.foreign ≡ true },
+}
+
+impl<T> RuledTable<T, Standing<T>, OfQueue> {
+    /// A seat for a foreign call. The first one of a table costs a load and a store, each later one a load.
+    #[inline(always)]
+    pub fn admit(&self) -> ForeignSeat<'_, T>
+        ensures form { result.seat.me.0.form ≡ self.now.table.shared.key }
+    {
+        let at = flag_index(&self.table);
+        let (found, seat) = self.table.shared.load_new_seat::<Comes<OfQueue>>(at);
+        let mut seat = seat;
+        if found == 0 {
+            self.table.shared.store::<TurnsForeign>(&mut seat, at, 1);
+        }
+        ForeignSeat {
+            table: &self.table,
+            seat,
+        }
+    }
+}
+
+impl<'a, T> ForeignSeat<'a, T> {
+    /// Which kind of queue it is.
+    #[inline(always)]
+    pub fn form(&self) -> QueueForm
+        ensures { result ≡ self.now.seat.me.0.form }
+    {
+        QueueForm::Bounded(self.table.slot_count())
+    }
+
+    /// What the word holds; 0 where there is no such word.
+    #[inline(always)]
+    pub fn load(&mut self, at: Word) -> u64
+        ensures same { self.new.seat.me ≡ self.old.seat.me }
+    {
+        match word_index(self.table, at) {
+            Some(index) => self.table.shared.load::<Passes>(&mut self.seat, index),
+            None => 0,
+        }
+    }
+
+    /// Writes the word, where there is one.
+    #[inline(always)]
+    pub fn store(&mut self, at: Word, value: u64)
+        ensures same { self.new.seat.me ≡ self.old.seat.me }
+    {
+        if let Some(index) = word_index(self.table, at) {
+            self.table
+                .shared
+                .store::<Passes>(&mut self.seat, index, value);
+        }
+    }
+
+    /// Writes the word where it holds `expected`, and answers what it held. A word that isn't there holds 0 and stays so.
+    #[inline(always)]
+    pub fn compare_exchange(&mut self, at: Word, expected: u64, next: u64) -> u64
+        ensures same { self.new.seat.me ≡ self.old.seat.me }
+    {
+        match word_index(self.table, at) {
+            Some(index) => self
+                .table
+                .shared
+                .compare_exchange::<Passes>(&mut self.seat, index, expected, next),
+            None => 0,
+        }
+    }
+
+    /// Adds to the word, and answers what it held. The sum wraps at 2^64.
+    #[inline(always)]
+    pub fn fetch_add(&mut self, at: Word, by: u64) -> u64
+        ensures same { self.new.seat.me ≡ self.old.seat.me }
+    {
+        match word_index(self.table, at) {
+            Some(index) => self
+                .table
+                .shared
+                .fetch_add::<Passes>(&mut self.seat, index, by),
+            None => 0,
+        }
+    }
+
+    /// Sets these bits of the word, and answers what it held.
+    #[inline(always)]
+    pub fn fetch_or(&mut self, at: Word, bits: u64) -> u64
+        ensures same { self.new.seat.me ≡ self.old.seat.me }
+    {
+        match word_index(self.table, at) {
+            Some(index) => self
+                .table
+                .shared
+                .fetch_or::<Passes>(&mut self.seat, index, bits),
+            None => 0,
+        }
+    }
+
+    /// Keeps these bits of the word and clears all others, and answers what it held.
+    #[inline(always)]
+    pub fn fetch_and(&mut self, at: Word, bits: u64) -> u64
+        ensures same { self.new.seat.me ≡ self.old.seat.me }
+    {
+        match word_index(self.table, at) {
+            Some(index) => self
+                .table
+                .shared
+                .fetch_and::<Passes>(&mut self.seat, index, bits),
+            None => 0,
+        }
+    }
+
+    /// Empties a slot. `None`: it is empty, or another seat has it, or there is none.
+    #[inline(always)]
+    pub fn take(&mut self, at: Slot) -> Option<T>
+        ensures form { self.new.seat.me.0.form ≡ self.old.seat.me.0.form }
+    {
+        match slot_index(self.table, at) {
+            Some(index) => self.take_from(index),
+            None => None,
+        }
+    }
+
+    /// Fills an empty slot. `Err` hands the message back: the slot is full, or another seat has it, or there is none.
+    #[inline(always)]
+    pub fn put(&mut self, at: Slot, value: T) -> Result<(), T>
+        ensures back { IfErr result (λ back. back ≡ value) }
+        ensures form { self.new.seat.me.0.form ≡ self.old.seat.me.0.form }
+    {
+        match slot_index(self.table, at) {
+            Some(index) => self.put_into(index, value),
+            None => Err(value),
+        }
+    }
+
+    /// Empties a slot that is there.
+    #[inline(always)]
+    fn take_from(&mut self, index: usize) -> Option<T>
+        requires there { index < self.old.table.now.shared.table_id.slots }
+        ensures form { self.new.seat.me.0.form ≡ self.old.seat.me.0.form }
+    {
+        let shared = &self.table.shared;
+        if shared.compare_exchange::<Wins>(&mut self.seat, index, 0, 1) != 0 {
+            return None;
+        }
+        let found = shared.exchange(&mut self.seat, index, None);
+        shared.store::<Gives<OfQueue>>(&mut self.seat, index, 0);
+        found
+    }
+
+    /// Fills a slot that is there, if it is empty.
+    #[inline(always)]
+    fn put_into(&mut self, index: usize, value: T) -> Result<(), T>
+        requires there { index < self.old.table.now.shared.table_id.slots }
+        ensures back { IfErr result (λ back. back ≡ value) }
+        ensures form { self.new.seat.me.0.form ≡ self.old.seat.me.0.form }
+    {
+        let shared = &self.table.shared;
+        if shared.compare_exchange::<Wins>(&mut self.seat, index, 0, 1) != 0 {
+            return Err(value);
+        }
+        match shared.exchange(&mut self.seat, index, Some(value)) {
+            None => {
+                shared.store::<Gives<OfQueue>>(&mut self.seat, index, 0);
+                Ok(())
+            }
+            Some(old) => {
+                let back = shared.exchange(&mut self.seat, index, Some(old));
+                shared.store::<Gives<OfQueue>>(&mut self.seat, index, 0);
+                match back {
+                    Some(value) => Err(value),
+                    None => unreachable!(),
+                }
+            }
+        }
+    }
+}
+
+/// The cells of a queue with a bound for a foreign call. Any operation may be made, and nothing is known of what they hold.
+#[derive(Drop)]
+pub struct ForeignCells<'a, T> {
+    pub(crate) seat: ForeignSeat<'a, T>,
+}
+
+impl<'a, T: Drop> Cells<T> for ForeignCells<'a, T> {
+    ghost use Rattle.std.specs.Prelude.{◌≡◌};
+    ghost use Rattle.concurrent_queue.specs.Contents.{no_contents};
+
+    ghost known = { ⊥ };
+
+    ghost contents = { λ c. no_contents c.seat.seat.me.0.form };
+
+    ghost form_of = { λ c. c.seat.seat.me.0.form };
+
+    ghost did = { λ _ a b. b.seat.seat.me.0.form ≡ a.seat.seat.me.0.form };
+
+    ghost may = { λ _ _. Unit {0} };
+
+    ghost stands = { λ _ _. Unit {0} };
+
+    ghost ready = { λ at s d r stands next. tt };
+
+    ghost leads = { λ at s t d r stands done next. tt };
+
+    ghost keeps_form = { λ _ a b kept. kept };
+
+    ghost exact_form = { λ known. absurd known };
+
+    ghost exact = { λ known. absurd known };
+
+    #[inline(always)]
+    fn form(&self) -> QueueForm {
+        self.seat.form()
+    }
+
+    #[inline(always)]
+    fn load(&mut self, at: Word) -> u64 {
+        self.seat.load(at)
+    }
+
+    #[inline(always)]
+    fn store(&mut self, at: Word, value: u64) {
+        self.seat.store(at, value);
+    }
+
+    #[inline(always)]
+    fn compare_exchange(&mut self, at: Word, expected: u64, next: u64) -> Result<u64, u64> {
+        let found = self.seat.compare_exchange(at, expected, next);
+        if found == expected {
+            Ok(found)
+        } else {
+            Err(found)
+        }
+    }
+
+    #[inline(always)]
+    fn fetch_add(&mut self, at: Word, by: u64) -> u64 {
+        self.seat.fetch_add(at, by)
+    }
+
+    #[inline(always)]
+    fn fetch_or(&mut self, at: Word, bits: u64) -> u64 {
+        self.seat.fetch_or(at, bits)
+    }
+
+    #[inline(always)]
+    fn fetch_and(&mut self, at: Word, bits: u64) -> u64 {
+        self.seat.fetch_and(at, bits)
+    }
+
+    #[inline(always)]
+    fn put(&mut self, at: Slot, value: T) -> Result<(), T> {
+        self.seat.put(at, value)
+    }
+
+    #[inline(always)]
+    fn take(&mut self, at: Slot) -> Option<T> {
+        self.seat.take(at)
+    }
+
+    /// There are no blocks.
+    fn spare(&mut self) -> Result<u64, NoMemory> {
+        Err(NoMemory)
+    }
+
+    /// There are no blocks.
+    fn retire(&mut self, _block: u64) {}
+}

@@ -1,0 +1,72 @@
+//! A party that makes calls of a queue, one after another, each by the queue's machine. These types are for the proofs alone: no value
+//! of them is made.
+
+ghost use Rattle.std.specs.Prelude.{◌≡◌};
+
+use crate::history::laws::histories_are_runs;
+use crate::history::rule::{Machine, Spends};
+use crate::history::table::{CallSeat, RuledTable};
+use crate::history::witness::Witness;
+use crate::{QueueAsk, QueueCall, QueueReply};
+use std::collections::LinkedList;
+use std::marker::Brand;
+
+/// Where a party stands.
+pub struct Standing<T> {
+    /// What its calls asked, in order.
+    pub asked: LinkedList<QueueAsk<T>>,
+    /// Its call under way.
+    pub call: Option<QueueCall<T>>,
+    /// What its calls were answered, in order.
+    pub replies: LinkedList<QueueReply<T>>,
+}
+
+/// The machine of a queue, of whichever form.
+pub struct OfQueue;
+
+impl<T> Machine<T, Standing<T>> for OfQueue {
+    ghost use Rattle.concurrent_queue.specs.history.Runs.{moves, fresh};
+
+    ghost moves = { moves };
+
+    ghost first = { fresh };
+}
+
+impl<T> Spends<T, Standing<T>> for Brand {
+    ghost use Rattle.concurrent_queue.specs.declared.cells.QueueForm.TheVariants.{Unbounded};
+    ghost use Rattle.concurrent_queue.specs.history.Runs.{fresh};
+    ghost use Rattle.concurrent_queue.specs.history.Shared.{first_view};
+
+    ghost view = { first_view fresh Unbounded };
+}
+
+impl<'a, T> CallSeat<'a, T, Standing<T>, OfQueue> {
+    ghost use Rattle.std.specs.Prelude.{true};
+    ghost use Rattle.concurrent_queue.specs.history.Runs.{IsRunWith};
+
+    /// At any moment, whatever other threads are in the midst of: what all parties have done is a run of the closable queue, as
+    /// `run_queue_steps` promises it, with each reply that a party has got. This party is among them, as its view says. It costs a load.
+    /// `false`: a foreign call was admitted, and nothing is told.
+    pub fn run_so_far(&mut self) -> bool
+        ensures run { result ≡ true → IsRunWith self.old.seat.me.0 }
+        ensures kept { (self.new.seat.me ≡ self.old.seat.me) × (self.new.seat.table_id ≡ self.old.seat.table_id) }
+    {
+        histories_are_runs::<T>();
+        self.look()
+    }
+}
+
+impl<T> RuledTable<T, Standing<T>, OfQueue> {
+    ghost use Rattle.std.specs.Prelude.{true};
+    ghost use Rattle.concurrent_queue.specs.history.Runs.{IsRunWith};
+
+    /// The same with a witness: its party is among them, and so is each that was joined in, with what its calls asked and were answered.
+    pub fn run_so_far(&self, witness: &mut Witness<T>) -> bool
+        requires same { witness.old.seat.table_id ≡ self.now.table.shared.table_id }
+        ensures run { result ≡ true → IsRunWith witness.old.seat.me.0 }
+        ensures kept { (witness.new.seat.me ≡ witness.old.seat.me) × (witness.new.seat.table_id ≡ witness.old.seat.table_id) }
+    {
+        histories_are_runs::<T>();
+        self.look(witness)
+    }
+}

@@ -1,0 +1,156 @@
+//! Calls of a queue with a bound, with a witness of what they asked and what they were answered.
+
+ghost use Rattle.std.specs.Prelude.{◌≡◌, ◌∷◌, ◌++◌, [], true};
+ghost use Rattle.concurrent_queue.specs.QueueTables.{form_of};
+ghost use Rattle.concurrent_queue.specs.Replies.{MayAnswer};
+ghost use Rattle.concurrent_queue.specs.history.Calls.{AsksCells};
+ghost use Rattle.concurrent_queue.specs.history.Runs.{IsRunWith};
+ghost use Rattle.concurrent_queue.specs.history.Shared.{both_views};
+ghost use Rattle.concurrent_queue.specs.declared.call.QueueAsk.TheVariants as ask;
+ghost use Rattle.concurrent_queue.specs.declared.call.QueueReply.TheVariants as reply;
+
+use crate::call::{QueueAsk, QueueReply};
+use crate::error::{ForcePushError, PopError, PushError};
+use crate::history::cells::HistoryCells;
+use crate::history::witness::Witness;
+use crate::queue_call::QueueCall;
+use crate::queue_call::whole::complete;
+use crate::shared::ruled::QueueTable;
+use std::marker::Brand;
+use std::sync::Wait;
+
+/// Makes calls of one queue with a bound, one after another, and is the witness of what they asked and what they were answered: of a party,
+/// which is one thread's calls, or those that threads hand on. When it runs it is a reference to the queue. What it knows stands in the
+/// proofs alone.
+///
+/// A look tells, at any moment and whatever other threads do, of one history of all calls of this queue, in which these calls stand with
+/// these answers. Each call does what the queue's own call of that name does, and may wait as that does. A watch of the queue isn't shown
+/// these calls.
+///
+/// Own to this project.
+#[derive(Drop)]
+pub struct Witnessed<'a, T: Drop> {
+    table: &'a QueueTable<T>,
+    witness: Witness<T>,
+    ghost same: { witness.seat.table_id ≡ table.now.table.table.shared.table_id },
+}
+
+/// A call that touches cells, as the next one of the party of this witness.
+#[inline(always)]
+fn make<T: Drop, R: Wait>(
+    table: &QueueTable<T>,
+    rt: &R,
+    witness: Witness<T>,
+    ask: QueueAsk<T>,
+) -> (QueueReply<T>, Witness<T>)
+    requires cells { AsksCells ask }
+    requires same { witness.seat.table_id ≡ table.now.table.table.shared.table_id }
+    ensures same { result.1.seat.table_id ≡ table.now.table.table.shared.table_id }
+    ensures party { (result.1.seat.me.0.who ≡ witness.seat.me.0.who) × (result.1.seat.me.0.over ≡ witness.seat.me.0.over) }
+    ensures asked { result.1.seat.me.0.state.asked ≡ witness.seat.me.0.state.asked ++ ask ∷ [] }
+    ensures answered { result.1.seat.me.0.state.replies ≡ witness.seat.me.0.state.replies ++ result.0 ∷ [] }
+    ensures answers { MayAnswer (form_of table.now) ask result.0 }
+{
+    let seat = table.table.begin_again::<Brand, QueueAsk<T>>(witness, &ask);
+    let mut cells = HistoryCells { seat, rt };
+    let reply = complete(rt, QueueCall::new(ask), &mut cells);
+    let HistoryCells { seat, rt: _ } = cells;
+    (reply, seat.end())
+}
+
+impl<'a, T: Drop> Witnessed<'a, T> {
+    ghost use Rattle.concurrent_queue.specs.Witnessed.{HasCalled, view_of, asked_in, replied_in};
+
+    /// A witness of a party that has made no call yet.
+    pub(crate) fn new(table: &'a QueueTable<T>) -> Witnessed<'a, T>
+        ensures asked { asked_in result ≡ [] }
+        ensures replied { replied_in result ≡ [] }
+        ensures alone { (view_of result).over ≡ [] }
+    {
+        let witness = table.table.witness();
+        Witnessed { table, witness }
+    }
+
+    /// Appends the message, as `push` of the queue does.
+    pub fn push<R: Wait>(self, rt: &R, value: T) -> (Result<(), PushError<T>>, Witnessed<'a, T>)
+        ensures called { HasCalled self.entry (ask.Push value) (reply.Push result.0) result.1 }
+    {
+        let Witnessed { table, witness } = self;
+        let (reply, witness) = make(table, rt, witness, QueueAsk::Push(value));
+        match reply {
+            QueueReply::Push(answer) => (answer, Witnessed { table, witness }),
+            _ => unreachable!(),
+        }
+    }
+
+    /// Appends the message, in the place of the oldest one where the queue is full, as `force_push` of the queue does.
+    pub fn force_push<R: Wait>(
+        self,
+        rt: &R,
+        value: T,
+    ) -> (Result<Option<T>, ForcePushError<T>>, Witnessed<'a, T>)
+        ensures called { HasCalled self.entry (ask.ForcePush value) (reply.Force result.0) result.1 }
+    {
+        let Witnessed { table, witness } = self;
+        let (reply, witness) = make(table, rt, witness, QueueAsk::ForcePush(value));
+        match reply {
+            QueueReply::Force(answer) => (answer, Witnessed { table, witness }),
+            _ => unreachable!(),
+        }
+    }
+
+    /// Takes the oldest message, as `pop` of the queue does.
+    pub fn pop<R: Wait>(self, rt: &R) -> (Result<T, PopError>, Witnessed<'a, T>)
+        ensures called { HasCalled self.entry ask.Pop (reply.Pop result.0) result.1 }
+    {
+        let Witnessed { table, witness } = self;
+        let (reply, witness) = make(table, rt, witness, QueueAsk::Pop);
+        match reply {
+            QueueReply::Pop(answer) => (answer, Witnessed { table, witness }),
+            _ => unreachable!(),
+        }
+    }
+
+    /// Closes the queue, as `close` of the queue does.
+    pub fn close<R: Wait>(self, rt: &R) -> (bool, Witnessed<'a, T>)
+        ensures called { HasCalled self.entry ask.Close (reply.Close result.0) result.1 }
+    {
+        let Witnessed { table, witness } = self;
+        let (reply, witness) = make(table, rt, witness, QueueAsk::Close);
+        match reply {
+            QueueReply::Close(answer) => (answer, Witnessed { table, witness }),
+            _ => unreachable!(),
+        }
+    }
+
+    /// How many messages the queue held at a moment of the call, as `len` of the queue says.
+    pub fn len<R: Wait>(self, rt: &R) -> (usize, Witnessed<'a, T>)
+        ensures called { HasCalled self.entry ask.Len (reply.Count result.0) result.1 }
+    {
+        let Witnessed { table, witness } = self;
+        let (reply, witness) = make(table, rt, witness, QueueAsk::Len);
+        match reply {
+            QueueReply::Count(answer) => (answer, Witnessed { table, witness }),
+            _ => unreachable!(),
+        }
+    }
+
+    /// Takes in another witness of this queue, so that one look tells of both in one history. It costs a load.
+    pub fn join(&mut self, other: Witnessed<'a, T>)
+        requires same { other.witness.seat.table_id ≡ self.old.witness.seat.table_id }
+        ensures joined { view_of self.new ≡ both_views (view_of self.old) (view_of other.entry) }
+    {
+        let Witnessed { table: _, witness } = other;
+        self.table.table.join(&mut self.witness, witness);
+    }
+
+    /// At any moment, whatever other threads are in the midst of: what all calls of this queue have done so far is one run of a closable
+    /// queue, in which these calls, and those of each witness that was joined in, stand with their answers. `false`, and then nothing is
+    /// told: a call was stepped from outside. It costs a load.
+    pub fn look(&mut self) -> bool
+        ensures run { result ≡ true → IsRunWith (view_of self.old) }
+        ensures kept { view_of self.new ≡ view_of self.old }
+    {
+        self.table.table.run_so_far(&mut self.witness)
+    }
+}
