@@ -1,18 +1,19 @@
 //! Four threads send and four receive, as the tests of `async-channel` 2.5.0 have them.
 
-use crate::checks::expect_true;
+use crate::checks::expect_equal;
+use crate::jobs::{Job, all_done, is_flagged};
 use crate::tally::Tally;
 use async_channel::{Receiver, Sender, TryRecvError};
 use channel_test_helpers::{Ends, next_message, next_of_stream, opened, sent};
-use std::alloc::{AllocError, AllocGlobal};
+use std::alloc::AllocGlobal;
 use std::random::RandomSource;
 use std::sync::Wait;
-use std::thread;
 use std::thread::Threads;
 
 const COUNT: u64 = 2_500;
 
-fn sends_all<R>(rt: R, s: &Sender<u64, R>) -> bool
+/// Whether all messages were sent.
+pub(crate) fn send_all<R>(rt: R, s: &Sender<u64, R>) -> bool
 where
     R: Wait + Copy + RandomSource + AllocGlobal,
 {
@@ -24,115 +25,87 @@ where
     true
 }
 
-/// Whether all four threads did what they were to do.
-fn all_four(did: Result<Vec<bool>, AllocError>) -> bool {
-    match did {
-        Ok(did) => did.as_slice() == [true; 4].as_slice(),
-        Err(_) => false,
+/// Whether a message came and is noted.
+fn is_noted(message: Option<u64>, tally: &Tally) -> bool {
+    match message {
+        Some(number) => tally.note(number),
+        None => false,
     }
 }
 
-fn four_send<R>(rt: R, s: &Sender<u64, R>) -> bool
-where
-    R: Wait + Threads + Copy + RandomSource + AllocGlobal + Send + Sync,
-{
-    let work = |_: usize| sends_all(rt, s);
-    all_four(thread::map_indices(&rt, rt.alloc(), 4, &work))
-}
-
-fn takes<R>(rt: R, r: &Receiver<u64, R>, tally: &Tally) -> bool
+/// Whether as many messages came as one thread sends.
+pub(crate) fn receive_all<R>(rt: R, r: &Receiver<u64, R>, tally: &Tally) -> bool
 where
     R: Wait + Copy + RandomSource + AllocGlobal,
 {
     for _ in 0..COUNT {
-        match next_message(rt, r) {
-            Some(number) => {
-                if !tally.note(&rt, number) {
-                    return false;
-                }
-            }
-            None => return false,
+        if !is_noted(next_message(rt, r), tally) {
+            return false;
         }
     }
     true
 }
 
-fn four_take<R>(rt: R, r: &Receiver<u64, R>, tally: &Tally) -> bool
+/// The same, by a receiver of the thread's own as a stream.
+pub(crate) fn stream_all<R>(rt: R, own: Receiver<u64, R>, tally: &Tally) -> bool
 where
-    R: Wait + Threads + Copy + RandomSource + AllocGlobal + Send + Sync,
+    R: Wait + Copy + RandomSource + AllocGlobal,
 {
-    let work = |_: usize| takes(rt, r, tally);
-    all_four(thread::map_indices(&rt, rt.alloc(), 4, &work))
+    let mut stream = own;
+    for _ in 0..COUNT {
+        if !is_noted(next_of_stream(rt, &mut stream), tally) {
+            return false;
+        }
+    }
+    true
 }
 
-fn each_four_times<R>(rt: R, ends: Ends<R>, tally: &Tally) -> bool
+/// The jobs of four who send and four who receive, as streams or not; none where memory or a handle was refused.
+fn jobs_of_eight<'a, R: Wait + Copy + AllocGlobal>(
+    rt: R,
+    ends: &'a Ends<R>,
+    tally: &'a Tally,
+    is_streamed: bool,
+) -> Option<Vec<Job<'a, R>>> {
+    let mut jobs = Vec::new(rt.alloc());
+    for _ in 0..4 {
+        jobs.push(Job::SendAll(&ends.0)).ok()?;
+        let receives = if is_streamed {
+            Job::StreamAll(ends.1.try_clone().ok()?, tally)
+        } else {
+            Job::ReceiveAll(&ends.1, tally)
+        };
+        jobs.push(receives).ok()?;
+    }
+    Some(jobs)
+}
+
+/// Whether eight threads at once did what they were to do: each message came four times, and no other.
+fn each_four_times<R>(rt: R, capacity: usize, is_streamed: bool) -> Option<bool>
 where
     R: Wait + Threads + Copy + RandomSource + AllocGlobal + Send + Sync,
 {
-    let (s, r) = ends;
-    let (did, got) = thread::join(&rt, || four_send(rt, &s), || four_take(rt, &r, tally));
-    did && got && tally.all_are(&rt, 4) && r.try_recv() == Err(TryRecvError::Empty)
+    let tally = Tally::new(rt.alloc(), COUNT)?;
+    let ends = opened(rt, rt.alloc(), capacity)?;
+    let jobs = jobs_of_eight(rt, &ends, &tally, is_streamed)?;
+    let done = all_done(rt, jobs).ok()?;
+    let mut right = done.len() == 8 && tally.all_are(4);
+    for each in done.iter() {
+        right = right & is_flagged(each);
+    }
+    Some(right && ends.1.try_recv() == Err(TryRecvError::Empty))
 }
 
 #[test]
 fn many_senders_many_receivers(rt: HostRuntime) {
     for capacity in [3, 0] {
-        let tally = Tally::new(rt.alloc(), COUNT).expect(&rt, "memory");
-        let ends = opened(rt, rt.alloc(), capacity).expect(&rt, "memory");
-        expect_true(&rt, each_four_times(rt, ends, &tally));
+        expect_equal(&rt, &each_four_times(rt, capacity, false), &Some(true));
     }
-}
-
-fn streams<R>(rt: R, stream: &mut Receiver<u64, R>, tally: &Tally) -> bool
-where
-    R: Wait + Copy + RandomSource + AllocGlobal,
-{
-    for _ in 0..COUNT {
-        match next_of_stream(rt, stream) {
-            Some(number) => {
-                if !tally.note(&rt, number) {
-                    return false;
-                }
-            }
-            None => return false,
-        }
-    }
-    true
-}
-
-/// Streams by a receiver of its own.
-fn clone_streams<R>(rt: R, r: &Receiver<u64, R>, tally: &Tally) -> bool
-where
-    R: Wait + Copy + RandomSource + AllocGlobal,
-{
-    match r.try_clone() {
-        Ok(mut own) => streams(rt, &mut own, tally),
-        Err(_) => false,
-    }
-}
-
-fn four_stream<R>(rt: R, r: &Receiver<u64, R>, tally: &Tally) -> bool
-where
-    R: Wait + Threads + Copy + RandomSource + AllocGlobal + Send + Sync,
-{
-    let work = |_: usize| clone_streams(rt, r, tally);
-    all_four(thread::map_indices(&rt, rt.alloc(), 4, &work))
-}
-
-fn each_four_times_streamed<R>(rt: R, ends: Ends<R>, tally: &Tally) -> bool
-where
-    R: Wait + Threads + Copy + RandomSource + AllocGlobal + Send + Sync,
-{
-    let (s, r) = ends;
-    let (did, got) = thread::join(&rt, || four_send(rt, &s), || four_stream(rt, &r, tally));
-    did && got && tally.all_are(&rt, 4) && r.try_recv() == Err(TryRecvError::Empty)
 }
 
 #[test]
 fn many_senders_many_streams(rt: HostRuntime) {
     for capacity in [3, 0] {
-        let tally = Tally::new(rt.alloc(), COUNT).expect(&rt, "memory");
-        let ends = opened(rt, rt.alloc(), capacity).expect(&rt, "memory");
-        expect_true(&rt, each_four_times_streamed(rt, ends, &tally));
+        expect_equal(&rt, &each_four_times(rt, capacity, true), &Some(true));
     }
 }

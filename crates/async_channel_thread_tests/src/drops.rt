@@ -1,36 +1,21 @@
 //! Each message is received, displaced or left, and let go once, wherever handles and operations are dropped.
 
 use crate::checks::{expect_equal, expect_true, new_task};
+use crate::jobs::{Counts, Job, both};
 use async_channel::{Receiver, Sender, bounded};
 use event_listener::id::EventIds;
 use futures::task::Poll;
 use futures::test::MockTask;
-use std::alloc::Global;
 use std::sync::{Arc, Wait};
 use std::thread;
-use std::thread::Threads;
 
-type Token = Arc<u64>;
+pub(crate) type Token = Arc<u64>;
 
-type Both<R> = (Sender<Token, R>, Receiver<Token, R>);
-
-fn opened<R: Wait + Copy>(rt: R, alloc: Global) -> Option<Both<R>> {
-    bounded(rt, alloc, 2, &mut EventIds::new()).ok()
-}
-
-/// Whether a send of a token that doesn't wait is done.
-fn goes<R: Wait + Copy>(s: &Sender<Token, R>, token: &Token) -> bool {
+/// Whether a send of a token that doesn't wait is done; nothing where there was no token to send.
+fn tries<R: Wait + Copy>(s: &Sender<Token, R>, token: &Token) -> Option<bool> {
     match Arc::try_clone(token) {
-        Ok(one) => s.try_send(one).is_ok(),
-        Err(_) => false,
-    }
-}
-
-/// Whether it is refused.
-fn is_refused<R: Wait + Copy>(s: &Sender<Token, R>, token: &Token) -> bool {
-    match Arc::try_clone(token) {
-        Ok(one) => s.try_send(one).is_err(),
-        Err(_) => false,
+        Ok(one) => Some(s.try_send(one).is_ok()),
+        Err(_) => None,
     }
 }
 
@@ -54,85 +39,73 @@ fn is_accepted<R: Wait + Copy>(s: &Sender<Token, R>, token: &Token, task: &MockT
 }
 
 /// Sends tokens by both calls that don't wait, and leaves a polled send behind: how many were accepted, and how many displaced.
-fn sends<R: Wait + Copy>(s: &Sender<Token, R>, token: &Token, task: &MockTask) -> (usize, usize) {
-    let mut accepted = 0usize;
-    let mut displaced = 0usize;
+pub(crate) fn send_tokens<R: Wait + Copy>(
+    s: &Sender<Token, R>,
+    token: &Token,
+    task: &MockTask,
+) -> Counts {
+    let mut accepted = 0u64;
+    let mut displaced = 0u64;
     for _ in 0..500 {
-        accepted = accepted.wrapping_add(usize::from(goes(s, token)));
+        accepted = accepted.wrapping_add(u64::from(tries(s, token) == Some(true)));
         let (forced, oldest) = forces(s, token);
-        accepted = accepted.wrapping_add(usize::from(forced));
-        displaced = displaced.wrapping_add(usize::from(oldest));
+        accepted = accepted.wrapping_add(u64::from(forced));
+        displaced = displaced.wrapping_add(u64::from(oldest));
     }
     let went = is_accepted(s, token, task);
-    (accepted.wrapping_add(usize::from(went)), displaced)
+    (accepted.wrapping_add(u64::from(went)), displaced)
 }
 
 /// Receives, and leaves a polled receive behind: how many came.
-fn receives<R: Wait + Copy>(r: &Receiver<Token, R>, task: &MockTask) -> usize {
-    let mut received = 0usize;
+pub(crate) fn receive_tokens<R: Wait + Copy>(r: &Receiver<Token, R>, task: &MockTask) -> u64 {
+    let mut received = 0u64;
     for _ in 0..500 {
-        received = received.wrapping_add(usize::from(r.try_recv().is_ok()));
+        received = received.wrapping_add(u64::from(r.try_recv().is_ok()));
         thread::yield_now();
     }
     let came = matches!(&task.poll(&mut r.recv()), Poll::Ready(Ok(_)));
-    received.wrapping_add(usize::from(came))
+    received.wrapping_add(u64::from(came))
 }
 
-/// Whether what was accepted is what was received, displaced or left, and nothing else of the tokens lives. One thread sends through a
-/// sender of its own, and one receives through a receiver of its own.
-fn adds_up<R>(
-    rt: R,
-    ends: &Both<R>,
-    own: Both<R>,
-    token: &Token,
-    tasks: (MockTask, MockTask),
-) -> bool
-where
-    R: Wait + Threads + Copy + Send + Sync,
-{
-    let (s, r) = own;
-    let (one, two) = tasks;
-    let ((accepted, displaced), received) = thread::join(
-        &rt,
-        move || sends(&s, token, &one),
-        move || receives(&r, &two),
-    );
-    let left = ends.1.len();
-    let gone = received.wrapping_add(displaced).wrapping_add(left);
-    let counted = (ends.0.sender_count(), ends.1.receiver_count()) == (1, 1);
-    counted && accepted == gone && Arc::strong_count(token) == left.wrapping_add(1)
-}
-
-/// A pending send is dropped on one thread, a receiver on another: whether both messages and the one left are let go.
-fn drops_elsewhere<R>(rt: R, ends: Both<R>, token: &Token, third: Token, task: &MockTask) -> bool
-where
-    R: Wait + Threads + Copy + Send + Sync,
-{
-    let (s, r) = ends;
-    let filled = goes(&s, token) && goes(&s, token);
-    let mut send = s.send(third);
-    let pending = task.poll(&mut send).is_pending();
-    let held = Arc::strong_count(token) == 4;
-    let (_, _) = thread::join(&rt, move || drop(send), move || drop(r));
-    let refused = is_refused(&s, token);
-    let left = Arc::strong_count(token) == 3;
-    drop(s);
-    filled && pending && held && refused && left && Arc::strong_count(token) == 1
-}
-
+/// What was accepted is what was received, displaced or left, and nothing else of the tokens lives. One thread sends through a sender of
+/// its own, and one receives through a receiver of its own.
 #[test]
 fn each_message_is_let_go_once(rt: HostRuntime) {
-    let alloc = rt.alloc();
-    let token: Token = Arc::new(alloc, 7).expect(&rt, "memory");
-    let (one, two) = (new_task(&rt), new_task(&rt));
-    let ends = opened(rt, alloc).expect(&rt, "memory");
-    let s = ends.0.try_clone().expect(&rt, "handles");
-    let r = ends.1.try_clone().expect(&rt, "handles");
-    expect_true(&rt, adds_up(rt, &ends, (s, r), &token, (one, two)));
-    drop(ends);
+    let token: Token = Arc::new(rt.alloc(), 7).expect(&rt, "memory");
+    let (s, r) = bounded(rt, rt.alloc(), 2, &mut EventIds::new()).expect(&rt, "memory");
+    let own_s = s.try_clone().expect(&rt, "handles");
+    let own_r = r.try_clone().expect(&rt, "handles");
+    let [(accepted, displaced), (received, _)] = both(
+        rt,
+        Job::SendTokens(own_s, &token, new_task(&rt)),
+        Job::ReceiveTokens(own_r, new_task(&rt)),
+    );
+    let left = r.len();
+    let gone = received.wrapping_add(displaced).wrapping_add(left as u64);
+    expect_equal(&rt, &accepted, &gone);
+    expect_equal(&rt, &(s.sender_count(), r.receiver_count()), &(1, 1));
+    expect_equal(&rt, &Arc::strong_count(&token), &left.wrapping_add(1));
+    drop((s, r));
     expect_equal(&rt, &Arc::strong_count(&token), &1);
-    let again = opened(rt, alloc).expect(&rt, "memory");
+}
+
+/// A pending send is dropped on one thread, a receiver on another: both messages and the one of the send are let go.
+#[test]
+fn a_pending_send_and_the_receiver_are_dropped_elsewhere(rt: HostRuntime) {
+    let token: Token = Arc::new(rt.alloc(), 7).expect(&rt, "memory");
     let third = Arc::try_clone(&token).expect(&rt, "a token");
-    let whole = drops_elsewhere(rt, again, &token, third, &new_task(&rt));
-    expect_true(&rt, whole);
+    let (s, r) = bounded(rt, rt.alloc(), 2, &mut EventIds::new()).expect(&rt, "memory");
+    expect_equal(
+        &rt,
+        &[tries(&s, &token), tries(&s, &token)],
+        &[Some(true); 2],
+    );
+    let mut send = s.send(third);
+    expect_true(&rt, new_task(&rt).poll(&mut send).is_pending());
+    expect_equal(&rt, &Arc::strong_count(&token), &4);
+    both(rt, Job::DropSend(send), Job::DropReceiver(r));
+    expect_equal(&rt, &tries(&s, &token), &Some(false));
+    expect_equal(&rt, &Arc::strong_count(&token), &3);
+    drop(s);
+    expect_equal(&rt, &Arc::strong_count(&token), &1);
 }

@@ -5,17 +5,15 @@
 #[cfg(test)]
 mod checks;
 #[cfg(test)]
-mod closing;
-#[cfg(test)]
 mod crowd;
 #[cfg(test)]
 mod drops;
 #[cfg(test)]
 mod executor;
 #[cfg(test)]
-mod forgotten;
-#[cfg(test)]
 mod gates;
+#[cfg(test)]
+mod jobs;
 #[cfg(test)]
 mod logged;
 #[cfg(test)]

@@ -1,15 +1,14 @@
 //! What calls of handles do to their channel, as a trace of the caller's sees it: alone, and beside another thread.
 
-use crate::checks::expect_equal;
+use crate::checks::{expect_equal, expect_true};
+use crate::jobs::{Counts, Job, both};
 use async_channel::{Receiver, Refused, Sender, Telling, TryRecvError, TrySendError, WaitList};
 use channel_test_helpers::log::{
     Did, Log, close_logged, recv_blocking_logged, try_recv_logged, try_send_logged,
 };
-use channel_test_helpers::opened;
+use channel_test_helpers::{Ends, opened};
 use std::alloc::Global;
 use std::sync::Wait;
-use std::thread;
-use std::thread::Threads;
 
 /// Those who wait for a message are told.
 const SENT: [Did; 3] = [
@@ -40,60 +39,60 @@ const CLOSED: [Did; 5] = [
 /// Nothing came of it but the answer.
 const ASKED: [Did; 1] = [Did::Operated];
 
-/// Whether a send on its own wrote these lines.
-fn sends<R: Wait + Copy>(s: &Sender<u64, R>, alloc: Global, lines: &[Did]) -> bool {
-    let (sent, log) = try_send_logged(s, 7, Log::new(alloc));
-    drop(sent);
-    log.has(lines)
+/// A call that is made alone.
+#[derive(Clone, Copy)]
+enum Call {
+    Send,
+    Receive,
+    /// A receive that would block.
+    Wait,
+    Close,
 }
 
-/// Whether a receive did.
-fn receives<R: Wait + Copy>(r: &Receiver<u64, R>, alloc: Global, lines: &[Did]) -> bool {
-    let (received, log) = try_recv_logged(r, Log::new(alloc));
-    drop(received);
-    log.has(lines)
-}
+/// Calls of a channel of one place, one after another, and what each does to it.
+const ALONE: [(Call, &[Did]); 9] = [
+    (Call::Send, &SENT),
+    (Call::Send, &ASKED),
+    (Call::Receive, &RECEIVED),
+    (Call::Receive, &ASKED),
+    (Call::Send, &SENT),
+    (Call::Wait, &RECEIVED),
+    (Call::Close, &CLOSED),
+    (Call::Close, &ASKED),
+    (Call::Wait, &ASKED),
+];
 
-/// Whether a receive that blocks did.
-fn waits<R: Wait + Copy>(r: &Receiver<u64, R>, alloc: Global, lines: &[Did]) -> bool {
-    let (received, log) = recv_blocking_logged(r, Log::new(alloc));
-    drop(received);
-    log.has(lines)
-}
-
-/// Whether a closing did.
-fn closes<R: Wait + Copy>(s: &Sender<u64, R>, alloc: Global, lines: &[Did]) -> bool {
-    let (_, log) = close_logged(s, Log::new(alloc));
-    log.has(lines)
-}
-
-/// Calls of a channel of one place, one after another: which of them wrote the lines that are theirs.
-fn alone<R: Wait + Copy>(s: &Sender<u64, R>, r: &Receiver<u64, R>, alloc: Global) -> [bool; 9] {
-    [
-        sends(s, alloc, &SENT),
-        sends(s, alloc, &ASKED),
-        receives(r, alloc, &RECEIVED),
-        receives(r, alloc, &ASKED),
-        sends(s, alloc, &SENT),
-        waits(r, alloc, &RECEIVED),
-        closes(s, alloc, &CLOSED),
-        closes(s, alloc, &ASKED),
-        waits(r, alloc, &ASKED),
-    ]
+/// What a call does to its channel.
+fn log_of<R: Wait + Copy>(call: Call, ends: &Ends<R>, alloc: Global) -> Log {
+    match call {
+        Call::Send => try_send_logged(&ends.0, 7, Log::new(alloc)).1,
+        Call::Receive => try_recv_logged(&ends.1, Log::new(alloc)).1,
+        Call::Wait => recv_blocking_logged(&ends.1, Log::new(alloc)).1,
+        Call::Close => close_logged(&ends.0, Log::new(alloc)).1,
+    }
 }
 
 #[test]
 fn logs_of_calls_alone(rt: HostRuntime) {
-    let (s, r) = opened(rt, rt.alloc(), 1).expect(&rt, "memory");
-    let found = alone(&s, &r, rt.alloc());
-    expect_equal(&rt, &found, &[true; 9]);
+    let ends = opened(rt, rt.alloc(), 1).expect(&rt, "memory");
+    for (call, lines) in ALONE {
+        let log = log_of(call, &ends, rt.alloc());
+        expect_true(&rt, log.has(lines));
+    }
+}
+
+/// Whether a send wrote the lines of one that is accepted.
+pub(crate) fn log_send<R: Wait + Copy>(s: &Sender<u64, R>, alloc: Global) -> bool {
+    let (sent, log) = try_send_logged(s, 7, Log::new(alloc));
+    drop(sent);
+    log.has(&SENT)
 }
 
 /// How many calls each of two threads makes.
 const CALLS: u64 = 500;
 
 /// How many sends wrote other lines than those of what they answered.
-fn wrong_sends<R: Wait + Copy>(s: &Sender<u64, R>, alloc: Global) -> u64 {
+pub(crate) fn log_sends<R: Wait + Copy>(s: &Sender<u64, R>, alloc: Global) -> u64 {
     let mut wrong = 0u64;
     for message in 0..CALLS {
         let (sent, log) = try_send_logged(s, message, Log::new(alloc));
@@ -109,7 +108,7 @@ fn wrong_sends<R: Wait + Copy>(s: &Sender<u64, R>, alloc: Global) -> u64 {
 }
 
 /// How many receives did.
-fn wrong_receives<R: Wait + Copy>(r: &Receiver<u64, R>, alloc: Global) -> u64 {
+pub(crate) fn log_receives<R: Wait + Copy>(r: &Receiver<u64, R>, alloc: Global) -> u64 {
     let mut wrong = 0u64;
     for _ in 0..CALLS {
         let (received, log) = try_recv_logged(r, Log::new(alloc));
@@ -124,56 +123,46 @@ fn wrong_receives<R: Wait + Copy>(r: &Receiver<u64, R>, alloc: Global) -> u64 {
     wrong
 }
 
-/// Two threads at once: how many logs are not those of one call with its answer.
-fn two_at_once<R: Threads + Wait + Copy + Send + Sync>(
-    rt: &R,
-    s: &Sender<u64, R>,
-    r: &Receiver<u64, R>,
-    alloc: Global,
-) -> (u64, u64) {
-    thread::join(rt, || wrong_sends(s, alloc), || wrong_receives(r, alloc))
-}
-
+/// Two threads at once: each log is that of one call with its answer.
 #[test]
 fn logs_of_calls_at_once(rt: HostRuntime) {
     for capacity in [0, 1, 3] {
         let (s, r) = opened(rt, rt.alloc(), capacity).expect(&rt, "memory");
-        let wrong = two_at_once(&rt, &s, &r, rt.alloc());
-        expect_equal(&rt, &wrong, &(0, 0));
+        let wrong = both(
+            rt,
+            Job::LogSends(&s, rt.alloc()),
+            Job::LogReceives(&r, rt.alloc()),
+        );
+        expect_equal(&rt, &wrong, &[(0, 0); 2]);
     }
 }
 
-/// What a closing says, and whether it wrote the lines of that.
-fn closing<R: Wait + Copy>(s: &Sender<u64, R>, alloc: Global) -> (bool, bool) {
+/// Whether a closing says that it closed the channel, and whether it wrote the lines of that, each as 1 or 0.
+pub(crate) fn log_closing<R: Wait + Copy>(s: &Sender<u64, R>, alloc: Global) -> Counts {
     let (closed, log) = close_logged(s, Log::new(alloc));
     let lines: &[Did] = if closed { &CLOSED } else { &ASKED };
-    (closed, log.has(lines))
+    (u64::from(closed), u64::from(log.has(lines)))
 }
 
-/// Two threads close at once: how many of them say that they did, and whether both wrote the lines of that.
-fn two_close<R: Threads + Wait + Copy + Send + Sync>(
-    rt: &R,
-    s: &Sender<u64, R>,
-    alloc: Global,
-) -> (u8, bool) {
-    let (first, second) = thread::join(rt, || closing(s, alloc), || closing(s, alloc));
-    let closed = u8::from(first.0).wrapping_add(u8::from(second.0));
-    (closed, first.1 && second.1)
-}
-
+/// Two threads close at once: one of them says that it did, and both wrote the lines of what they said.
 #[test]
 fn logs_of_two_closings(rt: HostRuntime) {
     for _ in 0..100u8 {
         let (s, r) = opened(rt, rt.alloc(), 1).expect(&rt, "memory");
-        let found = two_close(&rt, &s, rt.alloc());
-        expect_equal(&rt, &found, &(1, true));
+        let [first, second] = both(
+            rt,
+            Job::LogClosing(&s, rt.alloc()),
+            Job::LogClosing(&s, rt.alloc()),
+        );
+        let closed = first.0.wrapping_add(second.0);
+        expect_equal(&rt, &(closed, first.1, second.1), &(1, 1, 1));
         drop(r);
     }
 }
 
 /// Whether a receive that blocked ended by a message: it told one who waits for a place, and left no listener behind. A call that slept
 /// had asked for a task.
-fn waited<R: Wait + Copy>(r: &Receiver<u64, R>, alloc: Global) -> bool {
+pub(crate) fn log_receive_that_blocks<R: Wait + Copy>(r: &Receiver<u64, R>, alloc: Global) -> bool {
     let (received, log) = recv_blocking_logged(r, Log::new(alloc));
     let lines = log.lines.as_slice();
     let slept = lines.contains(&Did::Slept);
@@ -186,20 +175,15 @@ fn waited<R: Wait + Copy>(r: &Receiver<u64, R>, alloc: Global) -> bool {
 }
 
 /// One thread receives, the other one sends.
-fn one_waits<R: Threads + Wait + Copy + Send + Sync>(
-    rt: &R,
-    s: &Sender<u64, R>,
-    r: &Receiver<u64, R>,
-    alloc: Global,
-) -> (bool, bool) {
-    thread::join(rt, || waited(r, alloc), || sends(s, alloc, &SENT))
-}
-
 #[test]
 fn logs_of_a_receive_that_blocks(rt: HostRuntime) {
     for _ in 0..100u8 {
         let (s, r) = opened(rt, rt.alloc(), 1).expect(&rt, "memory");
-        let found = one_waits(&rt, &s, &r, rt.alloc());
-        expect_equal(&rt, &found, &(true, true));
+        let found = both(
+            rt,
+            Job::LogReceiveThatBlocks(&r, rt.alloc()),
+            Job::LogSend(&s, rt.alloc()),
+        );
+        expect_equal(&rt, &found, &[(1, 0); 2]);
     }
 }

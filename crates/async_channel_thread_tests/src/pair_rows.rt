@@ -149,4 +149,38 @@ row a_dropped_sender_wakes_a_receiver_without_a_bound
 unbounded
 s drop
 r recv_to_end = over
+
+row a_dropped_receiver_wakes_who_waits_for_the_closing
+bounded 1
+s send_to_end 7 = sent
+s pass 1
+s wait_for_closing 2 3 = pending true over true
+r recv_to_end = received 7
+r open 1
+r pass 2
+r drop
+r open 3
+
+# An operation that was polled once and is then left alone keeps nobody else from going on.
+row a_forgotten_send
+bounded 2
+s send_to_end 3 = sent
+s send_to_end 7 = sent
+s forget_send 13 1 42 2 3 = pending sent
+r pass 1
+r recv_to_end = received 3
+r recv_to_end = received 7
+r pass 2
+r try_recv = received 42
+r open 3
+
+row a_forgotten_receive
+bounded 2
+r forget_receive 1 2 3 = pending received 3
+s pass 1
+s send_to_end 3 = sent
+s send_to_end 7 = sent
+s pass 2
+s try_send 42 = sent
+s open 3
 ";

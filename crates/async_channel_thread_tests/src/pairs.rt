@@ -1,63 +1,142 @@
 //! Two threads, one with the senders and one with the receivers of the same channels, as rows call them: the rows of
 //! [`pair_rows`](crate::pair_rows). Each thread makes its own lines of a row, and both begin the next row together.
 //!
-//! | WaitList | What it does | What it answers |
+//! | Line | What it does | What it answers |
 //! |---|---|---|
 //! | `bounded N`, `unbounded` | the row's channel, which is opened before the rows are played | |
 //! | `open N` | opens this gate of the row, and those before it | `ok` |
 //! | `pass N` | waits until this gate is open | `ok` |
 //! | `drop` | drops the thread's handle | `ok` |
+//! | `wait_for_closing A B` | polls a wait for the closing, opens gate A and passes gate B; polls it again, and runs another one to its end | both polls, whether the first was woken between them, and whether the other one was told |
+//! | `forget_send M A N B C` | polls a send of M and leaves it alone; opens gate A, sends N by a clone, opens gate B and passes gate C | what the poll says, and the other send |
+//! | `forget_receive A B C` | the same with receives | the same |
 //! | `CALL ..` | a call of it ([`channel_test_helpers::calls`]) | |
 
-use crate::checks::expect_played;
+use crate::checks::{expect_equal, expect_played, expect_true};
 use crate::gates::Gates;
+use crate::jobs::{Done, Job, all_done};
 use crate::pair_rows::PAIRS;
 use async_channel::{Receiver, Sender};
-use channel_test_helpers::calls::{sender_says, write_received};
-use channel_test_helpers::{capacity_of, opened};
+use channel_test_helpers::calls::{MEMORY, polled, sender_says, write_received};
+use channel_test_helpers::{capacity_of, closes, opened, receives, sends, told_of_closing};
+use futures::test::MockTask;
 use std::alloc::{AllocError, AllocGlobal, Global};
 use std::random::RandomSource;
 use std::sync::Wait;
-use std::thread;
-use std::thread::Threads;
 use worked_rows::{Played, Player, Said, Words, play_rows};
 
 /// No row has so many gates.
 const GATES: u32 = 10;
 
-/// A handle whose calls rows name.
-trait Calls<R> {
+/// A thread's handle of a row's channel.
+#[derive(Drop)]
+enum Hand<R: Wait + Copy> {
+    Sender(Sender<u64, R>),
+    Receiver(Receiver<u64, R>),
+}
+
+/// The gates of a row, of which the first has this number.
+#[derive(Clone, Copy)]
+struct RowGates<'a> {
+    gates: &'a Gates,
+    first: u32,
+}
+
+impl RowGates<'_> {
+    fn open<R: Wait>(&self, rt: &R, words: &mut Words<'_>) {
+        self.gates
+            .open(rt, self.first.saturating_add(words.small()));
+    }
+
+    fn pass<R: Wait>(&self, rt: &R, words: &mut Words<'_>) {
+        self.gates
+            .pass(rt, self.first.saturating_add(words.small()));
+    }
+}
+
+fn wait_for_closing<R>(
+    rt: R,
+    s: &Sender<u64, R>,
+    gates: RowGates<'_>,
+    words: &mut Words<'_>,
+    answer: &mut String,
+) -> Result<(), AllocError>
+where
+    R: Wait + Copy + RandomSource + AllocGlobal,
+{
+    let Ok(task) = MockTask::new(&rt) else {
+        return MEMORY.write(answer);
+    };
+    let mut closed = s.closed();
+    polled(closes(&task, &mut closed)).write(answer)?;
+    gates.open(&rt, words);
+    gates.pass(&rt, words);
+    Said::flag(task.is_woken()).write(answer)?;
+    polled(closes(&task, &mut closed)).write(answer)?;
+    Said::flag(told_of_closing(rt, s)).write(answer)
+}
+
+fn forget_send<R>(
+    rt: R,
+    s: &Sender<u64, R>,
+    gates: RowGates<'_>,
+    words: &mut Words<'_>,
+    answer: &mut String,
+) -> Result<(), AllocError>
+where
+    R: Wait + Copy + RandomSource + AllocGlobal,
+{
+    let (Ok(task), Ok(other)) = (MockTask::new(&rt), s.try_clone()) else {
+        return MEMORY.write(answer);
+    };
+    let mut forgotten = s.send(words.number());
+    polled(sends(&task, &mut forgotten)).write(answer)?;
+    gates.open(&rt, words);
+    sender_says(rt, &other, "send_to_end", words).write(answer)?;
+    gates.open(&rt, words);
+    gates.pass(&rt, words);
+    Ok(())
+}
+
+fn forget_receive<R>(
+    rt: R,
+    r: &Receiver<u64, R>,
+    gates: RowGates<'_>,
+    words: &mut Words<'_>,
+    answer: &mut String,
+) -> Result<(), AllocError>
+where
+    R: Wait + Copy + RandomSource + AllocGlobal,
+{
+    let (Ok(task), Ok(other)) = (MockTask::new(&rt), r.try_clone()) else {
+        return MEMORY.write(answer);
+    };
+    let mut forgotten = r.recv();
+    polled(receives(&task, &mut forgotten)).write(answer)?;
+    gates.open(&rt, words);
+    write_received(rt, &other, "recv_to_end", words, answer)?;
+    gates.open(&rt, words);
+    gates.pass(&rt, words);
+    Ok(())
+}
+
+impl<R: Wait + Copy + RandomSource + AllocGlobal> Hand<R> {
     /// Makes a call, and writes what it says.
     fn call(
         &self,
         rt: R,
-        verb: &str,
-        words: &mut Words<'_>,
-        answer: &mut String,
-    ) -> Result<(), AllocError>;
-}
-
-impl<R: Wait + Copy + RandomSource + AllocGlobal> Calls<R> for Sender<u64, R> {
-    fn call(
-        &self,
-        rt: R,
+        gates: RowGates<'_>,
         verb: &str,
         words: &mut Words<'_>,
         answer: &mut String,
     ) -> Result<(), AllocError> {
-        sender_says(rt, self, verb, words).write(answer)
-    }
-}
-
-impl<R: Wait + Copy + RandomSource + AllocGlobal> Calls<R> for Receiver<u64, R> {
-    fn call(
-        &self,
-        rt: R,
-        verb: &str,
-        words: &mut Words<'_>,
-        answer: &mut String,
-    ) -> Result<(), AllocError> {
-        write_received(rt, self, verb, words, answer)
+        match (self, verb) {
+            (Hand::Sender(s), "wait_for_closing") => wait_for_closing(rt, s, gates, words, answer),
+            (Hand::Sender(s), "forget_send") => forget_send(rt, s, gates, words, answer),
+            (Hand::Sender(s), verb) => sender_says(rt, s, verb, words).write(answer),
+            (Hand::Receiver(r), "forget_receive") => forget_receive(rt, r, gates, words, answer),
+            (Hand::Receiver(r), verb) => write_received(rt, r, verb, words, answer),
+        }
     }
 }
 
@@ -70,87 +149,91 @@ struct Place {
 
 /// One thread's side of the rows: its handles, one for each row, and how many rows have begun.
 #[derive(Drop)]
-pub(crate) struct Side<'a, R, H> {
+pub(crate) struct Side<'a, R: Wait + Copy> {
     rt: R,
     place: &'a Place,
-    handles: Vec<Option<H>>,
+    hands: Vec<Option<Hand<R>>>,
     row: u32,
 }
 
-impl<R: Wait + Copy, H: Calls<R> + Drop> Side<'_, R, H> {
-    /// The row's gate of this number.
-    fn gate(&self, words: &mut Words<'_>) -> u32 {
-        self.row.saturating_mul(GATES).saturating_add(words.small())
+const NO_HANDLE: Said = Said::Word("no handle");
+
+impl<'a, R: Wait + Copy> Side<'a, R> {
+    /// The row's gates.
+    fn gates(&self) -> RowGates<'a> {
+        RowGates {
+            gates: &self.place.gates,
+            first: self.row.saturating_mul(GATES),
+        }
     }
 
     /// The row's handle, if it is there.
-    fn handle(&mut self) -> Option<&mut Option<H>> {
-        self.handles.get_mut((self.row as usize).wrapping_sub(1))
+    fn hand(&mut self) -> Option<&mut Option<Hand<R>>> {
+        self.hands.get_mut((self.row as usize).wrapping_sub(1))
     }
 
-    fn drop_handle(&mut self) -> Said {
-        match self.handle() {
-            Some(handle) => {
-                drop(handle.take());
+    fn drop_hand(&mut self) -> Said {
+        match self.hand() {
+            Some(hand) => {
+                drop(hand.take());
                 Said::Ok
             }
             None => NO_HANDLE,
         }
     }
 
-    fn open(&self, words: &mut Words<'_>) -> Said {
-        self.place.gates.open(&self.rt, self.gate(words));
-        Said::Ok
-    }
-
-    fn pass(&self, words: &mut Words<'_>) -> Said {
-        self.place.gates.pass(&self.rt, self.gate(words));
-        Said::Ok
-    }
-
     /// Waits for the other thread's end of the last row, unless this one stopped before it. Then keeps it no longer.
     fn end(&mut self, stopped: bool) {
         if !stopped {
-            self.begin();
+            self.meet();
         }
         self.place.gates.open(&self.rt, u32::MAX);
         self.place.meetings.open(&self.rt, u32::MAX);
     }
-}
 
-const NO_HANDLE: Said = Said::Word("no handle");
-
-impl<R: Wait + Copy, H: Calls<R> + Drop> Player for Side<'_, R, H> {
-    /// Both threads have ended the row before.
-    fn begin(&mut self) {
+    /// Waits until both threads have ended the row before.
+    fn meet(&mut self) {
         self.row = self.row.saturating_add(1);
         self.place
             .meetings
             .meet(&self.rt, self.row.saturating_mul(2));
     }
+}
+
+impl<R: Wait + Copy + RandomSource + AllocGlobal> Player for Side<'_, R> {
+    fn begin(&mut self) {
+        self.meet();
+    }
 
     fn play(&mut self, words: &mut Words<'_>, answer: &mut String) -> Result<(), AllocError> {
+        let (rt, gates) = (self.rt, self.gates());
         match words.word() {
-            "open" => self.open(words).write(answer),
-            "pass" => self.pass(words).write(answer),
-            "drop" => self.drop_handle().write(answer),
-            verb => {
-                let rt = self.rt;
-                match self.handle() {
-                    Some(Some(handle)) => handle.call(rt, verb, words, answer),
-                    _ => NO_HANDLE.write(answer),
-                }
+            "open" => {
+                gates.open(&rt, words);
+                Ok(())
             }
+            "pass" => {
+                gates.pass(&rt, words);
+                Ok(())
+            }
+            "drop" => self.drop_hand().write(answer),
+            verb => match self.hand() {
+                Some(Some(hand)) => hand.call(rt, gates, verb, words, answer),
+                _ => NO_HANDLE.write(answer),
+            },
         }
     }
 }
 
 /// Plays one side of the rows.
-fn play_side<'t, R: Wait + Copy, H: Calls<R> + Drop>(
+pub(crate) fn play_side<'t, R>(
     alloc: Global,
     text: &'t str,
-    mut side: Side<'_, R, H>,
-) -> Result<Played<'t>, AllocError> {
+    mut side: Side<'_, R>,
+) -> Result<Played<'t>, AllocError>
+where
+    R: Wait + Copy + RandomSource + AllocGlobal,
+{
     let played = play_rows(alloc, text, &mut side);
     let stopped = match &played {
         Ok(played) => played.differs.is_some(),
@@ -173,78 +256,48 @@ fn side_of(alloc: Global, text: &str, mark: &str) -> Result<String, AllocError> 
     Ok(side)
 }
 
-/// The handles of the rows' channels.
-#[derive(Drop)]
-struct Handles<R: Wait + Copy> {
-    senders: Vec<Option<Sender<u64, R>>>,
-    receivers: Vec<Option<Receiver<u64, R>>>,
-}
-
-impl<R: Wait + Copy> Handles<R> {
-    /// Opens a channel. Where that is refused, a row says that it has no handle.
-    fn open(&mut self, rt: R, alloc: Global, capacity: usize) {
-        if let Some((s, r)) = opened(rt, alloc, capacity) {
-            let _ = self.senders.push(Some(s));
-            let _ = self.receivers.push(Some(r));
-        }
-    }
-}
-
-/// Opens the channels that a text's rows name, in order.
-fn open_all<R: Wait + Copy>(rt: R, alloc: Global, text: &str) -> Handles<R> {
-    let mut handles = Handles {
-        senders: Vec::new(alloc),
-        receivers: Vec::new(alloc),
-    };
+/// The handles of the channels that a text's rows name, in order, those that send and those that receive. Where an opening is refused, a
+/// row says that it has no handle.
+fn open_all<R: Wait + Copy>(rt: R, alloc: Global, text: &str) -> [Vec<Option<Hand<R>>>; 2] {
+    let mut senders = Vec::new(alloc);
+    let mut receivers = Vec::new(alloc);
     for line in text.lines() {
         if let Some(capacity) = capacity_of(line) {
-            handles.open(rt, alloc, capacity);
+            if let Some((s, r)) = opened(rt, alloc, capacity) {
+                let _ = senders.push(Some(Hand::Sender(s)));
+                let _ = receivers.push(Some(Hand::Receiver(r)));
+            }
         }
     }
-    handles
-}
-
-/// What came of both sides of some rows.
-type Both<'t> = [Result<Played<'t>, AllocError>; 2];
-
-fn play_both<'t, R>(rt: R, alloc: Global, handles: Handles<R>, texts: [&'t str; 2]) -> Both<'t>
-where
-    R: Wait + Threads + Copy + RandomSource + AllocGlobal + Send + Sync,
-{
-    let Handles { senders, receivers } = handles;
-    let place = Place {
-        gates: Gates::new(),
-        meetings: Gates::new(),
-    };
-    let one = Side {
-        rt,
-        place: &place,
-        handles: senders,
-        row: 0,
-    };
-    let other = Side {
-        rt,
-        place: &place,
-        handles: receivers,
-        row: 0,
-    };
-    let [sends, receives] = texts;
-    let (sent, received) = thread::join(
-        &rt,
-        move || play_side(alloc, sends, one),
-        move || play_side(alloc, receives, other),
-    );
-    [sent, received]
+    [senders, receivers]
 }
 
 #[test]
 fn rows(rt: HostRuntime) {
     let alloc = rt.alloc();
+    let place = Place {
+        gates: Gates::new(),
+        meetings: Gates::new(),
+    };
+    let [senders, receivers] = open_all(rt, alloc, PAIRS);
     let sends = side_of(alloc, PAIRS, "s ").expect(&rt, "memory");
     let receives = side_of(alloc, PAIRS, "r ").expect(&rt, "memory");
-    let handles = open_all(rt, alloc, PAIRS);
-    let both = play_both(rt, alloc, handles, [sends.as_str(), receives.as_str()]);
-    for played in both.iter() {
-        expect_played(&rt, played, 13);
+    let mut jobs = Vec::new(alloc);
+    for (text, hands) in [(sends.as_str(), senders), (receives.as_str(), receivers)] {
+        let side = Side {
+            rt,
+            place: &place,
+            hands,
+            row: 0,
+        };
+        let _ = jobs.push(Job::Play(alloc, text, side));
+    }
+    let both = all_done(rt, jobs).expect(&rt, "memory");
+    expect_equal(&rt, &both.len(), &2);
+    for done in both.iter() {
+        match done {
+            Done::Played(played) => expect_played(&rt, played, 16),
+            _ => expect_true(&rt, false),
+        }
     }
 }

@@ -1,7 +1,8 @@
 //! Two threads poll sends by hand and two poll receives. Afterwards what was woken is polled until nothing is: then nobody is
 //! pending whom a message or a place lets go on, and each message that was accepted was received once or is left.
 
-use crate::checks::{expect_true, new_task};
+use crate::checks::expect_true;
+use crate::jobs::{Done, Job, all_done};
 use crate::tally::Tally;
 use async_channel::{Receiver, Recv, Send as Sending, Sender};
 use channel_test_helpers::{Ends, Said, opened, receives, sends};
@@ -55,7 +56,7 @@ impl Went {
 
 /// What a sender had accepted, and its last send with its task.
 #[derive(Drop)]
-struct LastSend<'a, R: Wait + Copy> {
+pub(crate) struct LastSend<'a, R: Wait + Copy> {
     went: Went,
     task: MockTask,
     send: Sending<'a, u64, R>,
@@ -63,27 +64,10 @@ struct LastSend<'a, R: Wait + Copy> {
 
 /// What a receiver got, and its last receive with its task.
 #[derive(Drop)]
-struct LastRecv<'a, R: Wait + Copy> {
+pub(crate) struct LastRecv<'a, R: Wait + Copy> {
     went: Went,
     task: MockTask,
     recv: Recv<'a, u64, R>,
-}
-
-/// What the two who send have at hand.
-#[derive(Drop)]
-struct SendSide<'a, R: Wait + Copy> {
-    rt: R,
-    sender: &'a Sender<u64, R>,
-    tasks: (MockTask, MockTask),
-}
-
-/// What the two who receive have at hand.
-#[derive(Drop)]
-struct ReceiveSide<'a, R: Wait + Copy> {
-    rt: R,
-    receiver: &'a Receiver<u64, R>,
-    tally: &'a Tally,
-    tasks: (MockTask, MockTask),
 }
 
 /// A task for the next operation in the place of this one: whether one was to be had.
@@ -97,7 +81,7 @@ fn renews<R: RandomSource + AllocGlobal>(rt: &R, task: &mut MockTask) -> bool {
     }
 }
 
-fn poll_sends<R>(rt: R, s: &Sender<u64, R>, from: u64, task: MockTask) -> LastSend<'_, R>
+pub(crate) fn poll_sends<R>(rt: R, s: &Sender<u64, R>, from: u64, task: MockTask) -> LastSend<'_, R>
 where
     R: Wait + Copy + RandomSource + AllocGlobal,
 {
@@ -117,7 +101,7 @@ where
     LastSend { went, task, send }
 }
 
-fn poll_receives<'a, R>(
+pub(crate) fn poll_receives<'a, R>(
     rt: R,
     r: &'a Receiver<u64, R>,
     tally: &Tally,
@@ -132,7 +116,7 @@ where
     for _ in 0..POLLS {
         if let Said::Got(message) = receives(&task, &mut recv) {
             went.note(message);
-            tally.note(&rt, message);
+            tally.note(message);
             went.right = renews(&rt, &mut task) && went.right;
             recv = r.recv();
         } else {
@@ -140,39 +124,6 @@ where
         }
     }
     LastRecv { went, task, recv }
-}
-
-fn two_send<'a, R>(side: SendSide<'a, R>) -> (LastSend<'a, R>, LastSend<'a, R>)
-where
-    R: Wait + Threads + Copy + RandomSource + AllocGlobal + Send + Sync,
-{
-    let SendSide {
-        rt,
-        sender: s,
-        tasks: (one, two),
-    } = side;
-    thread::join(
-        &rt,
-        move || poll_sends(rt, s, 0, one),
-        move || poll_sends(rt, s, SECOND, two),
-    )
-}
-
-fn two_receive<'a, R>(side: ReceiveSide<'a, R>) -> (LastRecv<'a, R>, LastRecv<'a, R>)
-where
-    R: Wait + Threads + Copy + RandomSource + AllocGlobal + Send + Sync,
-{
-    let ReceiveSide {
-        rt,
-        receiver: r,
-        tally,
-        tasks: (one, two),
-    } = side;
-    thread::join(
-        &rt,
-        move || poll_receives(rt, r, tally, one),
-        move || poll_receives(rt, r, tally, two),
-    )
 }
 
 /// Polls a send that was woken, unless it is done.
@@ -188,30 +139,25 @@ fn settle_send<R: Wait + Copy>(sent: &mut LastSend<'_, R>, from: u64, done: &mut
 }
 
 /// Polls a receive that was woken, unless it is done.
-fn settle_receive<R: Wait + Copy>(
-    rt: R,
-    got: &mut LastRecv<'_, R>,
-    tally: &Tally,
-    done: &mut bool,
-) {
+fn settle_receive<R: Wait + Copy>(got: &mut LastRecv<'_, R>, tally: &Tally, done: &mut bool) {
     if *done || !got.task.is_woken() {
         return;
     }
     if let Said::Got(message) = receives(&got.task, &mut got.recv) {
         *done = true;
         got.went.note(message);
-        tally.note(&rt, message);
+        tally.note(message);
     }
 }
 
 /// What is still in the channel.
-fn drain<R: Wait + Copy>(rt: R, r: &Receiver<u64, R>, tally: &Tally) -> Went {
+fn drain<R: Wait + Copy>(r: &Receiver<u64, R>, tally: &Tally) -> Went {
     let mut left = Went::new();
     for _ in 0..LIMIT {
         match r.try_recv() {
             Ok(message) => {
                 left.note(message);
-                tally.note(&rt, message);
+                tally.note(message);
             }
             Err(_) => return left,
         }
@@ -220,25 +166,28 @@ fn drain<R: Wait + Copy>(rt: R, r: &Receiver<u64, R>, tally: &Tally) -> Went {
 }
 
 /// Whether each message that was sent was received once or is left, and those of each sender went in order.
-fn adds_up<R: Wait>(rt: &R, sent: [Went; 2], got: [Went; 2], left: Went, tally: &Tally) -> bool {
+fn adds_up(sent: [Went; 2], got: [Went; 2], left: Went, tally: &Tally) -> bool {
     let ordered = got[0].right && got[1].right && left.right;
-    ordered && tally.are_once(rt, sent[0].count, SECOND, sent[1].count)
+    ordered && tally.are_once(sent[0].count, SECOND, sent[1].count)
+}
+
+/// The last operations of two who send and two who receive.
+#[derive(Drop)]
+struct Last<'a, R: Wait + Copy> {
+    sends: (LastSend<'a, R>, LastSend<'a, R>),
+    receives: (LastRecv<'a, R>, LastRecv<'a, R>),
 }
 
 /// Polls whom was woken until nobody is. Then nobody who isn't done could go on, and nothing was lost or doubled.
-fn settles<'a, R: Wait + Copy>(
-    rt: R,
-    sent: &mut (LastSend<'a, R>, LastSend<'a, R>),
-    got: &mut (LastRecv<'a, R>, LastRecv<'a, R>),
-    r: &'a Receiver<u64, R>,
-    tally: &Tally,
-) -> bool {
+fn settles<R: Wait + Copy>(last: &mut Last<'_, R>, r: &Receiver<u64, R>, tally: &Tally) -> bool {
+    let sent = &mut last.sends;
+    let got = &mut last.receives;
     let mut done = [false; 4];
     for _ in 0..100 {
         settle_send(&mut sent.0, 0, &mut done[0]);
         settle_send(&mut sent.1, SECOND, &mut done[1]);
-        settle_receive(rt, &mut got.0, tally, &mut done[2]);
-        settle_receive(rt, &mut got.1, tally, &mut done[3]);
+        settle_receive(&mut got.0, tally, &mut done[2]);
+        settle_receive(&mut got.1, tally, &mut done[3]);
     }
     let senders_still = (done[0] || !sent.0.task.is_woken())
         && (done[1] || !sent.1.task.is_woken());
@@ -246,9 +195,8 @@ fn settles<'a, R: Wait + Copy>(
         && (done[3] || !got.1.task.is_woken());
     let sends_rest = done[0] && done[1] || r.is_full();
     let receives_rest = done[2] && done[3] || r.is_empty();
-    let left = drain(rt, r, tally);
+    let left = drain(r, tally);
     let whole = adds_up(
-        &rt,
         [sent.0.went, sent.1.went],
         [got.0.went, got.1.went],
         left,
@@ -257,33 +205,44 @@ fn settles<'a, R: Wait + Copy>(
     senders_still && receivers_still && sends_rest && receives_rest && whole
 }
 
-fn comes_to_rest<R>(
-    rt: R,
-    ends: &Ends<R>,
-    tally: &Tally,
-    senders: (MockTask, MockTask),
-    receivers: (MockTask, MockTask),
-) -> bool
+/// Two threads poll sends, and two poll receives: the last operations of each. Nothing where memory was refused.
+fn poll_all<'a, R>(rt: R, ends: &'a Ends<R>, tally: &'a Tally) -> Option<Last<'a, R>>
 where
     R: Wait + Threads + Copy + RandomSource + AllocGlobal + Send + Sync,
 {
-    let sending = SendSide {
-        rt,
-        sender: &ends.0,
-        tasks: senders,
-    };
-    let receiving = ReceiveSide {
-        rt,
-        receiver: &ends.1,
-        tally,
-        tasks: receivers,
-    };
-    let (mut sent, mut got) = thread::join(
-        &rt,
-        move || two_send(sending),
-        move || two_receive(receiving),
-    );
-    settles(rt, &mut sent, &mut got, &ends.1, tally)
+    let mut jobs = Vec::new(rt.alloc());
+    for from in [0, SECOND] {
+        let task = MockTask::new(&rt).ok()?;
+        jobs.push(Job::PollSends(&ends.0, from, task)).ok()?;
+    }
+    for _ in 0..2 {
+        let task = MockTask::new(&rt).ok()?;
+        jobs.push(Job::PollReceives(&ends.1, tally, task)).ok()?;
+    }
+    let mut done = all_done(rt, jobs).ok()?;
+    let last = (last_receive(done.pop())?, last_receive(done.pop())?);
+    let receives = (last.1, last.0);
+    let last = (last_send(done.pop())?, last_send(done.pop())?);
+    Some(Last {
+        sends: (last.1, last.0),
+        receives,
+    })
+}
+
+/// The last send of a job that polled some.
+fn last_send<R: Wait + Copy>(done: Option<Done<'_, R>>) -> Option<LastSend<'_, R>> {
+    match done {
+        Some(Done::Sent(last)) => Some(last),
+        _ => None,
+    }
+}
+
+/// The last receive of a job that polled some.
+fn last_receive<R: Wait + Copy>(done: Option<Done<'_, R>>) -> Option<LastRecv<'_, R>> {
+    match done {
+        Some(Done::Received(last)) => Some(last),
+        _ => None,
+    }
 }
 
 #[test]
@@ -291,11 +250,9 @@ fn at_rest(rt: HostRuntime) {
     for capacity in [1, 3, 0] {
         for _ in 0..5 {
             let tally = Tally::new(rt.alloc(), LIMIT).expect(&rt, "memory");
-            let senders = (new_task(&rt), new_task(&rt));
-            let receivers = (new_task(&rt), new_task(&rt));
             let ends = opened(rt, rt.alloc(), capacity).expect(&rt, "memory");
-            let rests = comes_to_rest(rt, &ends, &tally, senders, receivers);
-            expect_true(&rt, rests);
+            let mut last = poll_all(rt, &ends, &tally).expect(&rt, "memory");
+            expect_true(&rt, settles(&mut last, &ends.1, &tally));
         }
     }
 }

@@ -1,12 +1,12 @@
 //! How often each number came, counted by all threads together.
 
 use std::alloc::Global;
-use std::sync::{Mutex, Wait};
+use std::sync::atomic::{AtomicU32, Ordering};
 
 /// A count for each number below a limit.
 #[derive(Drop)]
 pub(crate) struct Tally {
-    seen: Mutex<Vec<u32>>,
+    seen: Vec<AtomicU32>,
 }
 
 impl Tally {
@@ -14,18 +14,16 @@ impl Tally {
     pub(crate) fn new(alloc: Global, limit: u64) -> Option<Tally> {
         let mut seen = Vec::new(alloc);
         for _ in 0..limit {
-            seen.push(0u32).ok()?;
+            seen.push(AtomicU32::new(0)).ok()?;
         }
-        Some(Tally {
-            seen: Mutex::new(seen),
-        })
+        Some(Tally { seen })
     }
 
     /// Notes this number; false where it is past the limit.
-    pub(crate) fn note<R: Wait>(&self, rt: &R, number: u64) -> bool {
-        match self.seen.lock(rt).get_mut(number as usize) {
+    pub(crate) fn note(&self, number: u64) -> bool {
+        match self.seen.get(number as usize) {
             Some(seen) => {
-                *seen = seen.wrapping_add(1);
+                seen.fetch_add(1, Ordering::SeqCst);
                 true
             }
             None => false,
@@ -33,22 +31,22 @@ impl Tally {
     }
 
     /// Whether each number came so often.
-    pub(crate) fn all_are<R: Wait>(&self, rt: &R, times: u32) -> bool {
+    pub(crate) fn all_are(&self, times: u32) -> bool {
         let mut right = true;
-        for seen in self.seen.lock(rt).iter() {
-            right = right && *seen == times;
+        for seen in self.seen.iter() {
+            right = right & (seen.load(Ordering::SeqCst) == times);
         }
         right
     }
 
     /// Whether the first `first` numbers and the first `second` ones from `from` on came once each, and no other came.
-    pub(crate) fn are_once<R: Wait>(&self, rt: &R, first: u64, from: u64, second: u64) -> bool {
+    pub(crate) fn are_once(&self, first: u64, from: u64, second: u64) -> bool {
         let mut right = true;
         let mut number = 0u64;
-        for seen in self.seen.lock(rt).iter() {
+        for seen in self.seen.iter() {
             let is_first = number < first;
             let is_second = number >= from && number.wrapping_sub(from) < second;
-            right = right && *seen == u32::from(is_first || is_second);
+            right = right & (seen.load(Ordering::SeqCst) == u32::from(is_first || is_second));
             number = number.wrapping_add(1);
         }
         right

@@ -1,17 +1,15 @@
 //! A channel that is watched: the calls of all its handles, on whatever thread, are told to one log.
 
 use crate::checks::expect_equal;
-use async_channel::{EventIds, Receiver, Sender, Shown, Sight, Trace, bounded_watched};
+use crate::jobs::{Job, both};
+use async_channel::{EventIds, Shown, Sight, Trace, bounded_watched};
 use concurrent_queue::cells::Slot;
 use concurrent_queue::seen as queue;
-use std::sync::Wait;
 use std::sync::atomic::{AtomicUsize, Ordering};
-use std::thread;
-use std::thread::Threads;
 
 /// How many calls began, how many operations were made on cells of the queue, how many sections were made on lists, and how often a count
 /// was read or changed.
-struct Tallies {
+pub(crate) struct Tallies {
     beginnings: AtomicUsize,
     operations: AtomicUsize,
     sections: AtomicUsize,
@@ -20,7 +18,7 @@ struct Tallies {
 
 /// What each call takes a copy of.
 #[derive(Clone, Copy)]
-struct Watcher<'a> {
+pub(crate) struct Watcher<'a> {
     tallies: &'a Tallies,
 }
 
@@ -70,17 +68,6 @@ impl Trace<u64> for Watcher<'_> {
 
 /// A send and a question at once, then a receive and a closing: what was sent was received, one sender was counted, and it was
 /// open. Before them a send is given up that nobody polled, which hands its message back, and a receive that nobody polled is dropped.
-fn calls<R: Threads + Wait + Copy + Send + Sync>(
-    rt: &R,
-    s: &Sender<u64, R, Watcher<'_>>,
-    r: &Receiver<u64, R, Watcher<'_>>,
-) -> (Option<u64>, bool, usize, Option<u64>, bool) {
-    let unsent = s.send(9).give_up();
-    drop(r.recv());
-    let (sent, senders) = thread::join(rt, || s.try_send(7).is_ok(), || r.sender_count());
-    (unsent, sent, senders, r.try_recv().ok(), s.close())
-}
-
 #[test]
 fn one_log_of_all_calls(rt: HostRuntime) {
     let tallies = Tallies {
@@ -92,7 +79,10 @@ fn one_log_of_all_calls(rt: HostRuntime) {
     let mut ids = EventIds::new();
     let watch = Watcher { tallies: &tallies };
     let (s, r) = bounded_watched(rt, rt.alloc(), 1, &mut ids, watch).expect(&rt, "memory");
-    let answers = calls(&rt, &s, &r);
+    let unsent = s.send(9).give_up();
+    drop(r.recv());
+    let at_once = both(rt, Job::SendWatched(&s, 7), Job::CountSenders(&r));
+    let (got, closed) = (r.try_recv().ok(), s.close());
     drop((s, r));
     let Tallies {
         beginnings,
@@ -106,7 +96,8 @@ fn one_log_of_all_calls(rt: HostRuntime) {
         sections.into_inner(),
         counts.into_inner(),
     ];
-    expect_equal(&rt, &answers, &(Some(9), true, 1, Some(7), true));
+    expect_equal(&rt, &at_once, &[(1, 0); 2]);
+    expect_equal(&rt, &(unsent, got, closed), &(Some(9), Some(7), true));
     // Seven calls, of which one is the giving up and two are the drops of handles: a drop of what has no listener is none. Three operations
     // put the message, three take it, and each of the three closings is one.
     expect_equal(&rt, &told, &[7, 9, 7, 3]);

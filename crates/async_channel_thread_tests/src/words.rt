@@ -1,13 +1,18 @@
 //! What no program on one thread passes: two threads that each send a word and then wait for the other's.
 
 use crate::checks::expect_equal;
+use crate::jobs::{Job, both};
 use async_channel::{Receiver, Sender};
-use channel_test_helpers::{Ends, opened, sends_blocking};
+use channel_test_helpers::{opened, sends_blocking};
 use std::sync::Wait;
 use std::thread;
-use std::thread::Threads;
 
-fn word<R: Wait + Copy>(to: &Sender<u64, R>, from: &Receiver<u64, R>, mine: u64) -> u64 {
+/// Sends a word, and waits for the other thread's: that one, or 0 where none came.
+pub(crate) fn exchange_words<R: Wait + Copy>(
+    to: &Sender<u64, R>,
+    from: &Receiver<u64, R>,
+    mine: u64,
+) -> u64 {
     if !sends_blocking(to, mine) {
         return 0;
     }
@@ -20,22 +25,14 @@ fn word<R: Wait + Copy>(to: &Sender<u64, R>, from: &Receiver<u64, R>, mine: u64)
     0
 }
 
-fn words<R>(rt: R, one: Ends<R>, two: Ends<R>) -> (u64, u64)
-where
-    R: Wait + Threads + Copy + Send + Sync,
-{
-    let (there, mine) = one;
-    let (back, other) = two;
-    thread::join(
-        &rt,
-        move || word(&there, &other, 1),
-        move || word(&back, &mine, 2),
-    )
-}
-
 #[test]
 fn both_get_a_word(rt: HostRuntime) {
-    let one = opened(rt, rt.alloc(), 1).expect(&rt, "memory");
-    let two = opened(rt, rt.alloc(), 0).expect(&rt, "memory");
-    expect_equal(&rt, &words(rt, one, two), &(2, 1));
+    let (there, mine) = opened(rt, rt.alloc(), 1).expect(&rt, "memory");
+    let (back, other) = opened(rt, rt.alloc(), 0).expect(&rt, "memory");
+    let got = both(
+        rt,
+        Job::ExchangeWords(there, other, 1),
+        Job::ExchangeWords(back, mine, 2),
+    );
+    expect_equal(&rt, &got, &[(2, 0), (1, 0)]);
 }
