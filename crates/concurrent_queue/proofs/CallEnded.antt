@@ -20,7 +20,7 @@ use Rattle.concurrent_queue.proofs.HistoryCallsEnd.{call_ends}
 
 module _ {T C I : Type 0} (view : C → View T (Standing T)) (id : C → I) where
   abbrev Same : C → C → Type 0
-  Same s t = (id t ≡ id s) × ((view t).who ≡ (view s).who)
+  Same s t = (id t ≡ id s) × ((view t).who ≡ (view s).who) × ((view t).over ≡ (view s).over)
 
   abbrev Made : Deed T → C → C → Type 0
   Made = HasMade (λ x. (view x).form) (λ x. (view x).state) Same
@@ -28,7 +28,7 @@ module _ {T C I : Type 0} (view : C → View T (Standing T)) (id : C → I) wher
   pub call_ended : (most : ℕ) (a : QueueAsk T) → AsksCells a → (call : QueueCall T) → call.state ≡ Asked a → (s t : C) (r : QueueReply T) → (view s).form ≡ Bounded most → IsBegun (view s) a
       → Walked Made (view s).form call s r t → MayCall (view s).form call.state r → IsAnswered (view s) r (view t) × (id t ≡ id s)
   call_ended most a cells call asks s t r bounded (p, begun) walked may =
-      let e = call_ends (λ x. (view x).form) (λ x. (view x).state) Same (λ u. (refl, refl)) (λ u v w h k. (k.0 ∙ h.0, k.1 ∙ h.1)) most a cells call asks p s t r bounded begun walked may in
+      let e = call_ends (λ x. (view x).form) (λ x. (view x).state) Same (λ u. (refl, refl, refl)) (λ u v w h k. (k.0 ∙ h.0, k.1 ∙ h.1, k.2 ∙ h.2)) most a cells call asks p s t r bounded begun walked may in
       ((e.2, e.3 ∙ sym (ap (λ (z : Standing T). z.asked) begun), e.4 ∙ sym (ap (λ (z : Standing T). z.replies ++ r ∷ []) begun), e.1.1, e.0), e.1.0)
 
 -- ---- where a call stands that has just begun

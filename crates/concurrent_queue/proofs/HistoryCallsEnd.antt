@@ -1,7 +1,7 @@
 -- A call that was walked to its answer has ended in its party's view, with that reply.
 use Rattle.std.proofs.Common.{◌≡◌, ℕ, zero, suc, ◌⊎◌, inl, inr, ⊎_elim, List, [], ◌∷◌, ◌++◌, Bool, true, false, refl, sym, ap, ◌∙◌, subst, append-nil}
 use Rattle.std.specs.Prelude.{Option, None, Some, ◌==◌}
-use Rattle.concurrent_queue.specs.Bridge.{asking}
+use Rattle.concurrent_queue.specs.Bridge.{asking, does}
 use Rattle.concurrent_queue.specs.Deeds.{Deed, Notes, Move, Makes, loads, stores, exchanges, adds, sets_bits, keeps_bits, puts, takes, spares, retires, rests, loaded, stored, exchanged, added, bits_set, bits_kept, did_put, did_take, spared, retired}
 use Rattle.concurrent_queue.specs.Replies.{MayAnswer, MayCall}
 use Rattle.concurrent_queue.specs.Tracked.{one_state}
@@ -25,8 +25,8 @@ use Rattle.concurrent_queue.specs.declared.queue_call.CallState.TheVariants.{Ask
 use Rattle.concurrent_queue.specs.declared.queue_call.QueueCall.{QueueCall}
 use Rattle.concurrent_queue.specs.declared.single.SingleAction.{SingleAction}
 use Rattle.concurrent_queue.specs.declared.single.SingleAction.TheVariants as single
-use Rattle.concurrent_queue.specs.history.Calls.{HasNoBlocks, AsksCells, HasMade, still_none}
-use Rattle.concurrent_queue.specs.history.Runs.{begun, after_step}
+use Rattle.concurrent_queue.specs.history.Calls.{on_cell, HasNoBlocks, AsksCells, HasMade, still_none}
+use Rattle.concurrent_queue.specs.history.Runs.{moves, begun, after_step}
 use Rattle.concurrent_queue.specs.declared.history.cells.HistoryCells.{HistoryCells}
 use Rattle.concurrent_queue.specs.declared.history.party.Standing.{Standing}
 
@@ -199,8 +199,8 @@ module _ {T S : Type 0} (form_of : S → QueueForm) (of : S → Standing T) (Sam
   )
   by_deed s t at d next (Some r) w k is b = inl (k.0, k.1, ap (λ (z : Standing T). z.call) is, ap (λ (z : Standing T). z.asked) is, ap (λ (z : Standing T). z.replies) is)
 
-  deed_so : (s t : S) (at : CallState T) (d : Deed T) (r : CallStep T) → AtWalk s at → did d s t → StateMakes Notes form None at (Some d) r → After s t r.action r.reply
-  deed_so s t at d r w ((call, next, reply, was, made, is), f, same_party) n =
+  deed_made : (s t : S) (at : CallState T) (d : Deed T) (r : CallStep T) → AtWalk s at → moves (form_of s) (of s) (does (Some d)) (of t) → (form_of t ≡ form_of s) × Same s t → StateMakes Notes form None at (Some d) r → After s t r.action r.reply
+  deed_made s t at d r w (call, next, reply, was, made, is) kept n =
       let x : CallStep T = record { action = next.state; mark = next.mark; reply = reply } in
       let mine_call = w.2 in
       let same : call ≡ mine_call.0 = same_call call mine_call.0 (sym was ∙ mine_call.1) in
@@ -210,7 +210,10 @@ module _ {T S : Type 0} (form_of : S → QueueForm) (of : S → Standing T) (Sam
       subst (λ (z : CallState T). StateMakes Notes form None z (Some d) x) mine_call.2 (at_standing Notes form mine_call.0.state None (Some d) x mine) in
       let one : x ≡ r = one_state form at (Some d) r x n there in
       subst (λ (z : CallStep T). After s t z.action z.reply) one
-      (by_deed s t at d next reply w (f, same_party) is (still_none form at d x w.1 there))
+      (by_deed s t at d next reply w kept is (still_none form at d x w.1 there))
+
+  deed_so : (s t : S) (at : CallState T) (d : Deed T) (r : CallStep T) → AtWalk s at → did d s t → StateMakes Notes form None at (Some d) r → After s t r.action r.reply
+  deed_so s t at d r w (made, kept, same_party) n = deed_made s t at d r w (made (on_cell form at d r w.1 n)) (kept, same_party) n
 
   rest_so : (s t : S) (at : CallState T) (r : CallStep T) → AtWalk s at → t ≡ s → RestsAt at r.action r.reply → After s t r.action r.reply
   rest_so s t at r w e (inl (none, stands)) =

@@ -121,7 +121,7 @@ module _ {T : Type 0} where
     over_stands (Blocks a) o = absurd o
     over_stands Finished o = refl
 
-    on_cell : (at : CallState T) (d : Deed T) (r : CallStep T) → HasNoBlocks at → Next form at d r → IsOnCell d
+    pub on_cell : (at : CallState T) (d : Deed T) (r : CallStep T) → HasNoBlocks at → Next form at d r → IsOnCell d
     on_cell (Asked a) d r b n = absurd b
     on_cell (Single a) d r b (x, made, e) = words.single_on_cell a d x made
     on_cell (Ring a) d r b (x, made, e) = words.ring_on_cell (ring_cap form) (ring_mark (ring_cap form)) a d x made
@@ -143,7 +143,7 @@ module _ {T : Type 0} where
     abbrev WordsAlone : CallState T → Type 0
     WordsAlone at = (IsSoon at ⊎ IsLast at) ⊎ Rests form at
 
-    on_word : (at : CallState T) (d : Deed T) (r : CallStep T) → HasNoBlocks at → WordsAlone at → Next form at d r → IsOnWord d
+    pub on_word : (at : CallState T) (d : Deed T) (r : CallStep T) → HasNoBlocks at → WordsAlone at → Next form at d r → IsOnWord d
     on_word at d r b (inr rests) n = absurd (rests d r n)
     on_word (Asked a) d r b (inl w) n = absurd b
     on_word (Single a) d r b (inl (inl soon)) n = absurd soon
@@ -201,11 +201,12 @@ module _ {T : Type 0} where
         rests_after : (reply : Option (QueueReply T)) (next : QueueCall T) → Answers next.state reply → standing form next.state ≡ r.action → ((c : QueueCall T) × ((after_step s next reply).call ≡ Some c) × (standing form c.state ≡ r.action)) ⊎ Rests form r.action
         rests_after None next over on = inl (next, refl, on)
         rests_after (Some x) next over on = inr (over_rests form r.action (subst (λ (z : CallState T). IsOver z) (sym (over_stands next.state over) ∙ on) over))
-        -- ---- cells that go by a view
+
+-- ---- cells that go by a view. Of operations on other cells, which no such call makes, they ask nothing and say nothing
 
 module _ {T S : Type 0} (form_of : S → QueueForm) (of : S → Standing T) where
   abbrev pub MayMake : Deed T → S → Type 0
-  MayMake d s = IsOnCell d × Can (form_of s) (of s) d
+  MayMake d s = IsOnCell d → Can (form_of s) (of s) d
 
   abbrev pub Stands : CallState T → S → Type 0
   Stands at s = StandsAt (form_of s) (of s) at
@@ -215,29 +216,34 @@ module _ {T S : Type 0} (form_of : S → QueueForm) (of : S → Standing T) wher
       ⊎_elim (λ (u : (call : QueueCall T) × ((of s).call ≡ Some call) × (standing (form_of s) call.state ≡ at)). can_go (form_of s) at (of s) d r u.0 u.1 u.2 n) (λ (rests : Rests (form_of s) at). absurd (rests d r n)) st.1
 
   pub ready : MayGoOn Stands form_of MayMake
-  ready at s d r st n = (on_cell (form_of s) at d r st.0 n, may_go at s d r st n)
+  ready at s d r st n = λ _. may_go at s d r st n
 
   -- ---- of calls on words alone
 
   abbrev pub MayMakeOnWord : Deed T → S → Type 0
-  MayMakeOnWord d s = IsOnWord d × Can (form_of s) (of s) d
+  MayMakeOnWord d s = IsOnCell d → IsOnWord d × Can (form_of s) (of s) d
 
   abbrev pub StandsOnWords : CallState T → S → Type 0
   StandsOnWords at s = StandsAtWords (form_of s) (of s) at
 
   pub ready_on_words : MayGoOn StandsOnWords form_of MayMakeOnWord
-  ready_on_words at s d r st n = (on_word (form_of s) at d r st.0.0 st.1 n, may_go at s d r st.0 n)
+  ready_on_words at s d r st n = λ _. (on_word (form_of s) at d r st.0.0 st.1 n, may_go at s d r st.0 n)
 
   module _ (Same : S → S → Type 0) where
     -- the operation was made, by the same party on the same cells
     abbrev pub HasMade : Deed T → S → S → Type 0
-    HasMade d s t = moves (form_of s) (of s) (does (Some d)) (of t) × (form_of t ≡ form_of s) × Same s t
+    HasMade d s t = (IsOnCell d → moves (form_of s) (of s) (does (Some d)) (of t)) × (form_of t ≡ form_of s) × Same s t
+
+    leads_by : (at : CallState T) (s t : S) (d : Deed T) (r : CallStep T) → Stands at s → moves (form_of s) (of s) (does (Some d)) (of t) → form_of t ≡ form_of s → Next (form_of s) at d r → Stands r.action t
+    leads_by at s t d r st made same n =
+        subst (λ (f : QueueForm). StandsAt f (of t) r.action) (sym same)
+        (⊎_elim (λ (u : (call : QueueCall T) × ((of s).call ≡ Some call) × (standing (form_of s) call.state ≡ at)). led_on (form_of s) at (of s) (of t) d r u.0 st.0 u.1 u.2 made n) (λ (rests : Rests (form_of s) at). absurd (rests d r n)) st.1)
 
     pub leads : GoesOn Stands form_of HasMade
-    leads at s t d r st made n =
-        subst (λ (f : QueueForm). StandsAt f (of t) r.action) (sym made.1)
-        (⊎_elim (λ (u : (call : QueueCall T) × ((of s).call ≡ Some call) × (standing (form_of s) call.state ≡ at)). led_on (form_of s) at (of s) (of t) d r u.0 st.0 u.1 u.2 made.0 n) (λ (rests : Rests (form_of s) at). absurd (rests d r n)) st.1)
+    leads at s t d r st made n = leads_by at s t d r st (made.0 (on_cell (form_of s) at d r st.0 n)) made.1 n
 
     pub leads_on_words : GoesOn StandsOnWords form_of HasMade
-    leads_on_words at s t d r st made n =
-        (leads at s t d r st.0 made n, subst (λ (f : QueueForm). (IsSoon r.action ⊎ IsLast r.action) ⊎ Rests f r.action) (sym made.1) (words_on (form_of s) at d r st.0.0 st.1 n))
+    leads_on_words at s t d r st made n = (
+      leads_by at s t d r st.0 (made.0 (on_cell (form_of s) at d r st.0.0 n)) made.1 n,
+      subst (λ (f : QueueForm). (IsSoon r.action ⊎ IsLast r.action) ⊎ Rests f r.action) (sym made.1) (words_on (form_of s) at d r st.0.0 st.1 n),
+    )

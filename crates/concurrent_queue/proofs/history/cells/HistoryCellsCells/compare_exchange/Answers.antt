@@ -3,16 +3,16 @@ use Rattle.concurrent_queue.proofs.HistoryAnswers.{exchange_won, exchange_lost}
 use Rattle.concurrent_queue.proofs.history.cells.HistoryCellsCells.compare_exchange.Goals as goal
 
 pub compare_exchange-found-requires : goal.compare_exchange-found-requires
-compare_exchange-found-requires g c = record { next = λ n. (c.requires.may (answer n c.args.expected)).1 }
+compare_exchange-found-requires g c = record { next = λ n. c.requires.may (answer n c.args.expected) tt }
 
 pub returns-then-found-expected-clause-deed : goal.returns-then-found-expected-clause-deed
 returns-then-found-expected-clause-deed g c =
     let v = c.args.self.now.seat.seat.me.0 in
     let e = c.compare_exchange-found.ensures in
-    (exchange_won v.form v.state c.compare_exchange-found.new.self.seat.me.0.state c.args.at c.args.expected c.args.next c.compare_exchange-found.result c.if-found-expected.true e.made, e.same.2, (e.same.0, e.same.1, e.same.3))
+    (λ _. exchange_won v.form v.state c.compare_exchange-found.new.self.seat.me.0.state c.args.at c.args.expected c.args.next c.compare_exchange-found.result c.if-found-expected.true e.made, e.same.2, (e.same.0, e.same.1, e.same.3))
 
 pub returns-else-found-expected-clause-deed : goal.returns-else-found-expected-clause-deed
 returns-else-found-expected-clause-deed g c =
     let v = c.args.self.now.seat.seat.me.0 in
     let e = c.compare_exchange-found.ensures in
-    (exchange_lost v.form v.state c.compare_exchange-found.new.self.seat.me.0.state c.args.at c.args.expected c.args.next c.compare_exchange-found.result c.if-found-expected.false e.made, e.same.2, (e.same.0, e.same.1, e.same.3))
+    (λ _. exchange_lost v.form v.state c.compare_exchange-found.new.self.seat.me.0.state c.args.at c.args.expected c.args.next c.compare_exchange-found.result c.if-found-expected.false e.made, e.same.2, (e.same.0, e.same.1, e.same.3))

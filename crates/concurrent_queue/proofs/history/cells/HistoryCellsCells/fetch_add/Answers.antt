@@ -1,4 +1,4 @@
 use Rattle.concurrent_queue.proofs.history.cells.HistoryCellsCells.fetch_add.Goals as goal
 
 pub fetch_add-requires : goal.fetch_add-requires
-fetch_add-requires g c = record { next = λ n. (c.requires.may n).1 }
+fetch_add-requires g c = record { next = λ n. c.requires.may n tt }

@@ -1,4 +1,4 @@
 use Rattle.concurrent_queue.proofs.history.cells.HistoryCellsCells.load.Goals as goal
 
 pub load-requires : goal.load-requires
-load-requires g c = record { next = λ n. (c.requires.may n).1 }
+load-requires g c = record { next = λ n. c.requires.may n tt }
