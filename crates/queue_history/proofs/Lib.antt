@@ -1,6 +1,8 @@
-pub mod Histories
-pub mod Guarding
-pub mod Words
-pub mod Steps
-pub mod Opening
-pub mod Runs
+pub mod CallAccounts
+pub mod PartyAccounts
+pub mod AcceptedCount
+pub mod Accounted
+pub mod NothingElse
+pub mod Concluded
+pub mod AccountedRows
+pub mod Told

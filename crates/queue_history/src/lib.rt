@@ -1,9 +1,6 @@
-//! One history of a queue that threads share: a table of words and slots, under the rule that what it holds is what one history of
-//! operations made of it, in which each party does what its machine does.
+//! What clients of a queue with a bound conclude from the witnesses of their calls: which messages were accepted, which have left and which
+//! are held, whatever other threads do. The laws hold of every history of a queue.
 #![tactic(auto)]
 
-pub mod laws;
-pub mod party;
-pub mod rule;
-pub mod table;
-pub mod uses;
+pub mod accounts;
+pub mod conclusions;

@@ -1,5 +1,0 @@
-use Rattle.queue_history.proofs.Runs as runs
-use Rattle.queue_history.proofs.laws.histories_are_runs.Goals as goal
-
-pub returns : goal.returns
-returns g c = record { runs = runs.histories_are_runs _ c.merges_are_runs.ensures.runs }

@@ -1,7 +1,0 @@
-use Rattle.std.specs.Prelude.{Some, Err}
-use Rattle.concurrent_queue.specs.Bridge.{does}
-use Rattle.concurrent_queue.specs.Deeds.{did_put}
-use Rattle.queue_history.proofs.table.Place.try_put.Given as goal
-
-abbrev pub ghosts-happen : goal.ghosts-happen
-ghosts-happen g a = record { event = does (Some (did_put a._about.now a._and.now (Err a._and.now))) }

@@ -1,7 +1,0 @@
-use Rattle.std.specs.Prelude.{None, Some}
-use Rattle.concurrent_queue.specs.Bridge.{does}
-use Rattle.concurrent_queue.specs.Deeds.{did_take}
-use Rattle.queue_history.proofs.table.Place.try_take.Given as goal
-
-abbrev pub ghosts-happen : goal.ghosts-happen
-ghosts-happen g a = record { event = does (Some (did_take a._about.now None)) }

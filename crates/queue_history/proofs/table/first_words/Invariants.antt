@@ -1,6 +1,0 @@
-use Rattle.std.proofs.Common.{◌≡◌, ◌+◌, ◌++◌, replicate}
-use Rattle.concurrent_queue.specs.machine.RingMade.{numbers_below}
-use Rattle.queue_history.proofs.table.first_words.Given as goal
-
-abbrev pub invariant-loop-stamp : goal.invariant-loop-stamp
-invariant-loop-stamp l = l.words.items ≡ replicate (l.slots + 32) 0 ++ numbers_below l.stamp
