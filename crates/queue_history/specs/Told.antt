@@ -6,6 +6,8 @@ use Rattle.concurrent_queue.specs.declared.call.QueueReply.{QueueReply}
 use Rattle.concurrent_queue.specs.declared.cells.QueueForm.{QueueForm}
 use Rattle.concurrent_queue.specs.declared.history.party.Standing.{Standing}
 use Rattle.concurrent_queue.specs.declared.history.rule.View.{View}
+use Rattle.concurrent_queue.specs.Witnessed.{table_of, view_of, asked_in, replied_in}
+use Rattle.concurrent_queue.specs.declared.shared.witnessed.Witnessed.{Witnessed}
 use Rattle.concurrent_queue.specs.history.Runs.{IsRunWith}
 use Rattle.concurrent_queue.specs.history.Shared.{both_views}
 use Rattle.queue_history.specs.Concluded.{party, AllReplied, InOneHistory, HaveConcluded, ThreeHaveConcluded}
@@ -17,6 +19,14 @@ module _ {T : Type 0} where
   -- the party of this number, whose calls have ended: what they asked, and what they were answered
   abbrev pub ended_as : ℕ → List (QueueAsk T) → List (QueueReply T) → ℕ × Standing T
   ended_as p asked replies = (p, record { asked = asked; call = None; replies = replies })
+
+  -- two witnesses of one queue
+  abbrev pub IsOfSameQueue : Witnessed T → Witnessed T → Type 0
+  IsOfSameQueue a b = table_of b ≡ table_of a
+
+  -- a witness of no call yet, into which none was joined
+  abbrev pub IsNew : Witnessed T → Type 0
+  IsNew w = (asked_in w ≡ []) × (replied_in w ≡ []) × ((view_of w).over ≡ [])
 
   -- one view into which two were joined
   abbrev pub joined_three : View T (Standing T) → View T (Standing T) → View T (Standing T) → View T (Standing T)

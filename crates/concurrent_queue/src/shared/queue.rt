@@ -71,7 +71,8 @@ impl<T: Drop> ConcurrentQueue<T> {
 impl<T: Drop, W: Copy> ConcurrentQueue<T, W> {
     ghost use Rattle.std.specs.Prelude.{◌≡◌, ◌<◌, ◌≤◌, ◌^◌, IfOk, IfSome, Some, None, []};
     ghost use Rattle.concurrent_queue.specs.SharedQueue.{limit, watch_of};
-    ghost use Rattle.concurrent_queue.specs.Witnessed.{asked_in, replied_in, view_of};
+    ghost use Rattle.concurrent_queue.specs.Memory.{table_in};
+    ghost use Rattle.concurrent_queue.specs.Witnessed.{asked_in, replied_in, table_of, view_of};
 
     /// A bounded queue, as `bounded`, whose calls show this trace what they do. Each takes a copy of it, so calls of many
     /// threads are seen where a copy leads to what they share. `Err` as there. Own to this project.
@@ -130,6 +131,7 @@ impl<T: Drop, W: Copy> ConcurrentQueue<T, W> {
         ensures asked { IfSome result (λ w. asked_in w ≡ []) }
         ensures replied { IfSome result (λ w. replied_in w ≡ []) }
         ensures alone { IfSome result (λ w. (view_of w).over ≡ []) }
+        ensures same { IfSome result (λ w. table_of w ≡ table_in self.now.memory) }
     {
         match &self.memory {
             Memory::Ruled(table) => Some(Witnessed::new(table)),

@@ -59,13 +59,15 @@ fn make<T: Drop, R: Wait>(
 }
 
 impl<'a, T: Drop> Witnessed<'a, T> {
-    ghost use Rattle.concurrent_queue.specs.Witnessed.{HasCalled, view_of, asked_in, replied_in};
+    ghost use Rattle.std.specs.Prelude.{Some};
+    ghost use Rattle.concurrent_queue.specs.Witnessed.{HasCalled, view_of, asked_in, replied_in, table_of};
 
     /// A witness of a party that has made no call yet.
     pub(crate) fn new(table: &'a QueueTable<T>) -> Witnessed<'a, T>
         ensures asked { asked_in result ≡ [] }
         ensures replied { replied_in result ≡ [] }
         ensures alone { (view_of result).over ≡ [] }
+        ensures same { table_of result ≡ Some table.now.table.table.shared.table_id }
     {
         let witness = table.table.witness();
         Witnessed { table, witness }
@@ -137,8 +139,9 @@ impl<'a, T: Drop> Witnessed<'a, T> {
 
     /// Takes in another witness of this queue, so that one look tells of both in one history. It costs a load.
     pub fn join(&mut self, other: Witnessed<'a, T>)
-        requires same { other.witness.seat.table_id ≡ self.old.witness.seat.table_id }
+        requires same { table_of other ≡ table_of self.old }
         ensures joined { view_of self.new ≡ both_views (view_of self.old) (view_of other.entry) }
+        ensures kept { table_of self.new ≡ table_of self.old }
     {
         let Witnessed { table: _, witness } = other;
         self.table.table.join(&mut self.witness, witness);
@@ -149,7 +152,7 @@ impl<'a, T: Drop> Witnessed<'a, T> {
     /// told: a call was stepped from outside. It costs a load.
     pub fn look(&mut self) -> bool
         ensures run { result ≡ true → IsRunWith (view_of self.old) }
-        ensures kept { view_of self.new ≡ view_of self.old }
+        ensures kept { (view_of self.new ≡ view_of self.old) × (table_of self.new ≡ table_of self.old) }
     {
         self.table.table.run_so_far(&mut self.witness)
     }
