@@ -16,6 +16,7 @@ mod logged;
 mod neighbours;
 mod standing;
 mod watched;
+mod witnesses;
 
 /// How many messages all threads push.
 const TOTAL: u64 = 10_000;
