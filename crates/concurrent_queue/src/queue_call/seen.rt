@@ -146,3 +146,35 @@ pub(crate) fn complete_question<T: Drop, C: Cells<T>, S: Trace<T>>(
     let (cells, trace) = seen.into_parts();
     (reply, cells, trace)
 }
+
+/// A push up to its answer, over cells that are given back.
+#[inline(always)]
+pub(crate) fn push<T: Drop, R: Wait, C: Cells<T>, S: Trace<T>>(
+    rt: &R,
+    value: T,
+    seen: Seen<C, S>,
+) -> (Result<(), PushError<T>>, C, S)
+    requires stands { C.stands (first_of (C.form_of seen.cells) (ask.Push value)) seen.cells }
+    ensures cells { WalkedAsking C.did (C.form_of seen.cells) (ask.Push value) seen.cells (reply.Push result.0) (result.1) }
+    ensures walked { WalkedAsking S.did (C.form_of seen.cells) (ask.Push value) seen.trace (reply.Push result.0) (result.2) }
+    ensures answers { MayAnswer (C.form_of seen.cells) (ask.Push value) (reply.Push result.0) }
+{
+    let (answer, seen) = whole::push(rt, value, seen);
+    let (cells, trace) = seen.into_parts();
+    (answer, cells, trace)
+}
+
+/// A pop up to its answer, over cells that are given back.
+#[inline(always)]
+pub(crate) fn pop<T: Drop, R: Wait, C: Cells<T>, S: Trace<T>>(
+    rt: &R,
+    seen: Seen<C, S>,
+) -> (Result<T, PopError>, C, S)
+    requires stands { C.stands (first_of (C.form_of seen.cells) ask.Pop) seen.cells }
+    ensures cells { WalkedAsking C.did (C.form_of seen.cells) ask.Pop seen.cells (reply.Pop result.0) (result.1) }
+    ensures walked { WalkedAsking S.did (C.form_of seen.cells) ask.Pop seen.trace (reply.Pop result.0) (result.2) }
+{
+    let (answer, seen) = whole::pop(rt, seen);
+    let (cells, trace) = seen.into_parts();
+    (answer, cells, trace)
+}

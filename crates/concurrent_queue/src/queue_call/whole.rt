@@ -3,11 +3,14 @@
 
 ghost use Rattle.concurrent_queue.specs.Walked.{CallMakes, Walked, WalkedAsking, first_of, standing};
 ghost use Rattle.concurrent_queue.specs.Replies.{AsksWords, Follows, MayAnswer, MayCall};
+ghost use Rattle.concurrent_queue.specs.declared.call.QueueAsk.TheVariants as ask;
+ghost use Rattle.concurrent_queue.specs.declared.call.QueueReply.TheVariants as reply;
 
 use crate::call::{QueueAsk, QueueReply};
 use crate::cells::Cells;
+use crate::error::{PopError, PushError};
 use crate::queue_call::QueueCall;
-use crate::queue_call::fast_path::call_fast;
+use crate::queue_call::fast_path::{call_fast, pop_fast, push_fast};
 use std::sync::Wait;
 
 /// Makes the steps of a call up to its answer, and nothing else. A push or a pop that has made no step is made at once where
@@ -27,6 +30,66 @@ pub fn complete<T: Drop, R: Wait, C: Cells<T>>(
         Ok(reply) => reply,
         Err(rest) => finish(rt, rest, cells),
     }
+}
+
+/// A push up to its answer. Its cells are lent to no function that stands apart, so they need no place in memory.
+#[inline(always)]
+pub(crate) fn push<T: Drop, R: Wait, C: Cells<T>>(
+    rt: &R,
+    value: T,
+    cells: C,
+) -> (Result<(), PushError<T>>, C)
+    requires stands { C.stands (first_of (C.form_of cells) (ask.Push value)) cells }
+    ensures walked { WalkedAsking C.did (C.form_of cells) (ask.Push value) cells (reply.Push result.0) (result.1) }
+    ensures answers { MayAnswer (C.form_of cells) (ask.Push value) (reply.Push result.0) }
+{
+    let mut cells = cells;
+    match push_fast(value, &mut cells) {
+        Ok(answer) => (answer, cells),
+        Err(rest) => {
+            let (reply, cells) = finish_apart(rt, rest, cells);
+            match reply {
+                QueueReply::Push(answer) => (answer, cells),
+                _ => unreachable!(),
+            }
+        }
+    }
+}
+
+/// A pop up to its answer, likewise.
+#[inline(always)]
+pub(crate) fn pop<T: Drop, R: Wait, C: Cells<T>>(rt: &R, cells: C) -> (Result<T, PopError>, C)
+    requires stands { C.stands (first_of (C.form_of cells) ask.Pop) cells }
+    ensures walked { WalkedAsking C.did (C.form_of cells) ask.Pop cells (reply.Pop result.0) (result.1) }
+{
+    let mut cells = cells;
+    match pop_fast(&mut cells) {
+        Ok(answer) => (answer, cells),
+        Err(rest) => {
+            let (reply, cells) = finish_apart(rt, rest, cells);
+            match reply {
+                QueueReply::Pop(answer) => (answer, cells),
+                _ => unreachable!(),
+            }
+        }
+    }
+}
+
+/// What straight code hands on, apart from it, so that it has no room to make for this.
+#[cold]
+#[inline(never)]
+fn finish_apart<T: Drop, R: Wait, C: Cells<T>>(
+    rt: &R,
+    call: QueueCall<T>,
+    cells: C,
+) -> (QueueReply<T>, C)
+    requires stands { C.stands (standing (C.form_of cells) call.state) cells }
+    ensures walked { Walked C.did (C.form_of cells) call cells (result.0) (result.1) }
+    ensures answers { MayCall (C.form_of cells) call.state (result.0) }
+{
+    let mut cells = cells;
+    let reply = finish(rt, call, &mut cells);
+    (reply, cells)
 }
 
 /// Makes the steps of a call that waits for nobody up to its answer, and nothing else: its second step answers at the latest.

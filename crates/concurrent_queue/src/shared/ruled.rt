@@ -115,11 +115,11 @@ pub(crate) fn push<T: Drop, R: Wait, S: Trace<T>>(
     ensures walked { WalkedAsking S.did (form_of table.now) (ask.Push value) trace (reply.Push (result.0)) (result.1) }
     ensures answers { MayAnswer (form_of table.now) (ask.Push value) (reply.Push (result.0)) }
 {
-    let (reply, trace) = make(table, rt, QueueAsk::Push(value), trace);
-    match reply {
-        QueueReply::Push(answer) => (answer, trace),
-        _ => unreachable!(),
-    }
+    let seat = table.table.begin::<Brand, T>(&value);
+    let (answer, cells, trace) = seen::push(rt, value, see_call(HistoryCells { seat, rt }, trace));
+    let HistoryCells { seat, rt: _ } = cells;
+    let _witness = seat.end();
+    (answer, trace)
 }
 
 /// A pop.
@@ -131,11 +131,11 @@ pub(crate) fn pop<T: Drop, R: Wait, S: Trace<T>>(
 ) -> (Result<T, PopError>, S)
     ensures walked { WalkedAsking S.did (form_of table.now) ask.Pop trace (reply.Pop (result.0)) (result.1) }
 {
-    let (reply, trace) = make(table, rt, QueueAsk::Pop, trace);
-    match reply {
-        QueueReply::Pop(answer) => (answer, trace),
-        _ => unreachable!(),
-    }
+    let seat = table.table.begin::<Brand, ()>(&());
+    let (answer, cells, trace) = seen::pop(rt, see_call(HistoryCells { seat, rt }, trace));
+    let HistoryCells { seat, rt: _ } = cells;
+    let _witness = seat.end();
+    (answer, trace)
 }
 
 /// The question how many messages the queue can hold. It touches no cell.

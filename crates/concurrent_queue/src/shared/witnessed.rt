@@ -13,8 +13,7 @@ use crate::call::{QueueAsk, QueueReply};
 use crate::error::{ForcePushError, PopError, PushError};
 use crate::history::cells::HistoryCells;
 use crate::history::witness::Witness;
-use crate::queue_call::QueueCall;
-use crate::queue_call::whole::complete;
+use crate::queue_call::{QueueCall, whole};
 use crate::shared::ruled::QueueTable;
 use std::marker::Brand;
 use std::sync::Wait;
@@ -53,7 +52,7 @@ fn make<T: Drop, R: Wait>(
 {
     let seat = table.table.begin_again::<Brand, QueueAsk<T>>(witness, &ask);
     let mut cells = HistoryCells { seat, rt };
-    let reply = complete(rt, QueueCall::new(ask), &mut cells);
+    let reply = whole::complete(rt, QueueCall::new(ask), &mut cells);
     let HistoryCells { seat, rt: _ } = cells;
     (reply, seat.end())
 }
@@ -78,11 +77,11 @@ impl<'a, T: Drop> Witnessed<'a, T> {
         ensures called { HasCalled self.entry (ask.Push value) (reply.Push result.0) result.1 }
     {
         let Witnessed { table, witness } = self;
-        let (reply, witness) = make(table, rt, witness, QueueAsk::Push(value));
-        match reply {
-            QueueReply::Push(answer) => (answer, Witnessed { table, witness }),
-            _ => unreachable!(),
-        }
+        let seat = table.table.begin_again::<Brand, T>(witness, &value);
+        let (answer, cells) = whole::push(rt, value, HistoryCells { seat, rt });
+        let HistoryCells { seat, rt: _ } = cells;
+        let witness = seat.end();
+        (answer, Witnessed { table, witness })
     }
 
     /// Appends the message, in the place of the oldest one where the queue is full, as `force_push` of the queue does.
@@ -106,11 +105,11 @@ impl<'a, T: Drop> Witnessed<'a, T> {
         ensures called { HasCalled self.entry ask.Pop (reply.Pop result.0) result.1 }
     {
         let Witnessed { table, witness } = self;
-        let (reply, witness) = make(table, rt, witness, QueueAsk::Pop);
-        match reply {
-            QueueReply::Pop(answer) => (answer, Witnessed { table, witness }),
-            _ => unreachable!(),
-        }
+        let seat = table.table.begin_again::<Brand, ()>(witness, &());
+        let (answer, cells) = whole::pop(rt, HistoryCells { seat, rt });
+        let HistoryCells { seat, rt: _ } = cells;
+        let witness = seat.end();
+        (answer, Witnessed { table, witness })
     }
 
     /// Closes the queue, as `close` of the queue does.
