@@ -25,7 +25,8 @@ use Rattle.concurrent_queue.specs.declared.queue_call.CallState.TheVariants.{Ask
 use Rattle.concurrent_queue.specs.declared.queue_call.QueueCall.{QueueCall}
 use Rattle.concurrent_queue.specs.declared.single.SingleAction.{SingleAction}
 use Rattle.concurrent_queue.specs.declared.single.SingleAction.TheVariants as single
-use Rattle.concurrent_queue.specs.history.Calls.{on_cell, HasNoBlocks, AsksCells, HasMade, still_none}
+use Rattle.concurrent_queue.specs.history.Calls.{on_cell, HasNoBlocks, AsksCells, HasMade, refused_stays, still_none}
+use Rattle.concurrent_queue.specs.history.OnCells.{IsRefused}
 use Rattle.concurrent_queue.specs.history.Runs.{moves, begun, after_step}
 use Rattle.concurrent_queue.specs.declared.history.cells.HistoryCells.{HistoryCells}
 use Rattle.concurrent_queue.specs.declared.history.party.Standing.{Standing}
@@ -212,8 +213,20 @@ module _ {T S : Type 0} (form_of : S → QueueForm) (of : S → Standing T) (Sam
       subst (λ (z : CallStep T). After s t z.action z.reply) one
       (by_deed s t at d next reply w kept is (still_none form at d x w.1 there))
 
+  refused_so : (s t : S) (at : CallState T) (d : Deed T) (r : CallStep T) → AtWalk s at → IsRefused d × (of t ≡ of s) → (form_of t ≡ form_of s) × Same s t → StateMakes Notes form None at (Some d) r → After s t r.action r.reply
+  refused_so s t at d r w (turned, is) kept n =
+      let stays : (r.action ≡ at) × (r.reply ≡ None) = refused_stays form at d r w.1 turned n in
+      subst (λ (o : Option (QueueReply T)). After s t r.action o) (sym stays.1)
+      (subst (λ (z : CallState T). After s t z None) (sym stays.0) (
+        (kept.0, kept.1, ap (λ (z : Standing T). z.asked) is, ap (λ (z : Standing T). z.replies) is),
+        subst (λ (z : CallState T). AtWalk t z) (sym (settled at w.1)) (kept.0 ∙ w.0, w.1, (w.2.0, ap (λ (z : Standing T). z.call) is ∙ w.2.1, w.2.2)),
+      ))
+
   deed_so : (s t : S) (at : CallState T) (d : Deed T) (r : CallStep T) → AtWalk s at → did d s t → StateMakes Notes form None at (Some d) r → After s t r.action r.reply
-  deed_so s t at d r w (made, kept, same_party) n = deed_made s t at d r w (made (on_cell form at d r w.1 n)) (kept, same_party) n
+  deed_so s t at d r w (made, kept, same_party) n = ⊎_elim
+      (λ (moved : moves (form_of s) (of s) (does (Some d)) (of t)). deed_made s t at d r w moved (kept, same_party) n)
+      (λ (refused : IsRefused d × (of t ≡ of s)). refused_so s t at d r w refused (kept, same_party) n)
+      (made (on_cell form at d r w.1 n))
 
   rest_so : (s t : S) (at : CallState T) (r : CallStep T) → AtWalk s at → t ≡ s → RestsAt at r.action r.reply → After s t r.action r.reply
   rest_so s t at r w e (inl (none, stands)) =
@@ -287,11 +300,11 @@ module _ {T S : Type 0} (form_of : S → QueueForm) (of : S → Standing T) (Sam
       (walked_ends form_of of Same stays joins form call s t r f few under (subst (λ (q : QueueForm). Walked (HasMade form_of of Same) q call s r t) f walked))
 
 -- the same over the cells of a call's seat; its view keeps the parties that were joined in
-abbrev pub SameParty : {T R : Type 0} → HistoryCells T R → HistoryCells T R → Type 0
+abbrev pub SameParty : {T : Type 0} → HistoryCells T → HistoryCells T → Type 0
 SameParty s t = (t.seat.seat.table_id ≡ s.seat.seat.table_id) × (t.seat.seat.me.0.who ≡ s.seat.seat.me.0.who) × (t.seat.seat.me.0.over ≡ s.seat.seat.me.0.over)
 
-pub cells_call_ends : {T R : Type 0} (most : ℕ) (a : QueueAsk T) → AsksCells a → (call : QueueCall T) → call.state ≡ Asked a → (p : Standing T) (s t : HistoryCells T R) (r : QueueReply T) → s.seat.seat.me.0.form ≡ Bounded most → s.seat.seat.me.0.state ≡ begun a p
-    → Walked (HasMade (λ (x : HistoryCells T R). x.seat.seat.me.0.form) (λ x. x.seat.seat.me.0.state) SameParty) s.seat.seat.me.0.form call s r t → MayCall s.seat.seat.me.0.form call.state r
+pub cells_call_ends : {T : Type 0} (most : ℕ) (a : QueueAsk T) → AsksCells a → (call : QueueCall T) → call.state ≡ Asked a → (p : Standing T) (s t : HistoryCells T) (r : QueueReply T) → s.seat.seat.me.0.form ≡ Bounded most → s.seat.seat.me.0.state ≡ begun a p
+    → Walked (HasMade (λ (x : HistoryCells T). x.seat.seat.me.0.form) (λ x. x.seat.seat.me.0.state) SameParty) s.seat.seat.me.0.form call s r t → MayCall s.seat.seat.me.0.form call.state r
     → (t.seat.seat.me.0.form ≡ s.seat.seat.me.0.form) × SameParty s t × (t.seat.seat.me.0.state.call ≡ None) × (t.seat.seat.me.0.state.asked ≡ p.asked ++ a ∷ []) × (t.seat.seat.me.0.state.replies ≡ p.replies ++ r ∷ [])
-cells_call_ends {T} {R} most a =
-    call_ends (λ (x : HistoryCells T R). x.seat.seat.me.0.form) (λ x. x.seat.seat.me.0.state) SameParty (λ s. (refl, refl, refl)) (λ s t u p q. (q.0 ∙ p.0, q.1 ∙ p.1, q.2 ∙ p.2)) most a
+cells_call_ends {T} most a =
+    call_ends (λ (x : HistoryCells T). x.seat.seat.me.0.form) (λ x. x.seat.seat.me.0.state) SameParty (λ s. (refl, refl, refl)) (λ s t u p q. (q.0 ∙ p.0, q.1 ∙ p.1, q.2 ∙ p.2)) most a

@@ -6,7 +6,7 @@ ghost use Rattle.concurrent_queue.specs.Shown.{Sees};
 
 use crate::cells::{Cells, QueueForm, Slot, Word};
 use crate::error::NoMemory;
-use crate::history::cells::{HistoryCells, HistoryWords};
+use crate::history::cells::HistoryCells;
 use crate::history::foreign::ForeignCells;
 use crate::shared::cells::{SharedCells, WordCells};
 use std::marker::PhantomData;
@@ -172,26 +172,7 @@ pub(crate) fn see_cells<'a, T: Drop, R: Wait, S>(
 
 /// The cells of a call of a queue with a bound, seen by this trace.
 #[inline(always)]
-pub(crate) fn see_call<'a, T: Drop, R: Wait, S>(
-    cells: HistoryCells<'a, T, R>,
-    trace: S,
-) -> Seen<HistoryCells<'a, T, R>, S>
-    ensures cells { result.cells ≡ cells.entry }
-    ensures trace { result.trace ≡ trace }
-{
-    Seen {
-        cells,
-        trace,
-        sight: Sight { of: PhantomData },
-    }
-}
-
-/// The same of a call that waits for nobody.
-#[inline(always)]
-pub(crate) fn see_question<T: Drop, S>(
-    cells: HistoryWords<'_, T>,
-    trace: S,
-) -> Seen<HistoryWords<'_, T>, S>
+pub(crate) fn see_call<T: Drop, S>(cells: HistoryCells<'_, T>, trace: S) -> Seen<HistoryCells<'_, T>, S>
     ensures cells { result.cells ≡ cells.entry }
     ensures trace { result.trace ≡ trace }
 {

@@ -4,7 +4,6 @@ use Rattle.std.specs.Prelude.{◌≡◌, ◌⊎◌, ℕ, ◌==◌, Bool, true, f
 use Rattle.std.proofs.Common.{inl, inr, sym, ap, ◌∙◌, subst, ⊎_elim}
 use Rattle.concurrent_queue.specs.Bridge.{does}
 use Rattle.concurrent_queue.specs.Deeds.{Deed, Notes}
-use Rattle.concurrent_queue.specs.Replies.{IsSoon, IsLast}
 use Rattle.concurrent_queue.specs.Stands.{Next, MayGoOn, GoesOn}
 use Rattle.concurrent_queue.specs.Tracked as tracked
 use Rattle.concurrent_queue.specs.Walked.{first_of, standing, MakesBounded, MakesFirst, StateMakes}
@@ -24,8 +23,8 @@ use Rattle.concurrent_queue.specs.declared.queue_call.QueueCall.{QueueCall}
 use Rattle.concurrent_queue.specs.declared.single.SingleAction.TheVariants as single
 use Rattle.concurrent_queue.specs.history.Ends.{SingleEnds, RingEnds, single_ends, ring_ends}
 use Rattle.concurrent_queue.specs.history.Runs.{moves, after_step}
-use Rattle.concurrent_queue.specs.history.WordsAlone as words
-use Rattle.concurrent_queue.specs.history.WordsAlone.{IsOnCell, IsOnWord}
+use Rattle.concurrent_queue.specs.history.OnCells as cells
+use Rattle.concurrent_queue.specs.history.OnCells.{IsOnCell, IsRefused}
 use Rattle.concurrent_queue.specs.declared.history.party.Standing.{Standing}
 
 -- a party with a call under way
@@ -53,10 +52,6 @@ module _ {T : Type 0} where
   -- the party's call is under way at this action, or no operation is made from there, as where the call is over
   abbrev pub StandsAt : QueueForm → Standing T → CallState T → Type 0
   StandsAt form s at = HasNoBlocks at × (((call : QueueCall T) × (s.call ≡ Some call) × (standing form call.state ≡ at)) ⊎ Rests form at)
-
-  -- and it is one whose operations are on words alone
-  abbrev pub StandsAtWords : QueueForm → Standing T → CallState T → Type 0
-  StandsAtWords form s at = StandsAt form s at × ((IsSoon at ⊎ IsLast at) ⊎ Rests form at)
 
   -- this operation with this answer is the party's next
   abbrev pub Can : QueueForm → Standing T → Deed T → Type 0
@@ -123,8 +118,8 @@ module _ {T : Type 0} where
 
     pub on_cell : (at : CallState T) (d : Deed T) (r : CallStep T) → HasNoBlocks at → Next form at d r → IsOnCell d
     on_cell (Asked a) d r b n = absurd b
-    on_cell (Single a) d r b (x, made, e) = words.single_on_cell a d x made
-    on_cell (Ring a) d r b (x, made, e) = words.ring_on_cell (ring_cap form) (ring_mark (ring_cap form)) a d x made
+    on_cell (Single a) d r b (x, made, e) = cells.single_on_cell a d x made
+    on_cell (Ring a) d r b (x, made, e) = cells.ring_on_cell (ring_cap form) (ring_mark (ring_cap form)) a d x made
     on_cell (Blocks a) d r b n = absurd b
     on_cell Finished d r b n = absurd (no_deed d n.0)
 
@@ -138,36 +133,17 @@ module _ {T : Type 0} where
     still_none (Blocks a) d r b n = absurd b
     still_none Finished d r b n = absurd (no_deed d n.0)
 
-    -- ---- its operations are on words
+    -- ---- a slot refused its operation, so the call stands where it stood
 
-    abbrev WordsAlone : CallState T → Type 0
-    WordsAlone at = (IsSoon at ⊎ IsLast at) ⊎ Rests form at
+    stays_so : (at : CallState T) (r x : CallStep T) → r ≡ x → x.action ≡ at → x.reply ≡ None → (r.action ≡ at) × (r.reply ≡ None)
+    stays_so at r x e a n = (ap (λ (z : CallStep T). z.action) e ∙ a, ap (λ (z : CallStep T). z.reply) e ∙ n)
 
-    pub on_word : (at : CallState T) (d : Deed T) (r : CallStep T) → HasNoBlocks at → WordsAlone at → Next form at d r → IsOnWord d
-    on_word at d r b (inr rests) n = absurd (rests d r n)
-    on_word (Asked a) d r b (inl w) n = absurd b
-    on_word (Single a) d r b (inl (inl soon)) n = absurd soon
-    on_word (Single a) d r b (inl (inr last)) (x, made, e) = words.single_on_word a last d x made
-    on_word (Ring a) d r b (inl (inl soon)) (x, made, e) = (words.ring_nears (ring_cap form) (ring_mark (ring_cap form)) a soon d x made).0
-    on_word (Ring a) d r b (inl (inr last)) (x, made, e) = words.ring_last_on_word (ring_cap form) (ring_mark (ring_cap form)) a last d x made
-    on_word (Blocks a) d r b (inl w) n = absurd b
-    on_word Finished d r b (inl w) n = absurd (no_deed d n.0)
-
-    over_so : (r x : CallStep T) → r ≡ x → IsOver x.action → WordsAlone r.action
-    over_so r x e h = inr (over_rests form r.action (subst (λ (z : CallStep T). IsOver z.action) (sym e) h))
-
-    last_so : (r x : CallStep T) → r ≡ x → IsLast x.action → WordsAlone r.action
-    last_so r x e h = inl (inr (subst (λ (z : CallStep T). IsLast z.action) (sym e) h))
-
-    words_on : (at : CallState T) (d : Deed T) (r : CallStep T) → HasNoBlocks at → WordsAlone at → Next form at d r → WordsAlone r.action
-    words_on at d r b (inr rests) n = absurd (rests d r n)
-    words_on (Asked a) d r b (inl w) n = absurd b
-    words_on (Single a) d r b (inl (inl soon)) n = absurd soon
-    words_on (Single a) d r b (inl (inr last)) (x, made, e) = over_so r (in_single x) e (words.single_over a last (Some d) x made)
-    words_on (Ring a) d r b (inl (inl soon)) (x, made, e) = last_so r (in_ring x) e ((words.ring_nears (ring_cap form) (ring_mark (ring_cap form)) a soon d x made).1)
-    words_on (Ring a) d r b (inl (inr last)) (x, made, e) = over_so r (in_ring x) e (words.ring_over (ring_cap form) (ring_mark (ring_cap form)) a last (Some d) x made)
-    words_on (Blocks a) d r b (inl w) n = absurd b
-    words_on Finished d r b (inl w) n = absurd (no_deed d n.0)
+    pub refused_stays : (at : CallState T) (d : Deed T) (r : CallStep T) → HasNoBlocks at → IsRefused d → Next form at d r → (r.action ≡ at) × (r.reply ≡ None)
+    refused_stays (Asked a) d r b turned n = absurd b
+    refused_stays (Single a) d r b turned (x, made, e) = stays_so (Single a) r _ (e ∙ ap in_single (cells.single_refused a d turned x made)) refl refl
+    refused_stays (Ring a) d r b turned (x, made, e) = stays_so (Ring a) r _ (e ∙ ap in_ring (cells.ring_refused (ring_cap form) (ring_mark (ring_cap form)) a d turned x made)) refl refl
+    refused_stays (Blocks a) d r b turned n = absurd b
+    refused_stays Finished d r b turned n = absurd (no_deed d n.0)
 
     -- ---- a call under way
 
@@ -218,32 +194,24 @@ module _ {T S : Type 0} (form_of : S → QueueForm) (of : S → Standing T) wher
   pub ready : MayGoOn Stands form_of MayMake
   ready at s d r st n = λ _. may_go at s d r st n
 
-  -- ---- of calls on words alone
-
-  abbrev pub MayMakeOnWord : Deed T → S → Type 0
-  MayMakeOnWord d s = IsOnCell d → IsOnWord d × Can (form_of s) (of s) d
-
-  abbrev pub StandsOnWords : CallState T → S → Type 0
-  StandsOnWords at s = StandsAtWords (form_of s) (of s) at
-
-  pub ready_on_words : MayGoOn StandsOnWords form_of MayMakeOnWord
-  ready_on_words at s d r st n = λ _. (on_word (form_of s) at d r st.0.0 st.1 n, may_go at s d r st.0 n)
-
   module _ (Same : S → S → Type 0) where
-    -- the operation was made, by the same party on the same cells
+    -- the operation was made, or a slot refused it and it is no event, by the same party on the same cells
     abbrev pub HasMade : Deed T → S → S → Type 0
-    HasMade d s t = (IsOnCell d → moves (form_of s) (of s) (does (Some d)) (of t)) × (form_of t ≡ form_of s) × Same s t
+    HasMade d s t = (IsOnCell d → moves (form_of s) (of s) (does (Some d)) (of t) ⊎ (IsRefused d × (of t ≡ of s))) × (form_of t ≡ form_of s) × Same s t
 
     leads_by : (at : CallState T) (s t : S) (d : Deed T) (r : CallStep T) → Stands at s → moves (form_of s) (of s) (does (Some d)) (of t) → form_of t ≡ form_of s → Next (form_of s) at d r → Stands r.action t
     leads_by at s t d r st made same n =
         subst (λ (f : QueueForm). StandsAt f (of t) r.action) (sym same)
         (⊎_elim (λ (u : (call : QueueCall T) × ((of s).call ≡ Some call) × (standing (form_of s) call.state ≡ at)). led_on (form_of s) at (of s) (of t) d r u.0 st.0 u.1 u.2 made n) (λ (rests : Rests (form_of s) at). absurd (rests d r n)) st.1)
 
-    pub leads : GoesOn Stands form_of HasMade
-    leads at s t d r st made n = leads_by at s t d r st (made.0 (on_cell (form_of s) at d r st.0 n)) made.1 n
+    stays_by : (at : CallState T) (s t : S) (d : Deed T) (r : CallStep T) → Stands at s → IsRefused d × (of t ≡ of s) → form_of t ≡ form_of s → Next (form_of s) at d r → Stands r.action t
+    stays_by at s t d r st (turned, kept) same n =
+        subst (λ (f : QueueForm). StandsAt f (of t) r.action) (sym same)
+        (subst (λ (z : Standing T). StandsAt (form_of s) z r.action) (sym kept)
+        (subst (λ (a : CallState T). StandsAt (form_of s) (of s) a) (sym (refused_stays (form_of s) at d r st.0 turned n).0) st))
 
-    pub leads_on_words : GoesOn StandsOnWords form_of HasMade
-    leads_on_words at s t d r st made n = (
-      leads_by at s t d r st.0 (made.0 (on_cell (form_of s) at d r st.0.0 n)) made.1 n,
-      subst (λ (f : QueueForm). (IsSoon r.action ⊎ IsLast r.action) ⊎ Rests f r.action) (sym made.1) (words_on (form_of s) at d r st.0.0 st.1 n),
-    )
+    pub leads : GoesOn Stands form_of HasMade
+    leads at s t d r st made n = ⊎_elim
+        (λ (moved : moves (form_of s) (of s) (does (Some d)) (of t)). leads_by at s t d r st moved made.1 n)
+        (λ (refused : IsRefused d × (of t ≡ of s)). stays_by at s t d r st refused made.1 n)
+        (made.0 (on_cell (form_of s) at d r st.0 n))

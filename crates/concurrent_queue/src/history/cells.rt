@@ -7,15 +7,15 @@ use crate::cells::{Cells, Slot, Word};
 use crate::history::party::{OfQueue, Standing};
 use crate::history::table::CallSeat;
 use crate::{NoMemory, QueueForm};
-use std::sync::Wait;
 
-/// The cells of a call under way. A slot that another call has is tried again, under the runtime. It has no drop.
-pub struct HistoryCells<'a, T, R: Wait> {
+/// The cells of a call under way. An operation on a slot that another call has is refused and is no event, and its call makes it again. The
+/// law `histories_touch_their_own` says that none is refused so while there are fewer events than positions, which the rule doesn't count.
+/// It has no drop.
+pub struct HistoryCells<'a, T> {
     pub(crate) seat: CallSeat<'a, T, Standing<T>, OfQueue>,
-    pub(crate) rt: &'a R,
 }
 
-impl<'a, T: Drop, R: Wait> Cells<T> for HistoryCells<'a, T, R> {
+impl<'a, T: Drop> Cells<T> for HistoryCells<'a, T> {
     ghost use Rattle.std.specs.Prelude.{◌≡◌};
     ghost use Rattle.concurrent_queue.specs.Contents.{no_contents};
     ghost use Rattle.concurrent_queue.specs.history.Calls.{MayMake, HasMade, Stands, ready, leads};
@@ -84,122 +84,18 @@ impl<'a, T: Drop, R: Wait> Cells<T> for HistoryCells<'a, T, R> {
 
     #[inline(always)]
     fn put(&mut self, at: Slot, value: T) -> Result<(), T> {
-        let rt = self.rt;
-        let mut value = value;
-        for _ in rt.forever() {
-            match self.seat.try_put(at, value) {
-                Ok(()) => return Ok(()),
-                Err((back, full)) => {
-                    if full {
-                        return Err(back);
-                    }
-                    value = back;
-                }
-            }
+        match self.seat.try_put(at, value) {
+            Ok(()) => Ok(()),
+            Err((back, _)) => Err(back),
         }
-        unreachable!()
     }
 
     #[inline(always)]
     fn take(&mut self, at: Slot) -> Option<T> {
-        let rt = self.rt;
-        for _ in rt.forever() {
-            if let Some(found) = self.seat.try_take(at) {
-                return found;
-            }
+        match self.seat.try_take(at) {
+            Some(found) => found,
+            None => None,
         }
-        unreachable!()
-    }
-
-    /// Of a queue with a bound no call asks for a block.
-    fn spare(&mut self) -> Result<u64, NoMemory> {
-        Err(NoMemory)
-    }
-
-    /// Nor does one give a block back.
-    fn retire(&mut self, _block: u64) {}
-}
-
-/// The same for closing and for the questions but the length. Their operations are on words alone, so they wait for nobody. It has no drop.
-pub struct HistoryWords<'a, T> {
-    pub(crate) seat: CallSeat<'a, T, Standing<T>, OfQueue>,
-}
-
-impl<'a, T: Drop> Cells<T> for HistoryWords<'a, T> {
-    ghost use Rattle.std.specs.Prelude.{◌≡◌};
-    ghost use Rattle.concurrent_queue.specs.Contents.{no_contents};
-    ghost use Rattle.concurrent_queue.specs.history.Calls.{MayMakeOnWord, HasMade, StandsOnWords, ready_on_words, leads_on_words};
-
-    ghost known = { ⊥ };
-
-    ghost contents = { λ c. no_contents c.seat.seat.me.0.form };
-
-    ghost form_of = { λ c. c.seat.seat.me.0.form };
-
-    ghost did = { HasMade (λ c. c.seat.seat.me.0.form) (λ c. c.seat.seat.me.0.state) (λ c e. (e.seat.seat.table_id ≡ c.seat.seat.table_id) × (e.seat.seat.me.0.who ≡ c.seat.seat.me.0.who) × (e.seat.seat.me.0.over ≡ c.seat.seat.me.0.over)) };
-
-    ghost may = { MayMakeOnWord (λ c. c.seat.seat.me.0.form) (λ c. c.seat.seat.me.0.state) };
-
-    ghost stands = { StandsOnWords (λ c. c.seat.seat.me.0.form) (λ c. c.seat.seat.me.0.state) };
-
-    ghost ready = { ready_on_words (λ c. c.seat.seat.me.0.form) (λ c. c.seat.seat.me.0.state) };
-
-    ghost leads = { leads_on_words (λ c. c.seat.seat.me.0.form) (λ c. c.seat.seat.me.0.state) (λ c e. (e.seat.seat.table_id ≡ c.seat.seat.table_id) × (e.seat.seat.me.0.who ≡ c.seat.seat.me.0.who) × (e.seat.seat.me.0.over ≡ c.seat.seat.me.0.over)) };
-
-    ghost keeps_form = { λ d a b made. made.1 };
-
-    ghost exact_form = { λ known. absurd known };
-
-    ghost exact = { λ known. absurd known };
-
-    #[inline(always)]
-    fn form(&self) -> QueueForm {
-        self.seat.form()
-    }
-
-    #[inline(always)]
-    fn load(&mut self, at: Word) -> u64 {
-        self.seat.load(at)
-    }
-
-    #[inline(always)]
-    fn store(&mut self, at: Word, value: u64) {
-        self.seat.store(at, value);
-    }
-
-    #[inline(always)]
-    fn compare_exchange(&mut self, at: Word, expected: u64, next: u64) -> Result<u64, u64> {
-        let found = self.seat.compare_exchange(at, expected, next);
-        if found == expected {
-            Ok(found)
-        } else {
-            Err(found)
-        }
-    }
-
-    #[inline(always)]
-    fn fetch_add(&mut self, at: Word, by: u64) -> u64 {
-        self.seat.fetch_add(at, by)
-    }
-
-    #[inline(always)]
-    fn fetch_or(&mut self, at: Word, bits: u64) -> u64 {
-        self.seat.fetch_or(at, bits)
-    }
-
-    #[inline(always)]
-    fn fetch_and(&mut self, at: Word, bits: u64) -> u64 {
-        self.seat.fetch_and(at, bits)
-    }
-
-    /// No such call touches a slot.
-    fn put(&mut self, _at: Slot, _value: T) -> Result<(), T> {
-        unreachable!()
-    }
-
-    /// No such call touches a slot.
-    fn take(&mut self, _at: Slot) -> Option<T> {
-        unreachable!()
     }
 
     /// Of a queue with a bound no call asks for a block.

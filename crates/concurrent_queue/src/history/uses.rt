@@ -26,9 +26,9 @@ pub fn push<T: Drop, R: Wait>(
     ensures answered { result.1.seat.me.0.state.replies ≡ result.0 ∷ [] }
 {
     let seat = table.begin::<Brand, T>(&value);
-    let mut cells = HistoryCells { seat, rt };
+    let mut cells = HistoryCells { seat };
     let pushed = complete(rt, QueueCall::push(value), &mut cells);
-    let HistoryCells { seat, rt: _ } = cells;
+    let HistoryCells { seat } = cells;
     (pushed, seat.end())
 }
 
@@ -46,9 +46,9 @@ pub fn push_again<T: Drop, R: Wait>(
     ensures answered { result.1.seat.me.0.state.replies ≡ witness.seat.me.0.state.replies ++ result.0 ∷ [] }
 {
     let seat = table.begin_again::<Brand, T>(witness, &value);
-    let mut cells = HistoryCells { seat, rt };
+    let mut cells = HistoryCells { seat };
     let reply = complete(rt, QueueCall::push(value), &mut cells);
-    let HistoryCells { seat, rt: _ } = cells;
+    let HistoryCells { seat } = cells;
     (reply, seat.end())
 }
 
@@ -62,9 +62,9 @@ pub fn pop<T: Drop, R: Wait>(
     ensures answered { result.1.seat.me.0.state.replies ≡ result.0 ∷ [] }
 {
     let seat = table.begin::<Brand, ()>(&());
-    let mut cells = HistoryCells { seat, rt };
+    let mut cells = HistoryCells { seat };
     let reply = complete(rt, QueueCall::pop(), &mut cells);
-    let HistoryCells { seat, rt: _ } = cells;
+    let HistoryCells { seat } = cells;
     (reply, seat.end())
 }
 

@@ -15,12 +15,12 @@ use crate::bounded::at_most_greatest;
 use crate::call::{QueueAsk, QueueReply};
 use crate::cells::QueueForm;
 use crate::error::{PopError, PushError};
-use crate::history::cells::{HistoryCells, HistoryWords};
+use crate::history::cells::HistoryCells;
 use crate::history::foreign::ForeignCells;
 use crate::history::party::{OfQueue, Standing};
 use crate::history::table::{CallSeat, RuledTable};
 use crate::queue_call::{QueueCall, seen};
-use crate::seen::{Seen, Trace, see_call, see_foreign, see_question};
+use crate::seen::{Seen, Trace, see_call, see_foreign};
 use std::alloc::{AllocError, Global};
 use std::marker::Brand;
 use std::sync::Wait;
@@ -56,33 +56,17 @@ fn begin<'a, T: Drop>(table: &'a QueueTable<T>, ask: &QueueAsk<T>) -> QueueSeat<
 
 /// The cells of a call that has just begun to ask this, seen by this trace.
 #[inline(always)]
-fn call_cells<'a, T: Drop, R: Wait, S>(
+fn call_cells<'a, T: Drop, S>(
     table: &'a QueueTable<T>,
-    rt: &'a R,
     ask: &QueueAsk<T>,
     trace: S,
-) -> Seen<HistoryCells<'a, T, R>, S>
+) -> Seen<HistoryCells<'a, T>, S>
     ensures begun { IsBegun result.cells.seat.seat.me.0 ask.now }
     ensures form { result.cells.seat.seat.me.0.form ≡ form_of table.now }
     ensures trace { result.trace ≡ trace }
 {
     let seat = begin(table, ask);
-    see_call(HistoryCells { seat, rt }, trace)
-}
-
-/// The same of a call that waits for nobody.
-#[inline(always)]
-fn question_cells<'a, T: Drop, S>(
-    table: &'a QueueTable<T>,
-    ask: &QueueAsk<T>,
-    trace: S,
-) -> Seen<HistoryWords<'a, T>, S>
-    ensures begun { IsBegun result.cells.seat.seat.me.0 ask.now }
-    ensures form { result.cells.seat.seat.me.0.form ≡ form_of table.now }
-    ensures trace { result.trace ≡ trace }
-{
-    let seat = begin(table, ask);
-    see_question(HistoryWords { seat }, trace)
+    see_call(HistoryCells { seat }, trace)
 }
 
 /// A call that touches cells.
@@ -97,9 +81,9 @@ fn make<T: Drop, R: Wait, S: Trace<T>>(
     ensures walked { WalkedAsking S.did (form_of table.now) ask trace (result.0) (result.1) }
     ensures answers { MayAnswer (form_of table.now) ask (result.0) }
 {
-    let seen = call_cells(table, rt, &ask, trace);
+    let seen = call_cells(table, &ask, trace);
     let (reply, cells, trace) = seen::complete(rt, QueueCall::new(ask), seen);
-    let HistoryCells { seat, rt: _ } = cells;
+    let HistoryCells { seat } = cells;
     let _witness = seat.end();
     (reply, trace)
 }
@@ -116,8 +100,8 @@ pub(crate) fn push<T: Drop, R: Wait, S: Trace<T>>(
     ensures answers { MayAnswer (form_of table.now) (ask.Push value) (reply.Push (result.0)) }
 {
     let seat = table.table.begin::<Brand, T>(&value);
-    let (answer, cells, trace) = seen::push(rt, value, see_call(HistoryCells { seat, rt }, trace));
-    let HistoryCells { seat, rt: _ } = cells;
+    let (answer, cells, trace) = seen::push(rt, value, see_call(HistoryCells { seat }, trace));
+    let HistoryCells { seat } = cells;
     let _witness = seat.end();
     (answer, trace)
 }
@@ -132,8 +116,8 @@ pub(crate) fn pop<T: Drop, R: Wait, S: Trace<T>>(
     ensures walked { WalkedAsking S.did (form_of table.now) ask.Pop trace (reply.Pop (result.0)) (result.1) }
 {
     let seat = table.table.begin::<Brand, ()>(&());
-    let (answer, cells, trace) = seen::pop(rt, see_call(HistoryCells { seat, rt }, trace));
-    let HistoryCells { seat, rt: _ } = cells;
+    let (answer, cells, trace) = seen::pop(rt, see_call(HistoryCells { seat }, trace));
+    let HistoryCells { seat } = cells;
     let _witness = seat.end();
     (answer, trace)
 }
@@ -189,9 +173,9 @@ pub(crate) fn tell<T: Drop, S: Trace<T>>(
     match ask {
         QueueAsk::Capacity => capacity(form, trace),
         ask => {
-            let seen = question_cells(table, &ask, trace);
+            let seen = call_cells(table, &ask, trace);
             let (reply, cells, trace) = seen::complete_question(ask, seen);
-            let HistoryWords { seat } = cells;
+            let HistoryCells { seat } = cells;
             let _witness = seat.end();
             (reply, trace)
         }

@@ -51,9 +51,9 @@ fn make<T: Drop, R: Wait>(
     ensures answers { MayAnswer (form_of table.now) ask result.0 }
 {
     let seat = table.table.begin_again::<Brand, QueueAsk<T>>(witness, &ask);
-    let mut cells = HistoryCells { seat, rt };
+    let mut cells = HistoryCells { seat };
     let reply = whole::complete(rt, QueueCall::new(ask), &mut cells);
-    let HistoryCells { seat, rt: _ } = cells;
+    let HistoryCells { seat } = cells;
     (reply, seat.end())
 }
 
@@ -78,8 +78,8 @@ impl<'a, T: Drop> Witnessed<'a, T> {
     {
         let Witnessed { table, witness } = self;
         let seat = table.table.begin_again::<Brand, T>(witness, &value);
-        let (answer, cells) = whole::push(rt, value, HistoryCells { seat, rt });
-        let HistoryCells { seat, rt: _ } = cells;
+        let (answer, cells) = whole::push(rt, value, HistoryCells { seat });
+        let HistoryCells { seat } = cells;
         let witness = seat.end();
         (answer, Witnessed { table, witness })
     }
@@ -106,8 +106,8 @@ impl<'a, T: Drop> Witnessed<'a, T> {
     {
         let Witnessed { table, witness } = self;
         let seat = table.table.begin_again::<Brand, ()>(witness, &());
-        let (answer, cells) = whole::pop(rt, HistoryCells { seat, rt });
-        let HistoryCells { seat, rt: _ } = cells;
+        let (answer, cells) = whole::pop(rt, HistoryCells { seat });
+        let HistoryCells { seat } = cells;
         let witness = seat.end();
         (answer, Witnessed { table, witness })
     }

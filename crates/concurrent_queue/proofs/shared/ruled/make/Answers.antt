@@ -3,10 +3,10 @@ use Rattle.concurrent_queue.specs.QueueTables.{form_of}
 use Rattle.concurrent_queue.specs.Replies.{MayCall}
 use Rattle.concurrent_queue.specs.Walked.{WalkedFrom}
 use Rattle.concurrent_queue.specs.declared.cells.QueueForm.{QueueForm}
-use Rattle.concurrent_queue.specs.declared.history.cells.HistoryCells.{HistoryCells}
 use Rattle.concurrent_queue.specs.declared.queue_call.CallState.{CallState}
 use Rattle.concurrent_queue.specs.declared.queue_call.CallState.TheVariants.{Asked}
-use Rattle.concurrent_queue.proofs.CallEnded.{begun_stands, call_ended}
+use Rattle.concurrent_queue.proofs.CallEnded.{begun_stands}
+use Rattle.concurrent_queue.proofs.HistoryCallsEnd.{cells_call_ends}
 use Rattle.concurrent_queue.proofs.Traces.{walked_here}
 use Rattle.concurrent_queue.proofs.shared.ruled.make.Goals as goal
 
@@ -20,8 +20,8 @@ end-witness-requires g c =
     let cells = c.call_cells-seen.result.cells in
     let done = c.complete-reply.ensures in
     record {
-      ended = (call_ended (λ (x : HistoryCells g.row.T.Denot g.row.R.Denot). x.seat.seat.me.0) (λ x. x.seat.seat.table_id) cells.seat.table.now.shared.table_id.slots c.args.ask c.requires.cells c.new.result c.new.ensures.asked cells c.complete-reply.result.1
-          c.complete-reply.result.0 (cells.seat.seated.1 ∙ cells.seat.bounded) c.call_cells-seen.ensures.begun done.cells done.answers).0.0;
+      ended = (cells_call_ends cells.seat.table.now.shared.table_id.slots c.args.ask c.requires.cells c.new.result c.new.ensures.asked c.call_cells-seen.ensures.begun.0 cells c.complete-reply.result.1
+          c.complete-reply.result.0 (cells.seat.seated.1 ∙ cells.seat.bounded) c.call_cells-seen.ensures.begun.1 done.cells done.answers).2;
     }
 
 pub returns-clause-walked : goal.returns-clause-walked

@@ -6,7 +6,8 @@ use Rattle.concurrent_queue.specs.declared.call.QueueAsk.TheVariants as ask
 use Rattle.concurrent_queue.specs.declared.call.QueueReply.TheVariants as reply
 use Rattle.concurrent_queue.specs.declared.history.cells.HistoryCells.{HistoryCells}
 use Rattle.concurrent_queue.specs.declared.queue_call.CallState.TheVariants.{Asked}
-use Rattle.concurrent_queue.proofs.CallEnded.{begun_stands, call_ended}
+use Rattle.concurrent_queue.proofs.CallEnded.{begun_stands}
+use Rattle.concurrent_queue.proofs.HistoryCallsEnd.{cells_call_ends}
 use Rattle.concurrent_queue.proofs.Traces.{walked_here}
 use Rattle.concurrent_queue.proofs.shared.ruled.pop.Goals as goal
 
@@ -14,7 +15,7 @@ pub pop-answer-requires : goal.pop-answer-requires
 pop-answer-requires g c =
     let seat = c.see_call.result.cells.seat in
     let asked = ask.Pop in
-    record { stands = begun_stands seat.seat.me.0 seat.table.now.shared.table_id.slots asked (seat.seated.1 ∙ seat.bounded) (fresh, ap (λ (x : HistoryCells g.row.T.Denot g.row.R.Denot). x.seat.seat.me.0.state) c.see_call.ensures.cells ∙ c.begin-seat.ensures.begun) (Asked asked) refl }
+    record { stands = begun_stands seat.seat.me.0 seat.table.now.shared.table_id.slots asked (seat.seated.1 ∙ seat.bounded) (fresh, ap (λ (x : HistoryCells g.row.T.Denot). x.seat.seat.me.0.state) c.see_call.ensures.cells ∙ c.begin-seat.ensures.begun) (Asked asked) refl }
 
 pub end-witness-requires : goal.end-witness-requires
 end-witness-requires g c =
@@ -22,11 +23,11 @@ end-witness-requires g c =
     let asked = ask.Pop in
     let done = c.pop-answer.ensures in
     record {
-      ended = (call_ended (λ (x : HistoryCells g.row.T.Denot g.row.R.Denot). x.seat.seat.me.0) (λ x. x.seat.seat.table_id) cells.seat.table.now.shared.table_id.slots asked tt (asking asked) refl cells c.pop-answer.result.1 (reply.Pop c.pop-answer.result.0) (cells.seat.seated.1 ∙ cells.seat.bounded) (fresh, ap (λ (x : HistoryCells g.row.T.Denot g.row.R.Denot). x.seat.seat.me.0.state) c.see_call.ensures.cells ∙ c.begin-seat.ensures.begun) done.cells tt).0.0;
+      ended = (cells_call_ends cells.seat.table.now.shared.table_id.slots asked tt (asking asked) refl fresh cells c.pop-answer.result.1 (reply.Pop c.pop-answer.result.0) (cells.seat.seated.1 ∙ cells.seat.bounded) (ap (λ (x : HistoryCells g.row.T.Denot). x.seat.seat.me.0.state) c.see_call.ensures.cells ∙ c.begin-seat.ensures.begun) done.cells tt).2;
     }
 
 pub returns : goal.returns
 returns g c =
     let seen = c.see_call.result in
-    let same = ap (λ (x : HistoryCells g.row.T.Denot g.row.R.Denot). x.seat.seat.me.0.form) c.see_call.ensures.cells ∙ c.begin-seat.ensures.same.1 in
+    let same = ap (λ (x : HistoryCells g.row.T.Denot). x.seat.seat.me.0.form) c.see_call.ensures.cells ∙ c.begin-seat.ensures.same.1 in
     record { walked = walked_here g.S.Trace.did (form_of c.args.table.now) seen.cells.seat.seat.me.0.form seen.trace c.args.trace same c.see_call.ensures.trace (Asked ask.Pop) (reply.Pop c.pop-answer.result.0) c.pop-answer.result.2 c.pop-answer.ensures.walked }

@@ -1,5 +1,0 @@
-use Rattle.std.proofs.Common.{◌≡◌}
-use Rattle.concurrent_queue.proofs.history.cells.HistoryCellsCells.put.Given as goal
-
-abbrev pub invariant-loop : goal.invariant-loop
-invariant-loop g l = (l.value ≡ l.fn.value) × (l.self.seat.seat.me ≡ l.fn.self.seat.seat.me) × (l.self.seat.seat.table_id ≡ l.fn.self.seat.seat.table_id)

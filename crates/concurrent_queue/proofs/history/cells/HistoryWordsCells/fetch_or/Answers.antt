@@ -1,4 +1,0 @@
-use Rattle.concurrent_queue.proofs.history.cells.HistoryWordsCells.fetch_or.Goals as goal
-
-pub fetch_or-requires : goal.fetch_or-requires
-fetch_or-requires g c = record { next = λ n. (c.requires.may n tt).1 }
