@@ -7,5 +7,4 @@ pub mod laws;
 pub mod party;
 pub mod rule;
 pub mod table;
-pub mod uses;
 pub mod witness;

@@ -138,7 +138,7 @@ fn capacity<T: Drop, S: Trace<T>>(form: QueueForm, trace: S) -> (QueueReply<T>, 
     }
 }
 
-/// Any call, step by step. The question for the capacity touches no cell, so it is no part of the history.
+/// Any call. The question for the capacity touches no cell, so it is no part of the history.
 #[inline(always)]
 pub(crate) fn any<T: Drop, R: Wait, S: Trace<T>>(
     table: &QueueTable<T>,
@@ -152,6 +152,14 @@ pub(crate) fn any<T: Drop, R: Wait, S: Trace<T>>(
     ensures answers { MayAnswer form ask (result.0) }
 {
     match ask {
+        QueueAsk::Push(value) => {
+            let (answer, trace) = push(table, rt, value, trace);
+            (QueueReply::Push(answer), trace)
+        }
+        QueueAsk::Pop => {
+            let (answer, trace) = pop(table, rt, trace);
+            (QueueReply::Pop(answer), trace)
+        }
         QueueAsk::Capacity => capacity(form, trace),
         ask => make(table, rt, ask, trace),
     }

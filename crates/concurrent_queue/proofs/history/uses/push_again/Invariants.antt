@@ -1,5 +1,0 @@
-use Rattle.concurrent_queue.specs.declared.call.QueueAsk.TheVariants.{Push}
-use Rattle.concurrent_queue.proofs.history.uses.push_again.Given as goal
-
-abbrev pub ghosts-begin_again : goal.ghosts-begin_again
-ghosts-begin_again g a = record { ask = Push a._about.now }
