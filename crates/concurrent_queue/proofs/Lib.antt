@@ -83,6 +83,6 @@ pub mod HistoryWords
 pub mod HistorySteps
 pub mod HistoryCallsEnd
 pub mod HistoryAnswers
-mod CallEnded
+mod CallBegins
 mod Capacities
 pub mod HistorySeats

@@ -172,7 +172,10 @@ pub(crate) fn see_cells<'a, T: Drop, R: Wait, S>(
 
 /// The cells of a call of a queue with a bound, seen by this trace.
 #[inline(always)]
-pub(crate) fn see_call<T: Drop, S>(cells: HistoryCells<'_, T>, trace: S) -> Seen<HistoryCells<'_, T>, S>
+pub(crate) fn see_call<T: Drop, S>(
+    cells: HistoryCells<'_, T>,
+    trace: S,
+) -> Seen<HistoryCells<'_, T>, S>
     ensures cells { result.cells ≡ cells.entry }
     ensures trace { result.trace ≡ trace }
 {

@@ -5,7 +5,7 @@ use Rattle.concurrent_queue.specs.Walked.{WalkedFrom}
 use Rattle.concurrent_queue.specs.declared.cells.QueueForm.{QueueForm}
 use Rattle.concurrent_queue.specs.declared.queue_call.CallState.{CallState}
 use Rattle.concurrent_queue.specs.declared.queue_call.CallState.TheVariants.{Asked}
-use Rattle.concurrent_queue.proofs.CallEnded.{begun_stands}
+use Rattle.concurrent_queue.proofs.CallBegins.{begun_stands}
 use Rattle.concurrent_queue.proofs.HistoryCallsEnd.{cells_call_ends}
 use Rattle.concurrent_queue.proofs.Traces.{walked_here}
 use Rattle.concurrent_queue.proofs.shared.ruled.make.Goals as goal

@@ -8,7 +8,7 @@ use Rattle.concurrent_queue.specs.declared.call.QueueReply.TheVariants as reply
 use Rattle.concurrent_queue.specs.declared.cells.QueueForm.{QueueForm}
 use Rattle.concurrent_queue.specs.declared.history.cells.HistoryCells.{HistoryCells}
 use Rattle.concurrent_queue.specs.declared.queue_call.CallState.TheVariants.{Asked}
-use Rattle.concurrent_queue.proofs.CallEnded.{begun_stands}
+use Rattle.concurrent_queue.proofs.CallBegins.{begun_stands}
 use Rattle.concurrent_queue.proofs.HistoryCallsEnd.{cells_call_ends}
 use Rattle.concurrent_queue.proofs.Traces.{walked_here}
 use Rattle.concurrent_queue.proofs.shared.ruled.push.Goals as goal

@@ -3,7 +3,7 @@ use Rattle.concurrent_queue.specs.Bridge.{asking}
 use Rattle.concurrent_queue.specs.Replies.{MayAnswer}
 use Rattle.concurrent_queue.specs.declared.cells.QueueForm.{QueueForm}
 use Rattle.concurrent_queue.specs.declared.queue_call.CallState.TheVariants.{Asked}
-use Rattle.concurrent_queue.proofs.CallEnded.{asks_cells, begun_stands}
+use Rattle.concurrent_queue.proofs.CallBegins.{asks_cells, begun_stands}
 use Rattle.concurrent_queue.proofs.HistoryCallsEnd.{cells_call_ends}
 use Rattle.concurrent_queue.proofs.Traces.{walked_here}
 use Rattle.concurrent_queue.proofs.shared.ruled.tell.Goals as goal

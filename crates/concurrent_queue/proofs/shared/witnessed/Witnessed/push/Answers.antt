@@ -1,7 +1,7 @@
 use Rattle.std.proofs.Common.{◌∙◌, Some, ap, refl, sym}
 use Rattle.concurrent_queue.specs.Bridge.{asking}
 use Rattle.concurrent_queue.specs.declared.call.QueueAsk.TheVariants.{Push}
-use Rattle.concurrent_queue.proofs.CallEnded.{begun_stands}
+use Rattle.concurrent_queue.proofs.CallBegins.{begun_stands}
 use Rattle.concurrent_queue.proofs.HistoryCallsEnd.{cells_call_ends}
 use Rattle.concurrent_queue.specs.declared.queue_call.CallState.TheVariants.{Asked}
 use Rattle.concurrent_queue.proofs.shared.witnessed.Witnessed.push.Goals as goal
@@ -38,8 +38,8 @@ returns g c =
     let end = c.end-witness.ensures in
     record {
       called = (
-      ap (λ s. s.me.0.state.asked) end ∙ e.3,
-      ap (λ s. s.me.0.state.replies) end ∙ e.4,
-      (ap (λ s. Some s.table_id) end ∙ ap Some (e.1.0 ∙ (b.same.0 ∙ sym c.args.self.same)), ap (λ s. s.me.0.who) end ∙ (e.1.1 ∙ b.same.2), ap (λ s. s.me.0.over) end ∙ (e.1.2 ∙ b.same.3)),
+        ap (λ s. s.me.0.state.asked) end ∙ e.3,
+        ap (λ s. s.me.0.state.replies) end ∙ e.4,
+        (ap (λ s. Some s.table_id) end ∙ ap Some (e.1.0 ∙ (b.same.0 ∙ sym c.args.self.same)), ap (λ s. s.me.0.who) end ∙ (e.1.1 ∙ b.same.2), ap (λ s. s.me.0.over) end ∙ (e.1.2 ∙ b.same.3)),
       );
     }
