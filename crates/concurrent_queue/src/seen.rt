@@ -7,7 +7,7 @@ ghost use Rattle.concurrent_queue.specs.Shown.{Sees};
 use crate::cells::{Cells, QueueForm, Slot, Word};
 use crate::error::NoMemory;
 use crate::history::cells::HistoryCells;
-use crate::history::foreign::ForeignCells;
+use crate::history::foreign::ForeignSeat;
 use crate::shared::cells::{SharedCells, WordCells};
 use std::marker::PhantomData;
 use std::sync::Wait;
@@ -189,9 +189,9 @@ pub(crate) fn see_call<T: Drop, S>(
 /// The same of a call that may have been begun on another queue.
 #[inline(always)]
 pub(crate) fn see_foreign<T: Drop, S>(
-    cells: ForeignCells<'_, T>,
+    cells: ForeignSeat<'_, T>,
     trace: S,
-) -> Seen<ForeignCells<'_, T>, S>
+) -> Seen<ForeignSeat<'_, T>, S>
     ensures cells { result.cells ≡ cells.entry }
     ensures trace { result.trace ≡ trace }
 {

@@ -12,7 +12,8 @@ use crate::history::table::{KitTable, RuledTable, flag_index, slot_index, word_i
 use crate::{NoMemory, QueueForm};
 use atomic_table::Seat;
 
-/// A seat of the table for foreign calls. It holds no slot.
+/// A seat of the table for foreign calls, which are the cells of such a call: any operation may be made, and nothing is known of what they
+/// hold. It holds no slot.
 #[derive(Drop)]
 pub struct ForeignSeat<'a, T> {
     pub(crate) table: &'a KitTable<T, Standing<T>, OfQueue>,
@@ -46,116 +47,6 @@ impl<T> RuledTable<T, Standing<T>, OfQueue> {
 }
 
 impl<'a, T> ForeignSeat<'a, T> {
-    /// Which kind of queue it is.
-    #[inline(always)]
-    pub fn form(&self) -> QueueForm
-        ensures { result ≡ self.now.seat.me.0.form }
-    {
-        QueueForm::Bounded(self.table.slot_count())
-    }
-
-    /// What the word holds; 0 where there is no such word.
-    #[inline(always)]
-    pub fn load(&mut self, at: Word) -> u64
-        ensures same { self.new.seat.me ≡ self.old.seat.me }
-    {
-        match word_index(self.table, at) {
-            Some(index) => self.table.shared.load::<Passes>(&mut self.seat, index),
-            None => 0,
-        }
-    }
-
-    /// Writes the word, where there is one.
-    #[inline(always)]
-    pub fn store(&mut self, at: Word, value: u64)
-        ensures same { self.new.seat.me ≡ self.old.seat.me }
-    {
-        if let Some(index) = word_index(self.table, at) {
-            self.table
-                .shared
-                .store::<Passes>(&mut self.seat, index, value);
-        }
-    }
-
-    /// Writes the word where it holds `expected`, and answers what it held. A word that isn't there holds 0 and stays so.
-    #[inline(always)]
-    pub fn compare_exchange(&mut self, at: Word, expected: u64, next: u64) -> u64
-        ensures same { self.new.seat.me ≡ self.old.seat.me }
-    {
-        match word_index(self.table, at) {
-            Some(index) => self
-                .table
-                .shared
-                .compare_exchange::<Passes>(&mut self.seat, index, expected, next),
-            None => 0,
-        }
-    }
-
-    /// Adds to the word, and answers what it held. The sum wraps at 2^64.
-    #[inline(always)]
-    pub fn fetch_add(&mut self, at: Word, by: u64) -> u64
-        ensures same { self.new.seat.me ≡ self.old.seat.me }
-    {
-        match word_index(self.table, at) {
-            Some(index) => self
-                .table
-                .shared
-                .fetch_add::<Passes>(&mut self.seat, index, by),
-            None => 0,
-        }
-    }
-
-    /// Sets these bits of the word, and answers what it held.
-    #[inline(always)]
-    pub fn fetch_or(&mut self, at: Word, bits: u64) -> u64
-        ensures same { self.new.seat.me ≡ self.old.seat.me }
-    {
-        match word_index(self.table, at) {
-            Some(index) => self
-                .table
-                .shared
-                .fetch_or::<Passes>(&mut self.seat, index, bits),
-            None => 0,
-        }
-    }
-
-    /// Keeps these bits of the word and clears all others, and answers what it held.
-    #[inline(always)]
-    pub fn fetch_and(&mut self, at: Word, bits: u64) -> u64
-        ensures same { self.new.seat.me ≡ self.old.seat.me }
-    {
-        match word_index(self.table, at) {
-            Some(index) => self
-                .table
-                .shared
-                .fetch_and::<Passes>(&mut self.seat, index, bits),
-            None => 0,
-        }
-    }
-
-    /// Empties a slot. `None`: it is empty, or another seat has it, or there is none.
-    #[inline(always)]
-    pub fn take(&mut self, at: Slot) -> Option<T>
-        ensures form { self.new.seat.me.0.form ≡ self.old.seat.me.0.form }
-    {
-        match slot_index(self.table, at) {
-            Some(index) => self.take_from(index),
-            None => None,
-        }
-    }
-
-    /// Fills an empty slot. `Err` hands the message back: the slot is full, or another seat has it, or there is none.
-    #[inline(always)]
-    pub fn put(&mut self, at: Slot, value: T) -> Result<(), T>
-        ensures back { IfErr result (λ back. back ≡ value) }
-        ensures form { self.new.seat.me.0.form ≡ self.old.seat.me.0.form }
-    {
-        match slot_index(self.table, at) {
-            Some(index) => self.put_into(index, value),
-            None => Err(value),
-        }
-    }
-
     /// Empties a slot that is there.
     #[inline(always)]
     fn take_from(&mut self, index: usize) -> Option<T>
@@ -199,23 +90,17 @@ impl<'a, T> ForeignSeat<'a, T> {
     }
 }
 
-/// The cells of a queue with a bound for a foreign call. Any operation may be made, and nothing is known of what they hold.
-#[derive(Drop)]
-pub struct ForeignCells<'a, T> {
-    pub(crate) seat: ForeignSeat<'a, T>,
-}
-
-impl<'a, T: Drop> Cells<T> for ForeignCells<'a, T> {
+impl<'a, T: Drop> Cells<T> for ForeignSeat<'a, T> {
     ghost use Rattle.std.specs.Prelude.{◌≡◌};
     ghost use Rattle.concurrent_queue.specs.Contents.{no_contents};
 
     ghost known = { ⊥ };
 
-    ghost contents = { λ c. no_contents c.seat.seat.me.0.form };
+    ghost contents = { λ c. no_contents c.seat.me.0.form };
 
-    ghost form_of = { λ c. c.seat.seat.me.0.form };
+    ghost form_of = { λ c. c.seat.me.0.form };
 
-    ghost did = { λ _ a b. b.seat.seat.me.0.form ≡ a.seat.seat.me.0.form };
+    ghost did = { λ _ a b. b.seat.me.0.form ≡ a.seat.me.0.form };
 
     ghost may = { λ _ _. Unit {0} };
 
@@ -233,22 +118,35 @@ impl<'a, T: Drop> Cells<T> for ForeignCells<'a, T> {
 
     #[inline(always)]
     fn form(&self) -> QueueForm {
-        self.seat.form()
+        QueueForm::Bounded(self.table.slot_count())
     }
 
     #[inline(always)]
     fn load(&mut self, at: Word) -> u64 {
-        self.seat.load(at)
+        match word_index(self.table, at) {
+            Some(index) => self.table.shared.load::<Passes>(&mut self.seat, index),
+            None => 0,
+        }
     }
 
     #[inline(always)]
     fn store(&mut self, at: Word, value: u64) {
-        self.seat.store(at, value);
+        if let Some(index) = word_index(self.table, at) {
+            self.table
+                .shared
+                .store::<Passes>(&mut self.seat, index, value);
+        }
     }
 
     #[inline(always)]
     fn compare_exchange(&mut self, at: Word, expected: u64, next: u64) -> Result<u64, u64> {
-        let found = self.seat.compare_exchange(at, expected, next);
+        let found = match word_index(self.table, at) {
+            Some(index) => self
+                .table
+                .shared
+                .compare_exchange::<Passes>(&mut self.seat, index, expected, next),
+            None => 0,
+        };
         if found == expected {
             Ok(found)
         } else {
@@ -258,27 +156,51 @@ impl<'a, T: Drop> Cells<T> for ForeignCells<'a, T> {
 
     #[inline(always)]
     fn fetch_add(&mut self, at: Word, by: u64) -> u64 {
-        self.seat.fetch_add(at, by)
+        match word_index(self.table, at) {
+            Some(index) => self
+                .table
+                .shared
+                .fetch_add::<Passes>(&mut self.seat, index, by),
+            None => 0,
+        }
     }
 
     #[inline(always)]
     fn fetch_or(&mut self, at: Word, bits: u64) -> u64 {
-        self.seat.fetch_or(at, bits)
+        match word_index(self.table, at) {
+            Some(index) => self
+                .table
+                .shared
+                .fetch_or::<Passes>(&mut self.seat, index, bits),
+            None => 0,
+        }
     }
 
     #[inline(always)]
     fn fetch_and(&mut self, at: Word, bits: u64) -> u64 {
-        self.seat.fetch_and(at, bits)
-    }
-
-    #[inline(always)]
-    fn put(&mut self, at: Slot, value: T) -> Result<(), T> {
-        self.seat.put(at, value)
+        match word_index(self.table, at) {
+            Some(index) => self
+                .table
+                .shared
+                .fetch_and::<Passes>(&mut self.seat, index, bits),
+            None => 0,
+        }
     }
 
     #[inline(always)]
     fn take(&mut self, at: Slot) -> Option<T> {
-        self.seat.take(at)
+        match slot_index(self.table, at) {
+            Some(index) => self.take_from(index),
+            None => None,
+        }
+    }
+
+    #[inline(always)]
+    fn put(&mut self, at: Slot, value: T) -> Result<(), T> {
+        match slot_index(self.table, at) {
+            Some(index) => self.put_into(index, value),
+            None => Err(value),
+        }
     }
 
     /// There are no blocks.

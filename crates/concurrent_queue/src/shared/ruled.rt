@@ -16,7 +16,7 @@ use crate::call::{QueueAsk, QueueReply};
 use crate::cells::QueueForm;
 use crate::error::{PopError, PushError};
 use crate::history::cells::HistoryCells;
-use crate::history::foreign::ForeignCells;
+use crate::history::foreign::ForeignSeat;
 use crate::history::party::{OfQueue, Standing};
 use crate::history::table::{CallSeat, RuledTable};
 use crate::queue_call::{QueueCall, seen};
@@ -192,12 +192,11 @@ pub(crate) fn tell<T: Drop, S: Trace<T>>(
 
 /// The cells of a call that may be no call of this queue, seen by this trace.
 #[inline(always)]
-fn foreign_cells<'a, T: Drop, S>(table: &'a QueueTable<T>, trace: S) -> Seen<ForeignCells<'a, T>, S>
-    ensures form { result.cells.seat.seat.me.0.form ≡ form_of table.now }
+fn foreign_cells<'a, T: Drop, S>(table: &'a QueueTable<T>, trace: S) -> Seen<ForeignSeat<'a, T>, S>
+    ensures form { result.cells.seat.me.0.form ≡ form_of table.now }
     ensures trace { result.trace ≡ trace }
 {
-    let seat = table.table.admit();
-    see_foreign(ForeignCells { seat }, trace)
+    see_foreign(table.table.admit(), trace)
 }
 
 /// One step of a call, which may be no call of this queue: from then on nothing is told of the history.

@@ -7,7 +7,7 @@ use Rattle.concurrent_queue.proofs.shared.ruled.step.Goals as goal
 
 pub returns-clause-deed : goal.returns-clause-deed
 returns-clause-deed g c =
-    step_here g.S.Trace.did (form_of c.args.table.now) c.foreign_cells.result.cells.seat.seat.me.0.form c.foreign_cells.result.trace c.args.trace c.foreign_cells.ensures.form c.foreign_cells.ensures.trace c.args.call.now c.step.new.call c.step.result.0 c.step.result.1 c.step.ensures.deed
+    step_here g.S.Trace.did (form_of c.args.table.now) c.foreign_cells.result.cells.seat.me.0.form c.foreign_cells.result.trace c.args.trace c.foreign_cells.ensures.form c.foreign_cells.ensures.trace c.args.call.now c.step.new.call c.step.result.0 c.step.result.1 c.step.ensures.deed
 
 pub returns-clause-answers : goal.returns-clause-answers
 returns-clause-answers g c =

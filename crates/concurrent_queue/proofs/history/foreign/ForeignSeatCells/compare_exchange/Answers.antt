@@ -3,10 +3,10 @@ use prog.Atomic.{either}
 use Rattle.concurrent_queue.specs.history.Runs.{moves, fresh}
 use Rattle.concurrent_queue.proofs.HistorySteps.{passes_so}
 use Rattle.concurrent_queue.proofs.HistoryWords.{behind_guards}
-use Rattle.concurrent_queue.proofs.history.foreign.ForeignSeat.compare_exchange.Goals as goal
+use Rattle.concurrent_queue.proofs.history.foreign.ForeignSeatCells.compare_exchange.Goals as goal
 
-pub compare_exchange-requires : goal.compare_exchange-requires
-compare_exchange-requires g c =
+pub compare_exchange-found-requires : goal.compare_exchange-found-requires
+compare_exchange-found-requires g c =
     let p = c.args.self.now in
     let i = c.in-Some.ensures in
     let b = behind_guards p.table.now.shared.key c.args.at _ i.0 i.1 in

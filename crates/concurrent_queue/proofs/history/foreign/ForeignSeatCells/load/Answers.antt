@@ -1,7 +1,7 @@
 use Rattle.concurrent_queue.specs.history.Runs.{moves, fresh}
 use Rattle.concurrent_queue.proofs.HistorySteps.{passes_so}
 use Rattle.concurrent_queue.proofs.HistoryWords.{behind_guards}
-use Rattle.concurrent_queue.proofs.history.foreign.ForeignSeat.load.Goals as goal
+use Rattle.concurrent_queue.proofs.history.foreign.ForeignSeatCells.load.Goals as goal
 
 pub load-requires : goal.load-requires
 load-requires g c =

@@ -2,7 +2,7 @@ use Rattle.std.specs.Prelude.{bit_and}
 use Rattle.concurrent_queue.specs.history.Runs.{moves, fresh}
 use Rattle.concurrent_queue.proofs.HistorySteps.{passes_so}
 use Rattle.concurrent_queue.proofs.HistoryWords.{behind_guards}
-use Rattle.concurrent_queue.proofs.history.foreign.ForeignSeat.fetch_and.Goals as goal
+use Rattle.concurrent_queue.proofs.history.foreign.ForeignSeatCells.fetch_and.Goals as goal
 
 pub fetch_and-requires : goal.fetch_and-requires
 fetch_and-requires g c =

@@ -2,7 +2,7 @@ use Rattle.std.specs.Prelude.{◌+◌, ◌%◌, ◌^◌}
 use Rattle.concurrent_queue.specs.history.Runs.{moves, fresh}
 use Rattle.concurrent_queue.proofs.HistorySteps.{passes_so}
 use Rattle.concurrent_queue.proofs.HistoryWords.{behind_guards}
-use Rattle.concurrent_queue.proofs.history.foreign.ForeignSeat.fetch_add.Goals as goal
+use Rattle.concurrent_queue.proofs.history.foreign.ForeignSeatCells.fetch_add.Goals as goal
 
 pub fetch_add-requires : goal.fetch_add-requires
 fetch_add-requires g c =

@@ -2,7 +2,7 @@ use Rattle.std.specs.Prelude.{bit_or}
 use Rattle.concurrent_queue.specs.history.Runs.{moves, fresh}
 use Rattle.concurrent_queue.proofs.HistorySteps.{passes_so}
 use Rattle.concurrent_queue.proofs.HistoryWords.{behind_guards}
-use Rattle.concurrent_queue.proofs.history.foreign.ForeignSeat.fetch_or.Goals as goal
+use Rattle.concurrent_queue.proofs.history.foreign.ForeignSeatCells.fetch_or.Goals as goal
 
 pub fetch_or-requires : goal.fetch_or-requires
 fetch_or-requires g c =
