@@ -14,7 +14,7 @@ use Rattle.concurrent_queue.specs.declared.queue_call.QueueCall.{QueueCall}
 use Rattle.channel_calls.specs.Answered.{answered_next}
 use Rattle.channel_calls.specs.Deeds.{Deed, stepped}
 use Rattle.channel_calls.specs.Several.{gathering}
-use Rattle.channel_calls.specs.Stands.{NotesDeed, NextDeed, NoDeed, MayGoOn, GoesOn, StaysOn}
+use Rattle.channel_calls.specs.Stands.{NotesDeed, NextDeed, NoDeed, BeginsHere, MayGoOn, GoesOn, StaysOn}
 use Rattle.channel_calls.specs.Turns.{nothing_kept, room_next, TakesRoom, inserted_next, registered_next, lowered_next, loaded_next, raised_next}
 use Rattle.channel_calls.specs.Walks.{Takes, Heard, Leaves, WorkMakes}
 use Rattle.channel_calls.specs.declared.mark.Mark.{Mark}
@@ -192,18 +192,7 @@ module _ {T W : Type 0} where
 
   work_twice : (w : ListStep T W) → started (started (Working w)) ≡ started (Working w)
   work_twice (TakeRoom n) = room_twice n
-  work_twice (TellReceive e) = refl
-  work_twice (TellStreams e) = refl
-  work_twice (TellSend e) = refl
-  work_twice (TellSends n e) = refl
-  work_twice (TellAll line c) = refl
-  work_twice (Insert w task) = refl
-  work_twice (Register w key task) = refl
-  work_twice (Leave e) = refl
-  work_twice (Lower side key) = refl
-  work_twice (Count side) = refl
-  work_twice (Load side making) = refl
-  work_twice (Raise side n making) = refl
+  work_twice w = refl
 
   start_twice : (a : Stage (QueueCall T) T W) → started (started a) ≡ started a
   start_twice (Trying call p) = refl
@@ -231,18 +220,7 @@ module _ {T W : Type 0} where
   -- who does a deed has its room, and has not answered
   work_started : (w : ListStep T W) (d : Deed T W) (m : Mark) (b : Stage (QueueCall T) T W) (r : Option (Reply T)) → WorkMakes NotesDeed w None (Some d) m b r → started (Working w) ≡ Working w
   work_started (TakeRoom n) d m b r (turn, h, room, k) = absurd cc
-  work_started (TellReceive e) d m b r h = refl
-  work_started (TellStreams e) d m b r h = refl
-  work_started (TellSend e) d m b r h = refl
-  work_started (TellSends n e) d m b r h = refl
-  work_started (TellAll line c) d m b r h = refl
-  work_started (Insert w task) d m b r h = refl
-  work_started (Register w key task) d m b r h = refl
-  work_started (Leave e) d m b r h = refl
-  work_started (Lower side key) d m b r h = refl
-  work_started (Count side) d m b r h = refl
-  work_started (Load side making) d m b r h = refl
-  work_started (Raise side n making) d m b r h = refl
+  work_started w d m b r h = refl
 
   has_started : (at b : Stage (QueueCall T) T W) (d : Deed T W) → NextDeed at d b → started at ≡ at
   has_started (Trying call p) b d h = refl
@@ -313,15 +291,20 @@ module _ {T W S : Type 0} (view : S → Stage (QueueCall T) T W) where
   pub tracked_leads : (did : Deed T W → S → S → Type 0) → ((s t : S) (d : Deed T W) → did d s t → MovesOn (view s) d (view t)) → GoesOn StandsAt did
   tracked_leads did moves at next s t d seen made h = led (view s) (view t) at next d seen h (moves s t d made)
 
+  -- whoever is seen where a call begins stands wherever its first turn may lead
+  pub tracked_begins : (turn : NextStep T W) (s : S) → Takes turn (view s) None → BeginsHere StandsAt turn s
+  tracked_begins turn s h at k = (1, (view s, refl, inl (same_taken turn (view s) at None None h k)))
+
   pub tracked_rests : StaysOn StandsAt
   tracked_rests at next s (n, path) h = (suc n, (at, path, inr (inl h)))
 
--- of the stages themselves: whoever may do just what a call does next, and does so, keeps what `ChannelCells` asks; and what comes next is
--- one step of one stage
+-- of the stages themselves: whoever may do just what a call does next, and does so, keeps what `ChannelCells` asks; whoever is seen where a
+-- call begins may begin it; and what comes next is one step of one stage
 abbrev pub CallsKeepWhatCellsAsk : Type 0 → Type 0 → Type 0
 CallsKeepWhatCellsAsk T W =
     let seen : Stage (QueueCall T) T W → Stage (QueueCall T) T W = λ v. v in
     MayGoOn (StandsAt seen) (λ (d : Deed T W) (v : Stage (QueueCall T) T W). Can v d)
     × GoesOn (StandsAt seen) (λ (d : Deed T W) (v w : Stage (QueueCall T) T W). MovesOn v d w)
     × StaysOn (StandsAt seen)
+    × ((turn : NextStep T W) (v : Stage (QueueCall T) T W) → Takes turn v None → BeginsHere (StandsAt seen) turn v)
     × ((v at to a b : Stage (QueueCall T) T W) (d e : Deed T W) → SeenAt v at → SeenAt v to → NextDeed at d a → NextDeed to e b → unmarked at ≡ unmarked to)
