@@ -165,6 +165,12 @@ impl<T, C: Places<T>, S: Trace<T>> ChannelCells<T, Task> for Seen<C, S> {
 
     ghost exact = { λ unknown. absurd unknown };
 
+    ghost ready = { λ at next s d stands does. tt };
+
+    ghost leads = { λ at next s t d stands done does. tt };
+
+    ghost rests = { λ at next s stands idles. tt };
+
     #[inline(always)]
     fn step_queue(&mut self, call: &mut QueueCall<T>) -> Option<QueueReply<T>> {
         self.cells.step_told(call, &mut self.trace)
@@ -232,6 +238,8 @@ impl<T, C: Beds<T>, S: Trace<T>> Sleeps<T, Task> for Seen<C, S> {
 
     ghost slept = { λ a b. (C.form_of b.cells ≡ C.form_of a.cells) × C.slept a.cells b.cells × S.slept a.trace b.trace };
 
+    ghost free = { (λ at s. tt, λ d s. tt) };
+
     #[inline(always)]
     fn park(&mut self) -> Option<Task> {
         let answer = self.cells.park();
@@ -251,6 +259,12 @@ impl<T, C: Words<T>, S: Trace<T>> ChannelWords<T, Task> for Seen<C, S> {
     ghost has_form = { λ s f. f ≡ C.form_of s.cells };
 
     ghost did = { λ d a b. (C.form_of b.cells ≡ C.form_of a.cells) × DidBeside C.did d a.cells b.cells × Saw S.did S.shown (C.form_of a.cells) d a.trace b.trace };
+
+    ghost ready = { λ at next s d stands does. tt };
+
+    ghost leads = { λ at next s t d stands done does. tt };
+
+    ghost rests = { λ at next s stands idles. tt };
 
     #[inline(always)]
     fn step_words(&mut self, call: &mut QueueCall<T>) -> Option<QueueReply<T>> {

@@ -34,6 +34,7 @@ fn steps<C: ChannelCells<u64, u32>, S: Wakes<u32>>(
     cells: &mut C,
     sink: &mut S,
 ) -> (Option<Said>, bool)
+    requires stands { C.stands call.old.stage cells.old }
     ensures { result.1 ≡ true }
 {
     let reply = call.step(cells, sink);

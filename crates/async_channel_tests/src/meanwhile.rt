@@ -94,6 +94,12 @@ impl<'a, R: Wait> ChannelCells<u64, u32> for Beside<'a, R> {
 
     ghost exact = { λ unknown. absurd unknown };
 
+    ghost ready = { λ at next s d stands does. tt };
+
+    ghost leads = { λ at next s t d stands done does. tt };
+
+    ghost rests = { λ at next s stands idles. tt };
+
     fn step_queue(&mut self, call: &mut QueueCall<u64>) -> Option<QueueReply<u64>> {
         let whole = mem::replace(call, QueueCall::ended());
         Some(self.queue.complete(self.rt, whole))
@@ -147,6 +153,8 @@ impl<'a, R: Wait> ChannelCells<u64, u32> for Beside<'a, R> {
 }
 
 impl<'a, R: Wait> Sleeps<u64, u32> for Beside<'a, R> {
+    ghost free = { (λ at s. tt, λ d s. tt) };
+
     fn park(&mut self) -> Option<u32> {
         self.asked = self.asked.wrapping_add(1);
         if self.refuses {

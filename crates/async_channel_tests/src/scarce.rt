@@ -48,6 +48,12 @@ impl ChannelCells<u64, u32> for Scarce {
 
     ghost exact = { λ unknown. absurd unknown };
 
+    ghost ready = { λ at next s d stands does. tt };
+
+    ghost leads = { λ at next s t d stands done does. tt };
+
+    ghost rests = { λ at next s stands idles. tt };
+
     fn step_queue(&mut self, call: &mut QueueCall<u64>) -> Option<QueueReply<u64>> {
         self.channel.step_queue(call)
     }

@@ -39,6 +39,8 @@ fn one_slot(alloc: Global) -> Result<Opened<u64, u32>, AllocError> {
 }
 
 impl<C: ChannelCells<u64, u32> + Drop> Fixture<C> {
+    ghost use Rattle.channel_calls.specs.Stands.{AllowsAll};
+
     /// The only party begins a call. None where there is no room for it.
     fn begin(&mut self, ask: ChannelAsk<u64, u32>) -> Option<Entry<u64>> {
         if self.parties.reserve(1).is_err() {
@@ -48,7 +50,9 @@ impl<C: ChannelCells<u64, u32> + Drop> Fixture<C> {
     }
 
     /// One step of the call under way. None where there is none.
-    fn step(&mut self) -> Option<Entry<u64>> {
+    fn step(&mut self) -> Option<Entry<u64>>
+        requires free { AllowsAll C.stands C.may }
+    {
         if self.parties.is_empty() {
             return None;
         }
@@ -56,7 +60,9 @@ impl<C: ChannelCells<u64, u32> + Drop> Fixture<C> {
     }
 
     /// A call that is begun and makes so many steps. What the last one did.
-    fn call(&mut self, ask: ChannelAsk<u64, u32>, steps: usize) -> (Said, Option<Key>) {
+    fn call(&mut self, ask: ChannelAsk<u64, u32>, steps: usize) -> (Said, Option<Key>)
+        requires free { AllowsAll C.stands C.may }
+    {
         let mut last = self.begin(ask);
         for _ in 0..steps {
             last = self.step();

@@ -58,6 +58,7 @@ impl<T: Drop, W: Drop> ChannelCall<T, W> {
         cells: &mut C,
         sink: &mut S,
     ) -> Option<Reply<T>>
+        requires stands { C.stands self.old.stage cells.old }
         ensures deed { ChannelMakes (Done C.did S.wakes) self.old.stage (cells.old, sink.old) (cells.new, sink.new) self.new.mark self.new.stage result }
         ensures answers { (f : QueueForm) → C.has_form cells.old f → FollowsStage f self.old.stage self.new.stage result }
         ensures form { (f : QueueForm) → C.has_form cells.old f → C.has_form cells.new f }

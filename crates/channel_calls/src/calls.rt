@@ -10,6 +10,7 @@ ghost use Rattle.concurrent_queue.specs.declared.cells.QueueForm.{QueueForm};
 ghost use Rattle.channel_calls.specs.Asks.{first};
 ghost use Rattle.channel_calls.specs.Deeds.{Done};
 ghost use Rattle.channel_calls.specs.Replies.{GivesUpTo, ReplyAllowed, RefusesTrySend, RefusesForceSend};
+ghost use Rattle.channel_calls.specs.Stands.{BeginsHere};
 ghost use Rattle.channel_calls.specs.Walks.{WalkedTo};
 ghost use Rattle.channel_calls.specs.declared.ask.ChannelAsk.TheVariants as ask;
 ghost use Rattle.channel_calls.specs.declared.reply.Reply.TheVariants as reply;
@@ -33,6 +34,7 @@ fn sent<T: Drop, W: Drop, R: Wait, C: ChannelCells<T, W>, S: Wakes<W>>(
     cells: &mut C,
     sink: &mut S,
 ) -> Reply<T>
+    requires stands { BeginsHere C.stands (first (ask.TrySend message)) cells.old }
     ensures deeds { WalkedTo (Done C.did S.wakes) (first (ask.TrySend message)) (cells.old, sink.old) result (cells.new, sink.new) }
     ensures answers { (f : QueueForm) → C.has_form cells.old f → ReplyAllowed {W = W} f (ask.TrySend message) result None }
     ensures form { (f : QueueForm) → C.has_form cells.old f → C.has_form cells.new f }
@@ -51,6 +53,7 @@ fn displaced<T: Drop, W: Drop, R: Wait, C: ChannelCells<T, W>, S: Wakes<W>>(
     cells: &mut C,
     sink: &mut S,
 ) -> Reply<T>
+    requires stands { BeginsHere C.stands (first (ask.ForceSend message)) cells.old }
     ensures deeds { WalkedTo (Done C.did S.wakes) (first (ask.ForceSend message)) (cells.old, sink.old) result (cells.new, sink.new) }
     ensures answers { (f : QueueForm) → C.has_form cells.old f → ReplyAllowed {W = W} f (ask.ForceSend message) result None }
     ensures form { (f : QueueForm) → C.has_form cells.old f → C.has_form cells.new f }
@@ -68,6 +71,7 @@ fn received<T: Drop, W: Drop, R: Wait, C: ChannelCells<T, W>, S: Wakes<W>>(
     cells: &mut C,
     sink: &mut S,
 ) -> Reply<T>
+    requires stands { BeginsHere C.stands (first ask.TryRecv) cells.old }
     ensures deeds { WalkedTo (Done C.did S.wakes) (first ask.TryRecv) (cells.old, sink.old) result (cells.new, sink.new) }
     ensures answers { (f : QueueForm) → C.has_form cells.old f → ReplyAllowed {W = W} f ask.TryRecv result None }
     ensures form { (f : QueueForm) → C.has_form cells.old f → C.has_form cells.new f }
@@ -85,6 +89,7 @@ fn counted<T: Drop, W: Drop, R: Wait, C: ChannelCells<T, W>, S: Wakes<W>>(
     cells: &mut C,
     sink: &mut S,
 ) -> Reply<T>
+    requires stands { BeginsHere C.stands (first ask.Len) cells.old }
     ensures deeds { WalkedTo (Done C.did S.wakes) (first ask.Len) (cells.old, sink.old) result (cells.new, sink.new) }
     ensures answers { (f : QueueForm) → C.has_form cells.old f → ReplyAllowed {W = W} f ask.Len result None }
     ensures form { (f : QueueForm) → C.has_form cells.old f → C.has_form cells.new f }
@@ -104,6 +109,7 @@ pub fn try_send<T: Drop, W: Drop, R: Wait, C: ChannelCells<T, W>, S: Wakes<W>>(
     sink: &mut S,
 ) -> Result<(), Refused<TrySendError<T>, T>>
     requires form { (f : QueueForm) × C.has_form cells.old f }
+    requires stands { BeginsHere C.stands (first (ask.TrySend message)) cells.old }
     ensures deeds { WalkedTo (Done C.did S.wakes) (first (ask.TrySend message)) (cells.old, sink.old) (reply.TrySend result) (cells.new, sink.new) }
     ensures refused { (f : QueueForm) → C.has_form cells.old f → IfErr result (λ e. RefusesTrySend (is_bounded f) message e) }
     ensures form { (f : QueueForm) → C.has_form cells.old f → C.has_form cells.new f }
@@ -122,6 +128,7 @@ pub fn force_send<T: Drop, W: Drop, R: Wait, C: ChannelCells<T, W>, S: Wakes<W>>
     sink: &mut S,
 ) -> Result<Option<T>, Refused<SendError<T>, T>>
     requires form { (f : QueueForm) × C.has_form cells.old f }
+    requires stands { BeginsHere C.stands (first (ask.ForceSend message)) cells.old }
     ensures deeds { WalkedTo (Done C.did S.wakes) (first (ask.ForceSend message)) (cells.old, sink.old) (reply.ForceSend result) (cells.new, sink.new) }
     ensures refused { (f : QueueForm) → C.has_form cells.old f → IfErr result (λ e. RefusesForceSend (is_bounded f) message e) }
     ensures displaced { (f : QueueForm) → C.has_form cells.old f → room_of f ≡ None → IfOk result (λ o. o ≡ None) }
@@ -141,6 +148,7 @@ pub fn try_recv<T: Drop, W: Drop, R: Wait, C: ChannelCells<T, W>, S: Wakes<W>>(
     sink: &mut S,
 ) -> Result<T, TryRecvError>
     requires form { (f : QueueForm) × C.has_form cells.old f }
+    requires stands { BeginsHere C.stands (first ask.TryRecv) cells.old }
     ensures deeds { WalkedTo (Done C.did S.wakes) (first ask.TryRecv) (cells.old, sink.old) (reply.TryRecv result) (cells.new, sink.new) }
     ensures form { (f : QueueForm) → C.has_form cells.old f → C.has_form cells.new f }
 {
@@ -160,6 +168,7 @@ pub fn recv_many<T: Drop, W: Drop, R: Wait, C: ChannelCells<T, W>, S: Wakes<W>>(
     sink: &mut S,
 ) -> Result<Vec<T>, Refused<TryRecvError>>
     requires form { (f : QueueForm) × C.has_form cells.old f }
+    requires stands { BeginsHere C.stands (first (ask.RecvMany limit)) cells.old }
     ensures deeds { MatchResult result (λ messages. WalkedTo (Done C.did S.wakes) (first (ask.RecvMany limit)) (cells.old, sink.old) (reply.RecvMany (Ok messages.items)) (cells.new, sink.new))
         (λ e. WalkedTo (Done C.did S.wakes) (first (ask.RecvMany limit)) (cells.old, sink.old) (reply.RecvMany (Err e)) (cells.new, sink.new)) }
     ensures most { MatchResult result (λ messages. GivesUpTo limit (reply.RecvMany (Ok messages.items))) (λ e. GivesUpTo {T = T} limit (reply.RecvMany (Err e))) }
@@ -184,6 +193,7 @@ pub fn close<T: Drop, W: Drop, R: Wait, C: ChannelCells<T, W>, S: Wakes<W>>(
     sink: &mut S,
 ) -> bool
     requires form { (f : QueueForm) × C.has_form cells.old f }
+    requires stands { BeginsHere C.stands (first ask.Close) cells.old }
     ensures deeds { WalkedTo (Done C.did S.wakes) (first ask.Close) (cells.old, sink.old) (reply.Closed result) (cells.new, sink.new) }
     ensures form { (f : QueueForm) → C.has_form cells.old f → C.has_form cells.new f }
 {
@@ -203,6 +213,7 @@ pub fn len<T: Drop, W: Drop, R: Wait, C: ChannelCells<T, W>, S: Wakes<W>>(
     sink: &mut S,
 ) -> usize
     requires form { (f : QueueForm) × C.has_form cells.old f }
+    requires stands { BeginsHere C.stands (first ask.Len) cells.old }
     ensures deeds { WalkedTo (Done C.did S.wakes) (first ask.Len) (cells.old, sink.old) (reply.Count result) (cells.new, sink.new) }
     ensures form { (f : QueueForm) → C.has_form cells.old f → C.has_form cells.new f }
 {

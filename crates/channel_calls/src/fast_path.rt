@@ -10,6 +10,7 @@ ghost use Rattle.channel_calls.specs.Walks.{Takes, WalkedOn};
 ghost use Rattle.channel_calls.specs.Asks.{first};
 ghost use Rattle.channel_calls.specs.Marks.{is_up};
 ghost use Rattle.channel_calls.specs.Replies.{FollowsTurn, MayEnd, ReplyAllowed};
+ghost use Rattle.channel_calls.specs.Stands.{BeginsHere};
 ghost use Rattle.channel_calls.specs.declared.ask.ChannelAsk.TheVariants as ask;
 ghost use Rattle.channel_calls.specs.declared.reply.Reply.{Reply};
 ghost use Rattle.channel_calls.specs.declared.stage.Stage.{Stage};
@@ -86,6 +87,7 @@ pub fn send_fast<T: Drop, W: Drop, C: ChannelCells<T, W>, S: Wakes<W>>(
     cells: &mut C,
     sink: &mut S,
 ) -> Result<Reply<T>, ChannelCall<T, W>>
+    requires stands { BeginsHere C.stands (first (ask.TrySend message)) cells.old }
     ensures deeds { WalkedOn (Done C.did S.wakes) (first (ask.TrySend message)) (cells.old, sink.old) result (cells.new, sink.new) }
     ensures answers { (f : QueueForm) → C.has_form cells.old f → MatchResult result (λ r. ReplyAllowed {W = W} f (ask.TrySend message) r None)
         (λ call. (r : Reply T) (m : Option T) → MayEnd f call.stage r m → ReplyAllowed {W = W} f (ask.TrySend message) r m) }
@@ -121,6 +123,7 @@ pub fn displace_fast<T: Drop, W: Drop, C: ChannelCells<T, W>, S: Wakes<W>>(
     cells: &mut C,
     sink: &mut S,
 ) -> Result<Reply<T>, ChannelCall<T, W>>
+    requires stands { BeginsHere C.stands (first (ask.ForceSend message)) cells.old }
     ensures deeds { WalkedOn (Done C.did S.wakes) (first (ask.ForceSend message)) (cells.old, sink.old) result (cells.new, sink.new) }
     ensures answers { (f : QueueForm) → C.has_form cells.old f → MatchResult result (λ r. ReplyAllowed {W = W} f (ask.ForceSend message) r None)
         (λ call. (r : Reply T) (m : Option T) → MayEnd f call.stage r m → ReplyAllowed {W = W} f (ask.ForceSend message) r m) }
@@ -155,6 +158,7 @@ pub fn receive_fast<T: Drop, W: Drop, C: ChannelCells<T, W>, S: Wakes<W>>(
     cells: &mut C,
     sink: &mut S,
 ) -> Result<Reply<T>, ChannelCall<T, W>>
+    requires stands { BeginsHere C.stands (first ask.TryRecv) cells.old }
     ensures deeds { WalkedOn (Done C.did S.wakes) (first ask.TryRecv) (cells.old, sink.old) result (cells.new, sink.new) }
     ensures answers { (f : QueueForm) → C.has_form cells.old f → MatchResult result (λ r. ReplyAllowed {W = W} f ask.TryRecv r None)
         (λ call. (r : Reply T) (m : Option T) → MayEnd f call.stage r m → ReplyAllowed {W = W} f ask.TryRecv r m) }
@@ -187,6 +191,7 @@ pub fn length_fast<T: Drop, W: Drop, C: ChannelCells<T, W>, S: Wakes<W>>(
     cells: &mut C,
     sink: &mut S,
 ) -> Result<Reply<T>, ChannelCall<T, W>>
+    requires stands { BeginsHere C.stands (first ask.Len) cells.old }
     ensures deeds { WalkedOn (Done C.did S.wakes) (first ask.Len) (cells.old, sink.old) result (cells.new, sink.new) }
     ensures answers { (f : QueueForm) → C.has_form cells.old f → MatchResult result (λ r. ReplyAllowed {W = W} f ask.Len r None)
         (λ call. (r : Reply T) (m : Option T) → MayEnd f call.stage r m → ReplyAllowed {W = W} f ask.Len r m) }

@@ -7,8 +7,14 @@ ghost use Rattle.std.specs.Prelude.{◌≡◌, ◌≤◌, ◌<◌, List, MatchRe
 ghost use Rattle.std.specs.Vec.{vec_capacity, vec_ptr};
 ghost use Rattle.concurrent_queue.specs.Replies.{MayPop};
 ghost use Rattle.concurrent_queue.specs.declared.cells.QueueForm.{QueueForm};
+ghost use Rattle.channel_calls.specs.Asks.{first};
 ghost use Rattle.channel_calls.specs.Deeds.{Done, told};
 ghost use Rattle.channel_calls.specs.Filling.{room_in, popped_as, Fills};
+ghost use Rattle.channel_calls.specs.Stands.{BeginsHere};
+ghost use Rattle.channel_calls.specs.declared.ask.ChannelAsk.TheVariants as ask;
+ghost use Rattle.channel_calls.specs.declared.stage.Ending.{Ending};
+ghost use Rattle.channel_calls.specs.declared.stage.ListStep.TheVariants.{TellSends};
+ghost use Rattle.channel_calls.specs.declared.stage.Stage.TheVariants.{Working};
 
 use crate::cells::ChannelCells;
 use crate::error::TryRecvError;
@@ -38,6 +44,7 @@ fn tells<T, W, C: ChannelCells<T, W>, S: Wakes<W>>(
     cells: &mut C,
     sink: &mut S,
 ) -> usize
+    requires stands { (e : Ending T) × C.stands (Working (TellSends taken e)) cells.old }
     ensures count { result ≡ taken }
     ensures deed { (names : List W) × Done C.did S.wakes (told WaitList.Sends (Telling.More taken) names) (cells.old, sink.old) (cells.new, sink.new) }
     ensures form { (f : QueueForm) → C.has_form cells.old f → C.has_form cells.new f }
@@ -55,6 +62,7 @@ pub fn recv_many_into<T: Drop, W: Drop, R: Wait, C: ChannelCells<T, W>, S: Wakes
     sink: &mut S,
 ) -> Result<usize, TryRecvError>
     requires form { (f : QueueForm) × C.has_form cells.old f }
+    requires stands { BeginsHere C.stands (first (ask.RecvMany (room_in into.old))) cells.old }
     ensures deeds { Fills (Done C.did S.wakes) (room_in into.old) into.old.items (cells.old, sink.old) result into.new.items (cells.new, sink.new) }
     ensures most { MatchResult result (λ n. (n ≤ room_in into.old) × (n ≡ 0 → room_in into.old ≡ 0)) (λ _. 0 < room_in into.old) }
     ensures room { vec_capacity into.new ≡ vec_capacity into.old }

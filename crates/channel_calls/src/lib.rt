@@ -13,6 +13,7 @@ pub mod error;
 pub mod fast_path;
 pub mod filling;
 pub mod kind;
+pub mod laws;
 pub mod mark;
 pub mod notices;
 pub mod plain;

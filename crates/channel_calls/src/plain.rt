@@ -154,6 +154,12 @@ impl<T: Drop, W: Drop> ChannelCells<T, W> for PlainChannel<T, W> {
 
     ghost exact = { λ known d a b done. done.0 };
 
+    ghost ready = { λ at next s d stands does. tt };
+
+    ghost leads = { λ at next s t d stands done does. tt };
+
+    ghost rests = { λ at next s stands idles. tt };
+
     fn step_queue(&mut self, call: &mut QueueCall<T>) -> Option<QueueReply<T>> {
         call.step(&mut self.cells)
     }
@@ -228,6 +234,12 @@ impl<T: Drop, W: Drop> ChannelWords<T, W> for PlainChannel<T, W> {
     ghost has_form = { λ c f. f ≡ form_of c };
 
     ghost did = { λ d a b. Does d (parts_of a) (parts_of b) };
+
+    ghost ready = { λ at next s d stands does. tt };
+
+    ghost leads = { λ at next s t d stands done does. tt };
+
+    ghost rests = { λ at next s stands idles. tt };
 
     fn step_words(&mut self, call: &mut QueueCall<T>) -> Option<QueueReply<T>> {
         call.step(&mut self.cells)

@@ -10,6 +10,7 @@ ghost use Rattle.channel_calls.specs.Asks.{first};
 ghost use Rattle.channel_calls.specs.Calls.{SendsOn, send_ask, recv_ask, closed_ask, next_ask};
 ghost use Rattle.channel_calls.specs.Deeds.{Done};
 ghost use Rattle.channel_calls.specs.Listed.{SendLists, is_pending};
+ghost use Rattle.channel_calls.specs.Stands.{BeginsHere};
 ghost use Rattle.channel_calls.specs.Walks.{WalkedFrom, WalkedTo};
 ghost use Rattle.channel_calls.specs.declared.ask.ChannelAsk.TheVariants as ask;
 ghost use Rattle.channel_calls.specs.declared.reply.Reply.{Reply as Answer};
@@ -88,6 +89,7 @@ pub fn poll_send<T: Drop, W: Drop, R: Wait, C: ChannelCells<T, W>, S: Wakes<W>>(
     sink: &mut S,
 ) -> (Poll<Result<(), Refused<SendError<T>>>>, Returned<T>)
     requires form { (f : QueueForm) × C.has_form cells.old f }
+    requires stands { BeginsHere C.stands (first (send_ask message key task)) cells.old }
     ensures deeds { WalkedFrom (Done C.did S.wakes) (first (send_ask message key task)) (cells.old, sink.old) (reply.SendPoll result.0) result.1 (cells.new, sink.new) }
     ensures message { SendsOn message result.0 result.1.message }
     ensures listed { SendLists message result.0 result.1.key }
@@ -111,6 +113,7 @@ pub fn poll_recv<T: Drop, W: Drop, R: Wait, C: ChannelCells<T, W>, S: Wakes<W>>(
     sink: &mut S,
 ) -> (Poll<Result<T, Refused<RecvError>>>, Returned<T>)
     requires form { (f : QueueForm) × C.has_form cells.old f }
+    requires stands { BeginsHere C.stands (first (recv_ask key task)) cells.old }
     ensures deeds { WalkedFrom (Done C.did S.wakes) (first (recv_ask key task)) (cells.old, sink.old) (reply.RecvPoll result.0) result.1 (cells.new, sink.new) }
     ensures listed { is_some result.1.key ≡ is_pending result.0 }
     ensures form { (f : QueueForm) → C.has_form cells.old f → C.has_form cells.new f }
@@ -133,6 +136,7 @@ pub fn poll_closed<T: Drop, W: Drop, R: Wait, C: ChannelCells<T, W>, S: Wakes<W>
     sink: &mut S,
 ) -> (Poll<Result<(), ListenError>>, Returned<T>)
     requires form { (f : QueueForm) × C.has_form cells.old f }
+    requires stands { BeginsHere C.stands (first (closed_ask key task)) cells.old }
     ensures deeds { WalkedFrom (Done C.did S.wakes) (first (closed_ask key task)) (cells.old, sink.old) (reply.ClosedPoll result.0) result.1 (cells.new, sink.new) }
     ensures listed { is_some result.1.key ≡ is_pending result.0 }
     ensures form { (f : QueueForm) → C.has_form cells.old f → C.has_form cells.new f }
@@ -155,6 +159,7 @@ pub fn poll_next<T: Drop, W: Drop, R: Wait, C: ChannelCells<T, W>, S: Wakes<W>>(
     sink: &mut S,
 ) -> (Poll<Option<Result<T, ListenError>>>, Returned<T>)
     requires form { (f : QueueForm) × C.has_form cells.old f }
+    requires stands { BeginsHere C.stands (first (next_ask key task)) cells.old }
     ensures deeds { WalkedFrom (Done C.did S.wakes) (first (next_ask key task)) (cells.old, sink.old) (reply.Next result.0) result.1 (cells.new, sink.new) }
     ensures listed { is_some result.1.key ≡ is_pending result.0 }
     ensures form { (f : QueueForm) → C.has_form cells.old f → C.has_form cells.new f }
@@ -178,6 +183,7 @@ pub fn give_up<T: Drop, W: Drop, R: Wait, C: ChannelCells<T, W>, S: Wakes<W>>(
     sink: &mut S,
 ) -> Option<T>
     requires form { (f : QueueForm) × C.has_form cells.old f }
+    requires stands { BeginsHere C.stands (first (ask.GiveUp line message key)) cells.old }
     ensures deeds { WalkedTo (Done C.did S.wakes) (first (ask.GiveUp line message key)) (cells.old, sink.old) (reply.GivenUp result) (cells.new, sink.new) }
     ensures message { result ≡ message }
     ensures form { (f : QueueForm) → C.has_form cells.old f → C.has_form cells.new f }

@@ -8,6 +8,7 @@ ghost use Rattle.concurrent_queue.specs.Replies.{AsksWords, MayAnswer, room_of};
 ghost use Rattle.concurrent_queue.specs.declared.cells.QueueForm.{QueueForm};
 ghost use Rattle.channel_calls.specs.Answered.{answered_next};
 ghost use Rattle.channel_calls.specs.Asks.{first};
+ghost use Rattle.channel_calls.specs.Stands.{BeginsHere};
 ghost use Rattle.channel_calls.specs.Tried.{Comes};
 ghost use Rattle.channel_calls.specs.Walks.{WalkedTo};
 ghost use Rattle.channel_calls.specs.declared.ask.ChannelAsk.TheVariants as ask;
@@ -28,6 +29,7 @@ fn asks<T: Drop, W: Drop, C: ChannelWords<T, W>>(
 ) -> QueueReply<T>
     requires words { AsksWords question }
     requires form { (f : QueueForm) × C.has_form words.old f }
+    requires stands { (purpose : Purpose T W) × BeginsHere C.stands (turn.Tries question purpose) words.old }
     ensures comes { (purpose : Purpose T W) → Comes C.did (turn.Tries question purpose) words.old (answered_next purpose result) words.new }
     ensures answers { (f : QueueForm) → C.has_form words.old f → MayAnswer f question result }
     ensures form { (f : QueueForm) → C.has_form words.old f → C.has_form words.new f }
@@ -49,6 +51,7 @@ fn asks<T: Drop, W: Drop, C: ChannelWords<T, W>>(
 /// Whether the channel is closed.
 pub fn is_closed<T: Drop, W: Drop, C: ChannelWords<T, W>>(words: &mut C) -> bool
     requires form { (f : QueueForm) × C.has_form words.old f }
+    requires stands { BeginsHere C.stands (first ask.IsClosed) words.old }
     ensures deeds { WalkedTo C.did (first ask.IsClosed) words.old (reply.Flag result) words.new }
     ensures form { (f : QueueForm) → C.has_form words.old f → C.has_form words.new f }
 {
@@ -61,6 +64,7 @@ pub fn is_closed<T: Drop, W: Drop, C: ChannelWords<T, W>>(words: &mut C) -> bool
 /// Whether it holds no message.
 pub fn is_empty<T: Drop, W: Drop, C: ChannelWords<T, W>>(words: &mut C) -> bool
     requires form { (f : QueueForm) × C.has_form words.old f }
+    requires stands { BeginsHere C.stands (first ask.IsEmpty) words.old }
     ensures deeds { WalkedTo C.did (first ask.IsEmpty) words.old (reply.Flag result) words.new }
     ensures form { (f : QueueForm) → C.has_form words.old f → C.has_form words.new f }
 {
@@ -73,6 +77,7 @@ pub fn is_empty<T: Drop, W: Drop, C: ChannelWords<T, W>>(words: &mut C) -> bool
 /// Whether it holds as many messages as its capacity; one without a bound never does.
 pub fn is_full<T: Drop, W: Drop, C: ChannelWords<T, W>>(words: &mut C) -> bool
     requires form { (f : QueueForm) × C.has_form words.old f }
+    requires stands { BeginsHere C.stands (first ask.IsFull) words.old }
     ensures deeds { WalkedTo C.did (first ask.IsFull) words.old (reply.Flag result) words.new }
     ensures bound { (f : QueueForm) → C.has_form words.old f → room_of f ≡ None → result ≡ false }
     ensures form { (f : QueueForm) → C.has_form words.old f → C.has_form words.new f }
@@ -86,6 +91,7 @@ pub fn is_full<T: Drop, W: Drop, C: ChannelWords<T, W>>(words: &mut C) -> bool
 /// How many messages it can hold at most, if there is a bound.
 pub fn capacity<T: Drop, W: Drop, C: ChannelWords<T, W>>(words: &mut C) -> Option<usize>
     requires form { (f : QueueForm) × C.has_form words.old f }
+    requires stands { BeginsHere C.stands (first ask.Capacity) words.old }
     ensures deeds { WalkedTo C.did (first ask.Capacity) words.old (reply.Cap result) words.new }
     ensures room { (f : QueueForm) → C.has_form words.old f → result ≡ room_of f }
     ensures form { (f : QueueForm) → C.has_form words.old f → C.has_form words.new f }
@@ -99,6 +105,7 @@ pub fn capacity<T: Drop, W: Drop, C: ChannelWords<T, W>>(words: &mut C) -> Optio
 /// Whether a receiver got its last message: whether the channel is closed, and then whether it is empty.
 pub fn is_terminated<T: Drop, W: Drop, C: ChannelWords<T, W>>(words: &mut C) -> bool
     requires form { (f : QueueForm) × C.has_form words.old f }
+    requires stands { BeginsHere C.stands (first ask.IsTerminated) words.old }
     ensures deeds { WalkedTo C.did (first ask.IsTerminated) words.old (reply.Flag result) words.new }
     ensures form { (f : QueueForm) → C.has_form words.old f → C.has_form words.new f }
 {
@@ -118,6 +125,7 @@ pub fn is_terminated<T: Drop, W: Drop, C: ChannelWords<T, W>>(words: &mut C) -> 
 
 /// How many strong handles of this kind live.
 pub fn handle_count<T: Drop, W: Drop, C: ChannelWords<T, W>>(side: Side, words: &mut C) -> usize
+    requires stands { BeginsHere C.stands (first (ask.HandleCount side)) words.old }
     ensures deeds { WalkedTo C.did (first (ask.HandleCount side)) words.old (reply.Count result) words.new }
     ensures form { (f : QueueForm) → C.has_form words.old f → C.has_form words.new f }
 {

@@ -10,6 +10,7 @@ ghost use Rattle.std.specs.Prelude.{◌≡◌, IfErr};
 ghost use Rattle.channel_calls.specs.Asks.{first};
 ghost use Rattle.channel_calls.specs.Calls.{made_answer, upgraded_answer};
 ghost use Rattle.channel_calls.specs.Deeds.{Done};
+ghost use Rattle.channel_calls.specs.Stands.{BeginsHere};
 ghost use Rattle.channel_calls.specs.Walks.{Walked, WalkedTo};
 ghost use Rattle.channel_calls.specs.declared.ask.ChannelAsk.TheVariants as ask;
 ghost use Rattle.channel_calls.specs.declared.reply.Reply.{Reply as Answer};
@@ -133,6 +134,7 @@ fn count_again<T: Drop, W: Drop, R: Wait, C: ChannelCells<T, W>, S: Wakes<W>>(
     cells: &mut C,
     sink: &mut S,
 ) -> Reply<T>
+    requires stands { C.stands (Stage.Working (ListStep.Load side Making.Clone)) cells.old }
     ensures deeds { (kept : Left T) × Walked (Done C.did S.wakes) (Stage.Working (ListStep.Load side Making.Clone)) (cells.old, sink.old) result kept (cells.new, sink.new) }
 {
     let call = ChannelCall {
@@ -151,6 +153,7 @@ pub fn clone_handle<K: Kind, T: Drop, W: Drop, R: Wait, C: ChannelCells<T, W>, S
     cells: &mut C,
     sink: &mut S,
 ) -> Result<Raised<K>, HandleError>
+    requires stands { BeginsHere C.stands (first (ask.CloneHandle K.side)) cells.old }
     ensures deeds { (r : Answer T) × WalkedTo (Done C.did S.wakes) (first (ask.CloneHandle K.side)) (cells.old, sink.old) r (cells.new, sink.new) × (result ≡ made_answer r) }
     ensures reason { IfErr result (λ e. e ≡ HandleError.TooMany) }
 {
@@ -171,6 +174,7 @@ pub fn upgrade<K: Kind, T: Drop, W: Drop, R: Wait, C: ChannelCells<T, W>, S: Wak
     cells: &mut C,
     sink: &mut S,
 ) -> Result<Option<Raised<K>>, HandleError>
+    requires stands { BeginsHere C.stands (first (ask.Upgrade K.side)) cells.old }
     ensures deeds { (r : Answer T) × WalkedTo (Done C.did S.wakes) (first (ask.Upgrade K.side)) (cells.old, sink.old) r (cells.new, sink.new) × (result ≡ upgraded_answer r) }
     ensures reason { IfErr result (λ e. e ≡ HandleError.TooMany) }
 {
@@ -187,6 +191,7 @@ fn lowered<T: Drop, W: Drop, R: Wait, C: ChannelCells<T, W>, S: Wakes<W>>(
     cells: &mut C,
     sink: &mut S,
 )
+    requires stands { BeginsHere C.stands (NextStep.Works (ListStep.Lower side stream_key)) cells.old }
     ensures deeds { (r : Answer T) × WalkedTo (Done C.did S.wakes) (NextStep.Works (ListStep.Lower side stream_key)) (cells.old, sink.old) r (cells.new, sink.new) }
 {
     let before = cells.lower(side);
@@ -206,6 +211,7 @@ pub fn drop_sender<T: Drop, W: Drop, R: Wait, C: ChannelCells<T, W>, S: Wakes<W>
     cells: &mut C,
     sink: &mut S,
 )
+    requires stands { BeginsHere C.stands (first ask.DropSender) cells.old }
     ensures deeds { (r : Answer T) × WalkedTo (Done C.did S.wakes) (first ask.DropSender) (cells.old, sink.old) r (cells.new, sink.new) }
 {
     let Raised { one: _, kind: _ } = raised;
@@ -220,6 +226,7 @@ pub fn drop_receiver<T: Drop, W: Drop, R: Wait, C: ChannelCells<T, W>, S: Wakes<
     cells: &mut C,
     sink: &mut S,
 )
+    requires stands { BeginsHere C.stands (first (ask.DropReceiver stream_key)) cells.old }
     ensures deeds { (r : Answer T) × WalkedTo (Done C.did S.wakes) (first (ask.DropReceiver stream_key)) (cells.old, sink.old) r (cells.new, sink.new) }
 {
     let Raised { one: _, kind: _ } = raised;

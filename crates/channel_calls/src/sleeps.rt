@@ -9,6 +9,7 @@ use crate::cells::ChannelCells;
 pub trait Sleeps<T, W>: ChannelCells<T, W> {
     ghost use Rattle.std.specs.Prelude.{Option};
     ghost use Rattle.concurrent_queue.specs.declared.cells.QueueForm.{QueueForm};
+    ghost use Rattle.channel_calls.specs.Stands.{AllowsAll};
 
     /// Whether a task was asked for between these two, with this answer.
     ghost parked: { Option W → Self → Self → Type 0 } = { λ _ _ _. Unit {0} };
@@ -25,4 +26,8 @@ pub trait Sleeps<T, W>: ChannelCells<T, W> {
     fn sleep(&mut self)
         ensures slept { slept self.old self.new }
         ensures form { (f : QueueForm) → Self.has_form self.old f → Self.has_form self.new f };
+
+    /// These cells allow all: a call that blocks is several calls of the machine one after another, and no stage of one call says where
+    /// it stands.
+    ghost free: { AllowsAll Self.stands Self.may };
 }

@@ -81,6 +81,7 @@ fn try_step<T: Drop, W: Drop, C: ChannelCells<T, W>>(
     purpose: Purpose<T, W>,
     cells: &mut C,
 ) -> Stepped<T, W>
+    requires stands { C.stands (Stage.Trying call purpose) cells.old }
     ensures deed { ChannelMakes C.did (Stage.Trying call purpose) cells.old cells.new result.mark result.stage result.reply }
     ensures answers { (f : QueueForm) → C.has_form cells.old f → FollowsStage f (Stage.Trying call purpose) result.stage result.reply }
     ensures form { (f : QueueForm) → C.has_form cells.old f → C.has_form cells.new f }
@@ -102,6 +103,7 @@ fn insert<T: Drop, W: Drop, C: ChannelCells<T, W>>(
     task: W,
     cells: &mut C,
 ) -> Stepped<T, W>
+    requires stands { C.stands (Stage.Working (ListStep.Insert waiting task)) cells.old }
     ensures deed { ChannelMakes C.did (Stage.Working (ListStep.Insert waiting task)) cells.old cells.new result.mark result.stage result.reply }
     ensures answers { (b : QueueForm) → FollowsStage b (Stage.Working (ListStep.Insert waiting task)) result.stage result.reply }
     ensures form { (f : QueueForm) → C.has_form cells.old f → C.has_form cells.new f }
@@ -119,6 +121,7 @@ fn register<T: Drop, W: Drop, C: ChannelCells<T, W>>(
     task: W,
     cells: &mut C,
 ) -> Stepped<T, W>
+    requires stands { C.stands (Stage.Working (ListStep.Register waiting key task)) cells.old }
     ensures deed { ChannelMakes C.did (Stage.Working (ListStep.Register waiting key task)) cells.old cells.new result.mark result.stage result.reply }
     ensures answers { (b : QueueForm) → FollowsStage b (Stage.Working (ListStep.Register waiting key task)) result.stage result.reply }
     ensures form { (f : QueueForm) → C.has_form cells.old f → C.has_form cells.new f }
@@ -148,6 +151,7 @@ fn leave<T: Drop, W: Drop, C: ChannelCells<T, W>, S: Wakes<W>>(
     cells: &mut C,
     sink: &mut S,
 ) -> Stepped<T, W>
+    requires stands { C.stands (Stage.Working (ListStep.Leave ending)) cells.old }
     ensures deed { ChannelMakes (Done C.did S.wakes) (Stage.Working (ListStep.Leave ending)) (cells.old, sink.old) (cells.new, sink.new) result.mark result.stage result.reply }
     ensures answers { (b : QueueForm) → FollowsStage b (Stage.Working (ListStep.Leave ending)) result.stage result.reply }
     ensures form { (f : QueueForm) → C.has_form cells.old f → C.has_form cells.new f }
@@ -167,6 +171,7 @@ fn lower<T: Drop, W: Drop, C: ChannelCells<T, W>>(
     key: Option<Key>,
     cells: &mut C,
 ) -> Stepped<T, W>
+    requires stands { C.stands (Stage.Working (ListStep.Lower side key)) cells.old }
     ensures deed { ChannelMakes C.did (Stage.Working (ListStep.Lower side key)) cells.old cells.new result.mark result.stage result.reply }
     ensures answers { (b : QueueForm) → FollowsStage b (Stage.Working (ListStep.Lower side key)) result.stage result.reply }
     ensures form { (f : QueueForm) → C.has_form cells.old f → C.has_form cells.new f }
@@ -182,6 +187,7 @@ fn raise<T: Drop, W: Drop, C: ChannelCells<T, W>>(
     making: Making,
     cells: &mut C,
 ) -> Stepped<T, W>
+    requires stands { C.stands (Stage.Working (ListStep.Raise side from making)) cells.old }
     ensures deed { ChannelMakes C.did (Stage.Working (ListStep.Raise side from making)) cells.old cells.new result.mark result.stage result.reply }
     ensures answers { (b : QueueForm) → FollowsStage b (Stage.Working (ListStep.Raise side from making)) result.stage result.reply }
     ensures form { (f : QueueForm) → C.has_form cells.old f → C.has_form cells.new f }
@@ -200,6 +206,7 @@ fn work_step<T: Drop, W: Drop, C: ChannelCells<T, W>, S: Wakes<W>>(
     cells: &mut C,
     sink: &mut S,
 ) -> Stepped<T, W>
+    requires stands { C.stands (Stage.Working work) cells.old }
     ensures deed { ChannelMakes (Done C.did S.wakes) (Stage.Working work) (cells.old, sink.old) (cells.new, sink.new) result.mark result.stage result.reply }
     ensures answers { (b : QueueForm) → FollowsStage b (Stage.Working work) result.stage result.reply }
     ensures form { (f : QueueForm) → C.has_form cells.old f → C.has_form cells.new f }
@@ -255,6 +262,7 @@ pub(crate) fn stage_step<T: Drop, W: Drop, C: ChannelCells<T, W>, S: Wakes<W>>(
     cells: &mut C,
     sink: &mut S,
 ) -> Stepped<T, W>
+    requires stands { C.stands stage cells.old }
     ensures deed { ChannelMakes (Done C.did S.wakes) stage (cells.old, sink.old) (cells.new, sink.new) result.mark result.stage result.reply }
     ensures answers { (f : QueueForm) → C.has_form cells.old f → FollowsStage f stage result.stage result.reply }
     ensures form { (f : QueueForm) → C.has_form cells.old f → C.has_form cells.new f }

@@ -4,6 +4,7 @@ ghost use Rattle.concurrent_queue.specs.declared.cells.QueueForm.{QueueForm};
 ghost use Rattle.channel_calls.specs.Asks.{first};
 ghost use Rattle.channel_calls.specs.Deeds.{Done};
 ghost use Rattle.channel_calls.specs.Replies.{MayEnd, ReplyAllowed};
+ghost use Rattle.channel_calls.specs.Stands.{BeginsHere};
 ghost use Rattle.channel_calls.specs.Walks.{Walked, WalkedFrom};
 
 use crate::ask::ChannelAsk;
@@ -33,6 +34,7 @@ pub fn complete<T: Drop, W: Drop, R: Wait, C: ChannelCells<T, W>, S: Wakes<W>>(
     cells: &mut C,
     sink: &mut S,
 ) -> Completed<T>
+    requires stands { C.stands call.stage cells.old }
     ensures deeds { Walked (Done C.did S.wakes) call.stage (cells.old, sink.old) result.reply result.kept (cells.new, sink.new) }
     ensures answers { (f : QueueForm) → C.has_form cells.old f → MayEnd f call.stage result.reply result.kept.message }
     ensures form { (f : QueueForm) → C.has_form cells.old f → C.has_form cells.new f }
@@ -56,6 +58,7 @@ pub fn make<T: Drop, W: Drop, R: Wait, C: ChannelCells<T, W>, S: Wakes<W>>(
     cells: &mut C,
     sink: &mut S,
 ) -> Completed<T>
+    requires stands { BeginsHere C.stands (first ask) cells.old }
     ensures deeds { WalkedFrom (Done C.did S.wakes) (first ask) (cells.old, sink.old) result.reply result.kept (cells.new, sink.new) }
     ensures answers { (f : QueueForm) → C.has_form cells.old f → ReplyAllowed f ask result.reply result.kept.message }
     ensures form { (f : QueueForm) → C.has_form cells.old f → C.has_form cells.new f }

@@ -1,7 +1,8 @@
 //! The parties of a channel: the beginning of a call, and one step of a call under way. [`Step`](crate::run::Step) names the two.
 
-ghost use Rattle.std.specs.Prelude.{◌≡◌, ◌<◌, ◌++◌, ◌∷◌, [], vec_len, vec_capacity};
+ghost use Rattle.std.specs.Prelude.{◌≡◌, ◌<◌, ◌++◌, ◌∷◌, [], Some, slice_get, vec_len, vec_capacity};
 ghost use Rattle.channel_steps.specs.Run.{HasBegun};
+ghost use Rattle.channel_steps.specs.declared.party.Party.{Party as PartyOf};
 ghost use Rattle.channel_steps.specs.Configuration.{parties_in, unless_answered, StepsAt};
 
 use channel_calls::ask::ChannelAsk;
@@ -47,6 +48,7 @@ impl<T: Drop, W: Drop> Party<T, W> {
         cells: &mut C,
         sink: &mut S,
     ) -> Option<Reply<T>>
+        requires stands { C.stands self.old.call.stage cells.old }
         ensures steps { C.known → PartySteps S.wakes (C.parts cells.old) self.old sink.old result (C.parts cells.new) self.new sink.new }
         ensures id { self.new.id ≡ self.old.id }
     {
@@ -104,7 +106,8 @@ pub fn step_at<T: Drop, W: Drop, C: ChannelCells<T, W>, S: Wakes<W>>(
     cells: &mut C,
     sink: &mut S,
 ) -> Entry<T>
-    requires { k < vec_len parties.old }
+    requires within { k < vec_len parties.old }
+    requires stands { (p : PartyOf T W) → slice_get parties.old.items k ≡ Some p → C.stands p.call.stage cells.old }
     ensures steps { C.known → StepsAt S.wakes (C.parts cells.old) parties.old.items k sink.old result (C.parts cells.new) parties.new.items sink.new }
     ensures parties { parties_in parties.new.items ≡ unless_answered k result.reply (parties_in parties.old.items) }
 {

@@ -105,6 +105,12 @@ impl<'a, R: Wait> ChannelCells<u64, u32> for Beside<'a, R> {
 
     ghost exact = { λ unknown. absurd unknown };
 
+    ghost ready = { λ at next s d stands does. tt };
+
+    ghost leads = { λ at next s t d stands done does. tt };
+
+    ghost rests = { λ at next s stands idles. tt };
+
     fn step_queue(&mut self, call: &mut QueueCall<u64>) -> Option<QueueReply<u64>> {
         Some(self.all_steps(call))
     }
@@ -151,6 +157,12 @@ impl<'a, R: Wait> ChannelCells<u64, u32> for Beside<'a, R> {
 impl<'a, R: Wait> ChannelWords<u64, u32> for Beside<'a, R> {
     ghost has_form = { λ c f. f ≡ form_of c.cells.channel };
 
+    ghost ready = { λ at next s d stands does. tt };
+
+    ghost leads = { λ at next s t d stands done does. tt };
+
+    ghost rests = { λ at next s stands idles. tt };
+
     fn step_words(&mut self, call: &mut QueueCall<u64>) -> Option<QueueReply<u64>> {
         self.before();
         self.cells.channel.step_words(call)
@@ -163,6 +175,8 @@ impl<'a, R: Wait> ChannelWords<u64, u32> for Beside<'a, R> {
 }
 
 impl<'a, R: Wait> Sleeps<u64, u32> for Beside<'a, R> {
+    ghost free = { (λ at s. tt, λ d s. tt) };
+
     fn park(&mut self) -> Option<u32> {
         if self.naps < NAPS {
             Some(self.task)

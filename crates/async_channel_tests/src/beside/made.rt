@@ -1,5 +1,7 @@
 //! Each call as handles make it.
 
+ghost use Rattle.channel_calls.specs.Stands.{AllowsAll};
+
 use crate::beside::alone;
 use crate::beside::cells::Beside;
 use crate::beside::kind::{Called, How, Kind};
@@ -169,7 +171,9 @@ fn made<K: Counts, R: Wait, C: ChannelCells<u64, u32>>(
     rt: &R,
     is_clone: bool,
     cells: &mut C,
-) -> Result<Option<Raised<K>>, HandleError> {
+) -> Result<Option<Raised<K>>, HandleError>
+    requires free { AllowsAll C.stands C.may }
+{
     let sink = &mut Woken::new();
     if !is_clone {
         return upgrade(rt, cells, sink);

@@ -80,3 +80,9 @@ returns-in-Err-again-clause-begins g c =
     polls.begun_listens did b start c.in-Err.left tried same c.in-Err.ensures.comes key listens deed c.tries-again.result twice
     (subst (λ (z : Blocked g.row.T.Denot). polls.TriesSo did z listens c.tries-again.result twice) same c.tries-again.ensures.comes)
     c.in-Err-again.left c.in-Err-again.is (c.in-Err-again.ensures.same ∙ same)
+
+pub insert-requires : goal.insert-requires
+insert-requires g c = record { may = λ o. g.met.C.Sleeps.free.1 _ _ }
+
+pub remove-requires : goal.remove-requires
+remove-requires g c = record { may = λ names. g.met.C.Sleeps.free.1 _ _ }

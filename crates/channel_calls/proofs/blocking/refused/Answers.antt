@@ -38,3 +38,6 @@ returns-clause-over g c =
     let leave : ChannelAsk g.row.T.Denot g.row.W.Denot = ask.RefusePoll (line_of (waiting_of c.args.call)) (message_of (waiting_of c.args.call)) (Some c.args.key) in
     polls.refused_over c.args.call c.make.result (may.0 ∙ ap (λ (l : WaitList). refused_reply l listen_error.NoMemory) (line_is g c)) (may.1 ∙ message_is g c)
     (walked_from did (first leave) start c.make.result.reply c.make.result.kept end (polls.leaves_fair g.row.W.Denot c.args.call c.args.key) (returns-clause-leaves g c))
+
+pub make-requires : goal.make-requires
+make-requires g c = record { stands = λ at begins. g.met.C.Sleeps.free.0 at _ }

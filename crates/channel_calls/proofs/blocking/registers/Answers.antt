@@ -39,3 +39,6 @@ returns-clause-same g c = polls.still_same c.args.call c.make.result c.still.res
 
 pub returns-clause-over : goal.returns-clause-over
 returns-clause-over g c = polls.still_over c.args.call c.make.result c.still.result (told g c)
+
+pub make-requires : goal.make-requires
+make-requires g c = record { stands = λ at begins. g.met.C.Sleeps.free.0 at _ }

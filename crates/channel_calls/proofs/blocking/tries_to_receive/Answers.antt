@@ -20,3 +20,6 @@ returns-clause-looked g c =
     let end : g.row.C.Denot × g.row.S.Denot = (c.try_recv.new.cells, c.try_recv.new.sink) in
     polls.looked_as did Receive Receive refl c.received_by.result (received_by c.try_recv.result) c.received_by.ensures start end
     (polls.got_looked did start end c.try_recv.result c.try_recv.ensures.deeds)
+
+pub try_recv-requires-clause-stands : goal.try_recv-requires-clause-stands
+try_recv-requires-clause-stands g c = λ at begins. g.met.C.Sleeps.free.0 at _

@@ -23,3 +23,6 @@ returns-clause-looked g c =
     let end : g.row.C.Denot × g.row.S.Denot = (c.try_send.new.cells, c.try_send.new.sink) in
     polls.looked_as did call call refl c.sent_by.result (sent_by c.try_send.result) c.sent_by.ensures start end
     (polls.sent_looked did c.args.message (is_bounded c.requires.form.0) start end c.try_send.result (c.try_send.ensures.refused c.requires.form.0 c.requires.form.1) c.try_send.ensures.deeds)
+
+pub try_send-requires-clause-stands : goal.try_send-requires-clause-stands
+try_send-requires-clause-stands g c = λ at begins. g.met.C.Sleeps.free.0 at _

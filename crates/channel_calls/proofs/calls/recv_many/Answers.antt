@@ -8,6 +8,7 @@ use Rattle.channel_calls.specs.declared.ask.ChannelAsk.TheVariants as ask
 use Rattle.channel_calls.specs.declared.error.Refused.TheVariants.{Plain}
 use Rattle.channel_calls.specs.declared.reply.Reply.TheVariants as reply
 use Rattle.channel_calls.proofs.Gathering.{none_had}
+use Rattle.channel_calls.specs.Stands.{BeginsHere}
 use Rattle.channel_calls.proofs.calls.recv_many.Goals as goal
 
 pub returns-in_default-clause-deeds : goal.returns-in_default-clause-deeds
@@ -39,3 +40,10 @@ returns-in-Err-clause-deeds g c =
     let len = c.in-Ok.ensures.len in
     let room : room_in c.in-Ok.messages ≡ c.args.limit = omega (arith, exact, len) in
     subst (λ (n : ℕ). let a : ChannelAsk g.row.T.Denot g.row.W.Denot = ask.RecvMany n in WalkedTo did (first a) start (reply.RecvMany (Err (Plain c.in-Err.error))) end) room fills.2.1
+
+pub recv_many_into-requires-clause-stands : goal.recv_many_into-requires-clause-stands
+recv_many_into-requires-clause-stands g c =
+    let exact = c.in-Ok.ensures.exact in
+    let len = c.in-Ok.ensures.len in
+    let room : room_in c.in-Ok.messages ≡ c.args.limit = omega (arith, exact, len) in
+    subst (λ (n : ℕ). let a : ChannelAsk g.row.T.Denot g.row.W.Denot = ask.RecvMany n in BeginsHere g.C.ChannelCells.stands (first a) c.args.cells.now) (sym room) c.requires.stands

@@ -1,4 +1,4 @@
-use Rattle.std.proofs.Common.{◌≡◌, refl, ap, ◌∙◌, subst, Option, Some, Ok}
+use Rattle.std.proofs.Common.{◌≡◌, refl, ap, ◌∙◌, subst, Option, Some, Ok, None}
 use Rattle.channel_calls.specs.Deeds.{stepped, Done}
 use Rattle.channel_calls.proofs.Walking as walking
 use Rattle.concurrent_queue.specs.Step.{mark_of}
@@ -15,6 +15,7 @@ use Rattle.channel_calls.specs.declared.stage.Stage.TheVariants.{Trying, Working
 use Rattle.channel_calls.specs.declared.stage.ListStep.TheVariants.{TellReceive, TellStreams}
 use Rattle.channel_calls.proofs.Replying as replying
 use Rattle.channel_calls.proofs.FastPathSteps as fast
+use Rattle.channel_calls.proofs.Standing as standing
 use Rattle.channel_calls.proofs.fast_path.displace_fast.Goals as goal
 
 pub returns-in-None-clause-answers : goal.returns-in-None-clause-answers
@@ -83,3 +84,29 @@ returns-in-Err-clause-deeds g c =
     walking.answers did (c.args.cells.now, k) (c.step_queue-answer.new.self, k) (queue_ask.ForcePush c.args.message) purpose.ForceSend c.force_push-call.result c.step_queue-answer.new.call
     c.force_push-call.ensures.starts c.force_push-call.ensures.asked _ (c.step_queue-answer.ensures.deed, refl) c.in-Err.answer is _ c.forced_next.ensures
     (fast.keeps_by _ _ c.forced_next.ensures (fast.forced_keeps c.in-Err.answer)) _ c.turned.ensures.goes
+
+pub step_queue-answer-requires : goal.step_queue-answer-requires
+step_queue-answer-requires g c = record { may = standing.begun_ready g.C.ChannelCells.stands g.C.ChannelCells.may g.met.C.ChannelCells.ready c.args.cells.now (queue_ask.ForcePush c.args.message) purpose.ForceSend c.requires.stands c.force_push-call.result c.force_push-call.ensures.starts c.force_push-call.ensures.asked }
+
+pub tell-requires : goal.tell-requires
+tell-requires g c =
+    let s1 = c.step_queue-answer.new.self in
+    let ending = says (reply.ForceSend (Ok c.in-Ok.old)) in
+    let is : c.step_queue-answer.result ≡ Some (Force (Ok c.in-Ok.old)) = c.in-Some.is ∙ ap (λ (z : QueueReply g.row.T.Denot). Some z) c.in-Ok.ensures in
+    let tells : g.C.ChannelCells.stands (Working (TellReceive ending)) s1 =
+    standing.asked_on g.C.ChannelCells.stands g.C.ChannelCells.did g.met.C.ChannelCells.leads g.met.C.ChannelCells.rests c.args.cells.now s1 (queue_ask.ForcePush c.args.message) purpose.ForceSend c.requires.stands c.force_push-call.result c.step_queue-answer.new.call
+    c.force_push-call.ensures.starts c.force_push-call.ensures.asked _ c.step_queue-answer.ensures.deed (Force (Ok c.in-Ok.old)) is (Working (TellReceive ending)) None (refl, refl)
+    in
+    record { may = standing.tell_receive_ready g.C.ChannelCells.stands g.C.ChannelCells.may g.met.C.ChannelCells.ready s1 ending tells }
+
+pub tell-requires-in-Ok : goal.tell-requires-in-Ok
+tell-requires-in-Ok g c =
+    let s1 = c.step_queue-answer.new.self in
+    let ending = says (reply.ForceSend (Ok c.in-Ok.old)) in
+    let is : c.step_queue-answer.result ≡ Some (Force (Ok c.in-Ok.old)) = c.in-Some.is ∙ ap (λ (z : QueueReply g.row.T.Denot). Some z) c.in-Ok.ensures in
+    let tells : g.C.ChannelCells.stands (Working (TellReceive ending)) s1 =
+    standing.asked_on g.C.ChannelCells.stands g.C.ChannelCells.did g.met.C.ChannelCells.leads g.met.C.ChannelCells.rests c.args.cells.now s1 (queue_ask.ForcePush c.args.message) purpose.ForceSend c.requires.stands c.force_push-call.result c.step_queue-answer.new.call
+    c.force_push-call.ensures.starts c.force_push-call.ensures.asked _ c.step_queue-answer.ensures.deed (Force (Ok c.in-Ok.old)) is (Working (TellReceive ending)) None (refl, refl)
+    in
+    let told = c.tell.ensures.deed in
+    record { may = standing.tell_streams_ready g.C.ChannelCells.stands g.C.ChannelCells.may g.met.C.ChannelCells.ready c.tell.new.self ending (standing.told_on g.C.ChannelCells.stands g.C.ChannelCells.did g.met.C.ChannelCells.leads g.met.C.ChannelCells.rests s1 c.tell.new.self ending tells told.0 told.1) }

@@ -6,6 +6,7 @@ use Rattle.channel_calls.specs.declared.ask.ChannelAsk.TheVariants as ask
 use Rattle.channel_calls.specs.declared.stage.Purpose.TheVariants as purpose
 use Rattle.channel_calls.proofs.Replying as replying
 use Rattle.channel_calls.proofs.FastPathSteps as fast
+use Rattle.channel_calls.proofs.Standing as standing
 use Rattle.channel_calls.proofs.fast_path.length_fast.Goals as goal
 
 pub returns-in-None-clause-answers : goal.returns-in-None-clause-answers
@@ -37,3 +38,6 @@ returns-in-Some-clause-deeds g c =
     walking.answers did (c.args.cells.now, k) (c.step_queue-answer.new.self, k) queue_ask.Len purpose.Ask c.len-call.result c.step_queue-answer.new.call
     c.len-call.ensures.starts c.len-call.ensures.asked _ (c.step_queue-answer.ensures.deed, refl) c.in-Some.answer c.in-Some.is _ c.asked_next.ensures
     (fast.keeps_by _ _ c.asked_next.ensures (fast.asked_keeps c.in-Some.answer)) _ c.turned.ensures.goes
+
+pub step_queue-answer-requires : goal.step_queue-answer-requires
+step_queue-answer-requires g c = record { may = standing.begun_ready g.C.ChannelCells.stands g.C.ChannelCells.may g.met.C.ChannelCells.ready c.args.cells.now queue_ask.Len purpose.Ask c.requires.stands c.len-call.result c.len-call.ensures.starts c.len-call.ensures.asked }

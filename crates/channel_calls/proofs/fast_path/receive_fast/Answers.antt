@@ -1,4 +1,4 @@
-use Rattle.std.proofs.Common.{◌≡◌, refl, ap, ◌∙◌, subst, Option, Some, Ok}
+use Rattle.std.proofs.Common.{◌≡◌, refl, ap, ◌∙◌, subst, Option, Some, Ok, None}
 use Rattle.channel_calls.specs.Deeds.{stepped, Done}
 use Rattle.channel_calls.proofs.Walking as walking
 use Rattle.concurrent_queue.specs.Step.{mark_of}
@@ -15,6 +15,7 @@ use Rattle.channel_calls.specs.declared.stage.Stage.TheVariants.{Trying, Working
 use Rattle.channel_calls.specs.declared.stage.ListStep.TheVariants.{TellSend}
 use Rattle.channel_calls.proofs.Replying as replying
 use Rattle.channel_calls.proofs.FastPathSteps as fast
+use Rattle.channel_calls.proofs.Standing as standing
 use Rattle.channel_calls.proofs.fast_path.receive_fast.Goals as goal
 
 pub returns-in-None-clause-answers : goal.returns-in-None-clause-answers
@@ -75,3 +76,17 @@ returns-in-Err-clause-deeds g c =
     walking.answers did (c.args.cells.now, k) (c.step_queue-answer.new.self, k) queue_ask.Pop purpose.TryRecv c.pop-call.result c.step_queue-answer.new.call
     c.pop-call.ensures.starts c.pop-call.ensures.asked _ (c.step_queue-answer.ensures.deed, refl) c.in-Err.answer is _ c.received_next.ensures
     (fast.keeps_by _ _ c.received_next.ensures (fast.received_keeps c.in-Err.answer)) _ c.turned.ensures.goes
+
+pub step_queue-answer-requires : goal.step_queue-answer-requires
+step_queue-answer-requires g c = record { may = standing.begun_ready g.C.ChannelCells.stands g.C.ChannelCells.may g.met.C.ChannelCells.ready c.args.cells.now queue_ask.Pop purpose.TryRecv c.requires.stands c.pop-call.result c.pop-call.ensures.starts c.pop-call.ensures.asked }
+
+pub tell-requires : goal.tell-requires
+tell-requires g c =
+    let s1 = c.step_queue-answer.new.self in
+    let ending = says (reply.TryRecv (Ok c.in-Ok.message)) in
+    let is : c.step_queue-answer.result ≡ Some (Pop (Ok c.in-Ok.message)) = c.in-Some.is ∙ ap (λ (z : QueueReply g.row.T.Denot). Some z) c.in-Ok.ensures in
+    let tells : g.C.ChannelCells.stands (Working (TellSend ending)) s1 =
+    standing.asked_on g.C.ChannelCells.stands g.C.ChannelCells.did g.met.C.ChannelCells.leads g.met.C.ChannelCells.rests c.args.cells.now s1 queue_ask.Pop purpose.TryRecv c.requires.stands c.pop-call.result c.step_queue-answer.new.call
+    c.pop-call.ensures.starts c.pop-call.ensures.asked _ c.step_queue-answer.ensures.deed (Pop (Ok c.in-Ok.message)) is (Working (TellSend ending)) None (refl, refl)
+    in
+    record { may = standing.tell_send_ready g.C.ChannelCells.stands g.C.ChannelCells.may g.met.C.ChannelCells.ready s1 ending tells }

@@ -15,6 +15,8 @@ use Rattle.channel_calls.specs.declared.reply.Reply.TheVariants as reply
 use Rattle.channel_calls.specs.declared.stage.Telling.TheVariants.{More}
 use Rattle.channel_calls.specs.declared.stage.WaitList.TheVariants.{Sends}
 use Rattle.channel_calls.proofs.Gathering as gathering
+use Rattle.channel_calls.specs.declared.stage.Purpose.TheVariants.{RecvMany}
+use Rattle.channel_calls.proofs.Standing as standing
 use Rattle.channel_calls.proofs.filling.recv_many_into.Goals as goal
 
 pub returns-then-before-capacity-clause-deeds : goal.returns-then-before-capacity-clause-deeds
@@ -188,3 +190,53 @@ returns-in-Err-clause-deeds g c =
             (subst (λ (n : ℕ). did (told Sends (More n) heard.0) there end) number heard.1),
       ),
     )
+
+pub step_queue-requires : goal.step_queue-requires
+step_queue-requires g c =
+    let i = c.loop.invariant in
+    let start : g.row.C.Denot × g.row.S.Denot = (c.args.cells.now, c.args.sink.now) in
+    let here : g.row.C.Denot × g.row.S.Denot = (c.loop.cells, c.loop.sink) in
+    let stands = standing.gathers_at g.C.ChannelCells.stands g.C.ChannelCells.did g.met.C.ChannelCells.leads g.met.C.ChannelCells.rests g.S.Wakes.wakes (room_in c.args.into.now) start c.loop.call i.0 i.1 here c.requires.stands i.3 in
+    record { may = standing.step_ready g.C.ChannelCells.stands g.C.ChannelCells.may g.met.C.ChannelCells.ready c.loop.cells c.loop.call (RecvMany (gathering.with_these i.0 i.1)) stands }
+
+pub tells-requires : goal.tells-requires
+tells-requires g c =
+    let i = c.loop.invariant in
+    let start : g.row.C.Denot × g.row.S.Denot = (c.args.cells.now, c.args.sink.now) in
+    let here : g.row.C.Denot × g.row.S.Denot = (c.loop.cells, c.loop.sink) in
+    let stands = standing.gathers_at g.C.ChannelCells.stands g.C.ChannelCells.did g.met.C.ChannelCells.leads g.met.C.ChannelCells.rests g.S.Wakes.wakes (room_in c.args.into.now) start c.loop.call i.0 i.1 here c.requires.stands i.3 in
+    let v = c.in-Ok.message in
+    let vs = i.0 ++ v ∷ [] in
+    let t = c.step_queue.new.self in
+    let deed = subst (λ (y : QueueReply g.row.T.Denot). g.C.ChannelCells.did (stepped c.loop.call c.step_queue.new.call (Some y)) c.loop.cells t) c.in-Ok.ensures c.in-Some-step_queue.ensures.deed in
+    let as_long = i.2.1 in
+    let fits = i.2.2 in
+    let before = i.2.5 in
+    let pushed = c.push_reserved.ensures.len in
+    let same = c.push_reserved.ensures.capacity in
+    let len = c.len.ensures in
+    let cap = c.capacity-in-Ok.ensures in
+    let full = c.if-len-capacity.true in
+    let last : i.1 ≡ 0 = omega (arith, fits, pushed, same, len, cap, full) in
+    let long = gathering.one_longer i.0 v in
+    let len_too = c.len-then-len-capacity.ensures in
+    let number : c.len-then-len-capacity.result - c.len-before.result ≡ length vs = omega (arith, long, len_too, pushed, as_long, before) in
+    record { stands = standing.hands_on g.C.ChannelCells.stands g.C.ChannelCells.did g.met.C.ChannelCells.leads g.met.C.ChannelCells.rests c.loop.cells t c.loop.call c.step_queue.new.call (gathering.with_these i.0 i.1) stands (Pop (Ok v)) deed vs (gathering.ends_full v i.0 i.1 last) _ number }
+
+pub tells-requires-in-Err : goal.tells-requires-in-Err
+tells-requires-in-Err g c =
+    let i = c.loop.invariant in
+    let start : g.row.C.Denot × g.row.S.Denot = (c.args.cells.now, c.args.sink.now) in
+    let here : g.row.C.Denot × g.row.S.Denot = (c.loop.cells, c.loop.sink) in
+    let stands = standing.gathers_at g.C.ChannelCells.stands g.C.ChannelCells.did g.met.C.ChannelCells.leads g.met.C.ChannelCells.rests g.S.Wakes.wakes (room_in c.args.into.now) start c.loop.call i.0 i.1 here c.requires.stands i.3 in
+    let e = c.in-Err.error in
+    let t = c.step_queue.new.self in
+    let deed = subst (λ (y : QueueReply g.row.T.Denot). g.C.ChannelCells.did (stepped c.loop.call c.step_queue.new.call (Some y)) c.loop.cells t) c.in-Err.ensures c.in-Some-step_queue.ensures.deed in
+    let as_long = i.2.1 in
+    let before = i.2.5 in
+    let len = c.len-in-Err.ensures in
+    let len_too = c.len-in-Err-2.ensures in
+    let more = c.if-len-before.false in
+    let number : c.len-in-Err-2.result - c.len-before.result ≡ length i.0 = omega (arith, as_long, before, len_too) in
+    let some : length i.0 ≡ 0 → ⊥ = λ none. omega (arith, none, as_long, before, len, more) in
+    record { stands = standing.hands_on g.C.ChannelCells.stands g.C.ChannelCells.did g.met.C.ChannelCells.leads g.met.C.ChannelCells.rests c.loop.cells t c.loop.call c.step_queue.new.call (gathering.with_these i.0 i.1) stands (popped_as (Err e)) deed i.0 (gathering.ends_short e i.0 i.1 some) _ number }

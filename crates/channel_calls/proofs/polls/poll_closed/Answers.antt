@@ -1,4 +1,4 @@
-use Rattle.std.proofs.Common.{subst}
+use Rattle.std.proofs.Common.{subst, sym}
 use Rattle.channel_calls.specs.Asks.{first}
 use Rattle.channel_calls.specs.Calls.{closed_ask}
 use Rattle.channel_calls.specs.Deeds.{Done}
@@ -8,6 +8,7 @@ use Rattle.channel_calls.specs.declared.ask.ChannelAsk.{ChannelAsk}
 use Rattle.channel_calls.proofs.Listed as lists
 use Rattle.channel_calls.proofs.PollFacts as facts
 use Rattle.channel_calls.proofs.Walking.{answered_as}
+use Rattle.channel_calls.specs.Stands.{BeginsHere}
 use Rattle.channel_calls.proofs.polls.poll_closed.Goals as goal
 
 pub returns-clause-deeds : goal.returns-clause-deeds
@@ -37,3 +38,6 @@ returns-clause-listed g c =
     let start : g.row.C.Denot × g.row.S.Denot = (c.args.cells.now, c.args.sink.now) in
     let end : g.row.C.Denot × g.row.S.Denot = (c.make-given.new.cells, c.make-given.new.sink) in
     lists.closed_lists did c.args.key c.args.task start c.make-given.result.kept end c.in-ClosedPoll.polled (returns-clause-deeds g c)
+
+pub make-given-requires : goal.make-given-requires
+make-given-requires g c = record { stands = subst (λ (a : ChannelAsk g.row.T.Denot g.row.W.Denot). BeginsHere g.C.ChannelCells.stands (first a) c.args.cells.now) (sym c.closed_ask-ask.ensures) c.requires.stands }

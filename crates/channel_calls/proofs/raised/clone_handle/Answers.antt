@@ -8,6 +8,8 @@ use Rattle.channel_calls.specs.declared.stage.Making.TheVariants.{Clone}
 use Rattle.channel_calls.specs.declared.stage.Side.{Side}
 use Rattle.channel_calls.specs.declared.stage.NextStep.TheVariants.{Works}
 use Rattle.channel_calls.specs.declared.stage.ListStep.TheVariants.{Load}
+use Rattle.channel_calls.specs.declared.stage.Stage.TheVariants.{Working}
+use Rattle.channel_calls.proofs.Standing as standing
 use Rattle.channel_calls.proofs.raised.clone_handle.Goals as goal
 
 pub returns-then-is_too_many-clause-deeds : goal.returns-then-is_too_many-clause-deeds
@@ -47,3 +49,30 @@ returns-clause-deeds g c =
     let rest = c.count_again.ensures.deeds in
     let walked = again did c.side-side.result c.count-count.result s x t (c.count-count.ensures.deed, refl) fits (refuses, refl) r rest.0 u rest.1 in
     (r, subst (λ (side : Side). WalkedTo did (Works (Load side Clone)) s r u) c.side-side.ensures walked, c.made_answer.ensures)
+
+pub count-count-requires : goal.count-count-requires
+count-count-requires g c =
+    let side = c.side-side.result in
+    let h = subst (λ (x : Side). g.C.ChannelCells.stands (Working (Load x Clone)) c.args.cells.now) (sym c.side-side.ensures) (c.requires.stands (Working (Load g.K.Kind.side Clone)) (refl, refl)) in
+    record { may = standing.load_ready g.C.ChannelCells.stands g.C.ChannelCells.may g.met.C.ChannelCells.ready c.args.cells.now side Clone h }
+
+pub raise-requires : goal.raise-requires
+raise-requires g c =
+    let side = c.side-side.result in
+    let h = subst (λ (x : Side). g.C.ChannelCells.stands (Working (Load x Clone)) c.args.cells.now) (sym c.side-side.ensures) (c.requires.stands (Working (Load g.K.Kind.side Clone)) (refl, refl)) in
+    let n = c.count-count.result in
+    let s1 = c.count-count.new.self in
+    let fits : nat_lt most n ≡ false = sym c.is_too_many.ensures ∙ c.if-is_too_many.false in
+    let raises = standing.reads_on g.C.ChannelCells.stands g.C.ChannelCells.did g.met.C.ChannelCells.leads g.met.C.ChannelCells.rests c.args.cells.now s1 side n h c.count-count.ensures.deed fits in
+    record { may = standing.raise_ready g.C.ChannelCells.stands g.C.ChannelCells.may g.met.C.ChannelCells.ready s1 side n Clone raises }
+
+pub count_again-requires : goal.count_again-requires
+count_again-requires g c =
+    let side = c.side-side.result in
+    let h = subst (λ (x : Side). g.C.ChannelCells.stands (Working (Load x Clone)) c.args.cells.now) (sym c.side-side.ensures) (c.requires.stands (Working (Load g.K.Kind.side Clone)) (refl, refl)) in
+    let n = c.count-count.result in
+    let s1 = c.count-count.new.self in
+    let fits : nat_lt most n ≡ false = sym c.is_too_many.ensures ∙ c.if-is_too_many.false in
+    let raises = standing.reads_on g.C.ChannelCells.stands g.C.ChannelCells.did g.met.C.ChannelCells.leads g.met.C.ChannelCells.rests c.args.cells.now s1 side n h c.count-count.ensures.deed fits in
+    let refuses : g.C.ChannelCells.did (raised side n false) s1 c.raise.new.self = subst (λ (b : Bool). g.C.ChannelCells.did (raised side n b) s1 c.raise.new.self) c.if-raise.false c.raise.ensures.deed in
+    record { stands = standing.raises_on g.C.ChannelCells.stands g.C.ChannelCells.did g.met.C.ChannelCells.leads g.met.C.ChannelCells.rests s1 c.raise.new.self side n raises refuses }

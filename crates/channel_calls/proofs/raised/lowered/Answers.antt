@@ -8,6 +8,9 @@ use Rattle.channel_calls.specs.Walks.{Takes}
 use Rattle.channel_calls.specs.declared.reply.Reply.TheVariants.{Unit}
 use Rattle.channel_calls.specs.declared.stage.Stage.TheVariants.{Finished}
 use Rattle.channel_calls.specs.declared.stage.NextStep.{NextStep}
+use Rattle.channel_calls.specs.declared.stage.ListStep.TheVariants.{Lower}
+use Rattle.channel_calls.specs.declared.stage.Stage.TheVariants.{Working}
+use Rattle.channel_calls.proofs.Standing as standing
 use Rattle.channel_calls.proofs.raised.lowered.Goals as goal
 
 pub returns-then-is_none : goal.returns-then-is_none
@@ -43,3 +46,12 @@ returns-in-Err g c =
         lowers_on did c.args.side c.lower-before.result c.args.stream_key s t (c.lower-before.ensures.deed, refl) c.in-Err.call.stage takes c.complete.result.reply c.complete.result.kept (c.complete.new.cells, c.complete.new.sink) c.complete.ensures.deeds,
       );
     }
+
+pub lower-before-requires : goal.lower-before-requires
+lower-before-requires g c = record { may = standing.lower_ready g.C.ChannelCells.stands g.C.ChannelCells.may g.met.C.ChannelCells.ready c.args.cells.now c.args.side c.args.stream_key (c.requires.stands (Working (Lower c.args.side c.args.stream_key)) (refl, refl)) }
+
+pub complete-requires : goal.complete-requires
+complete-requires g c = record {
+  stands = standing.lowers_on g.C.ChannelCells.stands g.C.ChannelCells.did g.met.C.ChannelCells.leads g.met.C.ChannelCells.rests c.args.cells.now c.lower-before.new.self c.args.side c.args.stream_key c.lower-before.result
+      (c.requires.stands (Working (Lower c.args.side c.args.stream_key)) (refl, refl)) c.lower-before.ensures.deed _ c.lowered_next.ensures c.in-Err.call.stage c.in-Err.ensures.goes.0;
+}

@@ -1,10 +1,12 @@
-use Rattle.std.proofs.Common.{refl, ap}
+use Rattle.std.proofs.Common.{refl, ap, subst}
 use Rattle.channel_calls.specs.declared.reply.Reply.TheVariants as reply
 use Rattle.channel_calls.specs.declared.stage.Returned.{Returned}
 use Rattle.channel_calls.specs.declared.stage.NextStep.TheVariants.{Works, Ends}
 use Rattle.channel_calls.specs.declared.stage.ListStep.TheVariants.{TellReceive, TellStreams, TellSend, TellSends, TakeRoom, TellAll, Insert, Register, Leave, Lower, Count, Load, Raise}
 use Rattle.channel_calls.specs.declared.stage.Stage.TheVariants.{Working}
 use Rattle.channel_calls.proofs.Replying as replying
+use Rattle.channel_calls.specs.declared.stage.ListStep.{ListStep}
+use Rattle.channel_calls.proofs.Standing as standing
 use Rattle.channel_calls.proofs.step.work_step.Goals as goal
 
 pub returns-in-TellReceive-clause-answers : goal.returns-in-TellReceive-clause-answers
@@ -45,3 +47,45 @@ returns-in-Count-clause-answers g c b = replying.at_work _ b _ (Count c.in-Count
 
 pub returns-in-Load-clause-answers : goal.returns-in-Load-clause-answers
 returns-in-Load-clause-answers g c b = replying.at_work _ b _ (Load c.in-Load.side c.in-Load.making) c.in-Load.is _ _ (replying.through _ b _ _ c.loaded_next.ensures (Working (Load c.in-Load.side c.in-Load.making)) _ _ (c.takes-in-Load.ensures.follows b) (λ r m t. replying.loaded _ b c.in-Load.side c.in-Load.making _ r m t))
+
+pub tell-requires : goal.tell-requires
+tell-requires g c = record {
+  may = standing.tell_receive_ready g.C.ChannelCells.stands g.C.ChannelCells.may g.met.C.ChannelCells.ready c.args.cells.now c.in-TellReceive.ending
+      (subst (λ (w : ListStep g.row.T.Denot g.row.W.Denot). g.C.ChannelCells.stands (Working w) c.args.cells.now) c.in-TellReceive.is c.requires.stands);
+}
+
+pub tell-requires-in-TellStreams : goal.tell-requires-in-TellStreams
+tell-requires-in-TellStreams g c = record {
+  may = standing.tell_streams_ready g.C.ChannelCells.stands g.C.ChannelCells.may g.met.C.ChannelCells.ready c.args.cells.now c.in-TellStreams.ending
+      (subst (λ (w : ListStep g.row.T.Denot g.row.W.Denot). g.C.ChannelCells.stands (Working w) c.args.cells.now) c.in-TellStreams.is c.requires.stands);
+}
+
+pub tell-requires-in-TellSend : goal.tell-requires-in-TellSend
+tell-requires-in-TellSend g c = record {
+  may = standing.tell_send_ready g.C.ChannelCells.stands g.C.ChannelCells.may g.met.C.ChannelCells.ready c.args.cells.now c.in-TellSend.ending
+      (subst (λ (w : ListStep g.row.T.Denot g.row.W.Denot). g.C.ChannelCells.stands (Working w) c.args.cells.now) c.in-TellSend.is c.requires.stands);
+}
+
+pub tell-requires-in-TellSends : goal.tell-requires-in-TellSends
+tell-requires-in-TellSends g c = record {
+  may = standing.tell_sends_ready g.C.ChannelCells.stands g.C.ChannelCells.may g.met.C.ChannelCells.ready c.args.cells.now c.in-TellSends.count c.in-TellSends.ending
+      (subst (λ (w : ListStep g.row.T.Denot g.row.W.Denot). g.C.ChannelCells.stands (Working w) c.args.cells.now) c.in-TellSends.is c.requires.stands);
+}
+
+pub tell-requires-in-TellAll : goal.tell-requires-in-TellAll
+tell-requires-in-TellAll g c = record {
+  may = standing.tell_all_ready g.C.ChannelCells.stands g.C.ChannelCells.may g.met.C.ChannelCells.ready c.args.cells.now c.in-TellAll.line c.in-TellAll.closer
+      (subst (λ (w : ListStep g.row.T.Denot g.row.W.Denot). g.C.ChannelCells.stands (Working w) c.args.cells.now) c.in-TellAll.is c.requires.stands);
+}
+
+pub count-count-requires : goal.count-count-requires
+count-count-requires g c = record {
+  may = standing.count_ready g.C.ChannelCells.stands g.C.ChannelCells.may g.met.C.ChannelCells.ready c.args.cells.now c.in-Count.side
+      (subst (λ (w : ListStep g.row.T.Denot g.row.W.Denot). g.C.ChannelCells.stands (Working w) c.args.cells.now) c.in-Count.is c.requires.stands);
+}
+
+pub count-count-requires-in-Load : goal.count-count-requires-in-Load
+count-count-requires-in-Load g c = record {
+  may = standing.load_ready g.C.ChannelCells.stands g.C.ChannelCells.may g.met.C.ChannelCells.ready c.args.cells.now c.in-Load.side c.in-Load.making
+      (subst (λ (w : ListStep g.row.T.Denot g.row.W.Denot). g.C.ChannelCells.stands (Working w) c.args.cells.now) c.in-Load.is c.requires.stands);
+}

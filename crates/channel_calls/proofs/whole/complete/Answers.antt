@@ -6,6 +6,7 @@ use Rattle.channel_calls.specs.Deeds.{Done}
 use Rattle.channel_calls.specs.Walks.{ChannelMakes}
 use Rattle.channel_calls.specs.declared.reply.Reply.{Reply}
 use Rattle.channel_calls.proofs.Walking.{leads_on}
+use Rattle.channel_calls.proofs.Standing as standing
 use Rattle.channel_calls.proofs.whole.complete.Goals as goal
 
 pub returns-in-Some-answer-clause-deeds : goal.returns-in-Some-answer-clause-deeds
@@ -44,4 +45,5 @@ loop-preserved g c =
       λ f has. c.step-answer.ensures.form f (c.loop.invariant.1 f has),
       λ f has r m may. c.loop.invariant.2 f has r m
           (subst (λ (o : Option (Reply g.row.T.Denot)). FollowsStage f c.loop.call.stage now.stage o) c.in_default.is (c.step-answer.ensures.answers f (c.loop.invariant.1 f has)) r m may),
+      standing.made_on g.C.ChannelCells.stands g.C.ChannelCells.did g.met.C.ChannelCells.leads g.met.C.ChannelCells.rests g.S.Wakes.wakes here there now.mark now.stage None c.loop.call.stage c.loop.invariant.3 deed,
     )

@@ -32,3 +32,10 @@ returns-clause-parties g c =
     let after : c.match-reply.parties.items ≡ after_step ps.items c.args.k next c.step-reply.result =
     elim c.match-reply.branch [ in-Some w ↦ rw (w.in-Some.is, w.parties-is, w.remove.ensures.items) (remove-set ps.items c.args.k _) | in-None w ↦ rw (w.in-None.is, w.parties-is) refl ] in
     rw after (ids_after ps.items c.args.k x next there c.step-reply.ensures.id c.step-reply.result)
+
+pub step-reply-requires : goal.step-reply-requires
+step-reply-requires g c =
+    let x = c.index_mut-party.result.now in
+    let ps = c.args.parties.now in
+    let there = slice_get_read ps.items ps.len c.args.k x (omega (arith, ps.ok.0)) (search rules) c.index_mut-party.ensures.value in
+    record { stands = c.requires.stands x there }
