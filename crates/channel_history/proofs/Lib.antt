@@ -5,3 +5,5 @@ mod Keeping
 mod Sections
 mod Joining
 mod Splitting
+mod Saying
+mod Runs

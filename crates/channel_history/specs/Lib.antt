@@ -1,4 +1,5 @@
--- `Party` says what a party's machine does, `History` what a history is, and `Keeps` what keeps it.
+-- `Party` says what a party's machine does, `History` what a history is, `Keeps` what keeps it, and `Says` what follows of it.
 pub mod Party
 pub mod History
 pub mod Keeps
+pub mod Says

@@ -1,6 +1,7 @@
 //! Laws of every history of a channel's cells. Each is the contract of a function that does nothing.
 
 ghost use Rattle.channel_history.specs.Keeps.{OpensWell, QueueOperationsKeep, SectionsKeep, CountOperationsKeep, BeginningsKeep, ArrivalsKeep, EndingsKeep, JoinsKeep, SplitsKeep};
+ghost use Rattle.channel_history.specs.Says.{HistoriesAreRuns, NobodyIsMissedAtRest};
 
 /// A channel that was just opened has a history, in which nothing has happened and the four lists lie with the first seat.
 pub fn a_new_channel_has_a_history<T, W>()
@@ -27,4 +28,21 @@ pub fn calls_keep_the_history<T, W>()
 pub fn lists_pass_from_seat_to_seat<T, W>()
     ensures joins { JoinsKeep T W }
     ensures splits { SplitsKeep T W }
+{}
+
+/// At every moment such a history is a run of the channel, of which the whole headline holds, as long as positions last: of any length
+/// over one slot, and else of fewer than 2^61 events. Each party has been given what its view says, and stands where its view says.
+///
+/// Of this moment: what left the channel, followed by what it holds, is what came into it, in order. Beside one who is pending and was
+/// not told there is no message, no free place and no closing but such as a told one or a call under way answers for. The lists are
+/// those that the views say, and the counts those of the words.
+pub fn histories_are_runs<T, W>()
+    ensures runs { HistoriesAreRuns T W }
+{}
+
+/// Where no party has a call under way, nobody is missed. Who waits in an open channel as a receive sees no more messages than receives
+/// that were told, as a send no more places than messages and sends that were told, as a stream no message; and in a closed channel
+/// nobody waits. What was accepted is what was taken, followed by what the cells hold, in order.
+pub fn nobody_is_missed_at_rest<T, W>()
+    ensures rest { NobodyIsMissedAtRest T W }
 {}
