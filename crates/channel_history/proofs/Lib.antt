@@ -3,7 +3,11 @@ mod Seats
 mod Goes
 mod Keeping
 mod Sections
+mod Deeds
 mod Joining
 mod Splitting
+mod Counting
+mod ByViews
+mod Replying
 mod Saying
 mod Runs

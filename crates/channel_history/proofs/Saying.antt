@@ -8,7 +8,9 @@ use Rattle.concurrent_queue.specs.declared.cells.QueueForm.{QueueForm}
 use Rattle.concurrent_queue.specs.declared.queue_call.QueueCall.{QueueCall}
 use Rattle.event_listener.specs.declared.key.Key.{Key}
 use Rattle.channel_calls.specs.Moves.{Channel}
-use Rattle.channel_calls.specs.Parts.{Parts, Listeners, WaitLists, listeners}
+use Rattle.channel_calls.specs.Parts.{Parts, Listeners, WaitLists, count, listeners}
+use Rattle.channel_calls.specs.declared.stage.Side.{Side}
+use Rattle.channel_calls.specs.declared.stage.Side.TheVariants.{Senders, Receivers}
 use Rattle.channel_calls.specs.declared.stage.Stage.{Stage}
 use Rattle.channel_calls.specs.declared.stage.WaitList.{WaitList}
 use Rattle.channel_calls.specs.declared.stage.WaitList.TheVariants.{Sends, Receives, Streams, Closings}
@@ -17,7 +19,7 @@ use Rattle.channel_steps.specs.Run.{EachStep, end_of}
 use Rattle.channel_steps.specs.declared.party.Entry.{Entry}
 use Rattle.channel_steps.specs.declared.party.Party.{Party}
 use Rattle.channel_steps.specs.declared.run.Step.{Step}
-use Rattle.channel_steps.specs.every_run.Bridge.{MergeMoment, stage_at, just_opened, steps_of}
+use Rattle.channel_steps.specs.every_run.Bridge.{MergeMoment, stage_at, just_opened, opened_parts, steps_of}
 use Rattle.channel_steps.specs.every_run.BridgeHeadline.{MergeMomentSays, MergeStepSays}
 use Rattle.channel_steps.specs.every_run.Closings.{PendingIsOwedTheClosing}
 use Rattle.channel_steps.specs.every_run.Receives.{counts_for_receives, PendingReceivesAreOwed}
@@ -28,8 +30,10 @@ use Rattle.channel_steps.specs.every_run.Ends.{Each}
 use Rattle.channel_steps.specs.every_run.Waits.{Any, IsIn, Waits}
 use Rattle.channel_history.specs.History.{appends, parts_of, IsChannelHistory}
 use Rattle.channel_history.specs.Party.{standing_of}
-use Rattle.channel_history.specs.Says.{IsHeadlineRun, HistorySays, MomentSays, AtRest, RestSays}
+use Rattle.channel_history.specs.Says.{IsAtStage, StandsByView, counted_by, IsHeadlineRun, HistorySays, MomentSays, AtRest, RestSays}
 use Rattle.channel_history.specs.declared.party.Standing.{Standing}
+use Rattle.channel_history.proofs.ByViews.{AllDiffer, StandsIn, differ_last, all_stand, all_there}
+use Rattle.channel_history.proofs.Counting.{counts_made}
 
 module _ {T W S : Type 0} (wakes : S → W → S → Type 0) where
   -- what is said of each moment is said of the last
@@ -69,25 +73,51 @@ module _ {T W : Type 0} (form : QueueForm) (views : List (Standing T W)) (cells 
       subst (λ (m : MergeMoment T W (List W)). MergeMomentSays m) r.ends
       (last_says appends (just_opened form []) (steps_of h.events) run.trace r.moments keeps.at_first keeps.each)
 
-  pub moment_says : Last.now.queue.capacity ≡ capacity_of form → MomentSays form views cells senders receivers h keeps Last
-  moment_says bound =
-      let m = at_last in let sh = m.shows in
-      record {
-        lists = ap (λ (c : Channel T W). c.wait_lists) sh.now;
-        capacity = bound;
-        in_order = m.in_order;
-        fits = m.fits;
-        words = m.words;
-        receives = m.receives;
-        sends = m.sends;
-        streams = m.streams;
-        closing = m.closing;
-      }
+  -- no two calls under way are of one party
+  differ : AllDiffer Last.under_way
+  differ =
+      let run = keeps.is in let r = run.run in
+      subst (λ (m : MergeMoment T W (List W)). AllDiffer m.configuration.under_way) r.ends
+      (differ_last appends (just_opened form []) (steps_of h.events) run.trace r.moments keeps.each tt)
+
+  module _ (bound : Last.now.queue.capacity ≡ capacity_of form) (stands : (p : ℕ) → stage_at p (let run = keeps.is in run.parties) ≡ (standing_of views p).stage) where
+    by_view : (us : List (ActiveCall T W)) → Each (λ u. StandsIn (let run = keeps.is in run.parties) u) us → Each (λ u. StandsByView views u) us
+    by_view [] e = tt
+    by_view (u ∷ us) e = let one = e.0 in ((one.0, sym (stands u.party) ∙ one.1, one.2), by_view us e.1)
+
+    pub moment_says : MomentSays form views cells senders receivers h keeps Last
+    moment_says =
+        let m = at_last in let sh = m.shows in let run = keeps.is in
+        let there : Each (λ u. StandsIn run.parties u) Last.under_way =
+            subst (λ (ps : List (Party T W)). Each (λ u. StandsIn ps u) Last.under_way) (sym sh.parties_are)
+            (subst (λ (us : List (ActiveCall T W)). Each (λ u. StandsIn (map (λ (x : ActiveCallWitness T W). x.party) sh.witnesses) u) us) (sym sh.under_way)
+            (all_stand sh.witnesses (subst (λ (us : List (ActiveCall T W)). AllDiffer us) sh.under_way differ))) in
+        let lists = ap (λ (c : Channel T W). c.wait_lists) sh.now in
+        record {
+          lists = lists;
+          counts = λ side. ap (λ (a : WaitLists W). count side a) lists ∙ counts_made side h.events _ _ h.order ∙ ap (λ (n : ℕ). counted_by side h.events n) (one side);
+          capacity = bound;
+          calls = by_view Last.under_way there;
+          all_calls = λ p at e.
+              subst (λ (us : List (ActiveCall T W)). Any (λ u. (u.party ≡ p) × IsAtStage at u) us) (sym sh.under_way)
+              (all_there sh.witnesses p at (ap (λ (ps : List (Party T W)). stage_at p ps) (sym sh.parties_are) ∙ stands p ∙ e));
+          in_order = m.in_order;
+          fits = m.fits;
+          words = m.words;
+          receives = m.receives;
+          sends = m.sends;
+          streams = m.streams;
+          closing = m.closing;
+        }
+      where
+        one : (side : Side) → count side (let parts : Parts T W = opened_parts form in parts.wait_lists) ≡ 1
+        one Senders = refl
+        one Receivers = refl
 
   module _ (bound : Last.now.queue.capacity ≡ capacity_of form) (stands : (p : ℕ) → stage_at p (let run = keeps.is in run.parties) ≡ (standing_of views p).stage)
       (rest : AtRest form views cells senders receivers h) where
     abbrev Says : MomentSays form views cells senders receivers h keeps Last
-    Says = moment_says bound
+    Says = moment_says bound stands
 
     idle : Last.under_way ≡ []
     idle =

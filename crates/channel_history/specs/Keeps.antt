@@ -1,5 +1,5 @@
 -- What keeps a history of a channel: a new channel has one, and whatever a party's machine does next keeps it.
-use Rattle.std.specs.Prelude.{◌≡◌, ◌≢◌, ℕ, List, [], ◌∷◌, ◌++◌, slice_set, Some}
+use Rattle.std.specs.Prelude.{◌≡◌, ◌≢◌, ℕ, ◌+◌, ◌-◌, ◌^◌, ◌==◌, nat_lt, true, false, List, [], ◌∷◌, ◌++◌, slice_set, Option, None, Some, Ok, Err}
 use mathlib.Core.Option.{some}
 use lib.ListN.{get_elem?}
 use Rattle.concurrent_queue.specs.Contents.{Contents}
@@ -7,11 +7,15 @@ use Rattle.concurrent_queue.specs.Deeds as cell
 use Rattle.concurrent_queue.specs.Effects as cell_effect
 use Rattle.concurrent_queue.specs.Made.{new_cells}
 use Rattle.concurrent_queue.specs.declared.cells.QueueForm.{QueueForm}
-use Rattle.event_listener.specs.Lists.{ListView}
-use Rattle.channel_calls.specs.Deeds.{Deed}
+use Rattle.event_listener.specs.Lists.{ListView, kind_of, listened, registration, removed, removed_wakes}
+use Rattle.event_listener.specs.declared.error.ListenError.{ListenError}
+use Rattle.event_listener.specs.declared.key.Key.{Key}
+use Rattle.channel_calls.specs.Deeds.{Deed, inserted, registered, taken_off, told, counted, lowered, raised}
 use Rattle.channel_calls.specs.Effects.{Does}
-use Rattle.channel_calls.specs.Parts.{Parts, Listeners, listeners, with_listeners, with_wait_lists, nobody_listens}
+use Rattle.channel_calls.specs.Parts.{Parts, Listeners, listeners, with_listeners, with_wait_lists, nobody_listens, Registers, told_as, told_as_wakes}
 use Rattle.channel_calls.specs.declared.ask.ChannelAsk.{ChannelAsk}
+use Rattle.channel_calls.specs.declared.stage.Side.TheVariants.{Senders, Receivers}
+use Rattle.channel_calls.specs.declared.stage.Telling.{Telling}
 use Rattle.channel_calls.specs.declared.stage.WaitList.{WaitList}
 use Rattle.channel_calls.specs.declared.stage.WaitList.TheVariants.{Sends, Receives, Streams, Closings}
 use Rattle.channel_steps.specs.every_run.Bridge.{on_queue, on_wait_lists}
@@ -99,3 +103,17 @@ module _ (T W : Type 0) where
       (form : QueueForm) (views : List (Standing T W)) (c : Contents T) (n m p : ℕ) (v : Standing T W) (stays goes : List (WaitList × ListView Unit W))
       → IsChannelHistory form views c n m → IsAt views p v → v.lists ≡ stays ++ goes
       → IsChannelHistory form (slice_set views p (with_lists stays v) ++ with_lists goes fresh ∷ []) c n m
+
+-- what each section and each operation on a count does, as the laws above ask it
+pub record DeedsDo (T W : Type 0) : Type 0 where
+  pub inserts : (line : WaitList) (l : Listeners W) (key : Key) → kind_of l key ≡ None → ChangesList {T = T} line (inserted line (Ok key)) l (listened key l)
+  pub refuses : (line : WaitList) (l : Listeners W) (e : ListenError) → ChangesList {T = T} line (inserted line (Err e)) l l
+  pub registers : (line : WaitList) (l : Listeners W) (key : Key) (task : W) (r : Option W) → Registers l key task r
+      → ChangesList {T = T} line (registered line key task r) l (registration key task l)
+  pub removes : (line : WaitList) (l : Listeners W) (key : Key) → ChangesList {T = T} line (taken_off line key (removed_wakes key true l)) l (removed key true l)
+  pub tells : (line : WaitList) (l : Listeners W) (telling : Telling) → ChangesList {T = T} line (told line telling (told_as_wakes telling l)) l (told_as telling l)
+  pub reads : (n m : ℕ) → ChangesCounts {T = T} {W = W} (counted Senders n) n m n m × ChangesCounts {T = T} {W = W} (counted Receivers m) n m n m
+  pub lowers : (n m : ℕ) → ChangesCounts {T = T} {W = W} (lowered Senders n) n m (n - 1) m × ChangesCounts {T = T} {W = W} (lowered Receivers m) n m n (m - 1)
+  pub raises : (n m : ℕ) → nat_lt n (2 ^ 64 - 1) ≡ true → ChangesCounts {T = T} {W = W} (raised Senders n true) n m (n + 1) m
+  pub raises_other : (n m : ℕ) → nat_lt m (2 ^ 64 - 1) ≡ true → ChangesCounts {T = T} {W = W} (raised Receivers m true) n m n (m + 1)
+  pub finds_another : (n m k : ℕ) → ((n == k) ≡ false → ChangesCounts {T = T} {W = W} (raised Senders k false) n m n m) × ((m == k) ≡ false → ChangesCounts {T = T} {W = W} (raised Receivers k false) n m n m)

@@ -1,6 +1,6 @@
 //! Laws of every history of a channel's cells. Each is the contract of a function that does nothing.
 
-ghost use Rattle.channel_history.specs.Keeps.{OpensWell, QueueOperationsKeep, SectionsKeep, CountOperationsKeep, BeginningsKeep, ArrivalsKeep, EndingsKeep, JoinsKeep, SplitsKeep};
+ghost use Rattle.channel_history.specs.Keeps.{DeedsDo, OpensWell, QueueOperationsKeep, SectionsKeep, CountOperationsKeep, BeginningsKeep, ArrivalsKeep, EndingsKeep, JoinsKeep, SplitsKeep};
 ghost use Rattle.channel_history.specs.Says.{HistoriesAreRuns, NobodyIsMissedAtRest};
 
 /// A channel that was just opened has a history, in which nothing has happened and the four lists lie with the first seat.
@@ -15,6 +15,11 @@ pub fn operations_keep_the_history<T, W>()
     ensures queue { QueueOperationsKeep T W }
     ensures list { SectionsKeep T W }
     ensures count { CountOperationsKeep T W }
+{}
+
+/// What a section on a list does, and an operation on a count: this, on every channel that has this list there, or these counts.
+pub fn deeds_do<T, W>()
+    ensures deeds { DeedsDo T W }
 {}
 
 /// So do the beginning of a call, of a party that has none under way or of a new one, and the end of a call. They touch nothing.
