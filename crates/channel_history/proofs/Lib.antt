@@ -8,6 +8,7 @@ mod Joining
 mod Splitting
 mod Counting
 mod ByViews
+mod Asking
 mod Replying
 mod Saying
 mod Runs

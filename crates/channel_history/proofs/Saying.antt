@@ -9,6 +9,7 @@ use Rattle.concurrent_queue.specs.declared.queue_call.QueueCall.{QueueCall}
 use Rattle.event_listener.specs.declared.key.Key.{Key}
 use Rattle.channel_calls.specs.Moves.{Channel}
 use Rattle.channel_calls.specs.Parts.{Parts, Listeners, WaitLists, count, listeners}
+use Rattle.channel_calls.specs.declared.ask.ChannelAsk.{ChannelAsk}
 use Rattle.channel_calls.specs.declared.stage.Side.{Side}
 use Rattle.channel_calls.specs.declared.stage.Side.TheVariants.{Senders, Receivers}
 use Rattle.channel_calls.specs.declared.stage.Stage.{Stage}
@@ -32,6 +33,7 @@ use Rattle.channel_history.specs.History.{appends, parts_of, IsChannelHistory}
 use Rattle.channel_history.specs.Party.{standing_of}
 use Rattle.channel_history.specs.Says.{IsAtStage, StandsByView, counted_by, IsHeadlineRun, HistorySays, MomentSays, AtRest, RestSays}
 use Rattle.channel_history.specs.declared.party.Standing.{Standing}
+use Rattle.channel_history.proofs.Asking.{AsksLast, asked_by, asked_own, asks_last}
 use Rattle.channel_history.proofs.ByViews.{AllDiffer, StandsIn, differ_last, all_stand, all_there}
 use Rattle.channel_history.proofs.Counting.{counts_made}
 
@@ -80,10 +82,29 @@ module _ {T W : Type 0} (form : QueueForm) (views : List (Standing T W)) (cells 
       subst (λ (m : MergeMoment T W (List W)). AllDiffer m.configuration.under_way) r.ends
       (differ_last appends (just_opened form []) (steps_of h.events) run.trace r.moments keeps.each tt)
 
+  abbrev asked_so : ℕ → List (ChannelAsk T W)
+  asked_so q = asked_by (λ p. []) h.events q
+
+  ask : Each (λ u. AsksLast asked_so u) Last.under_way
+  ask =
+      let run = keeps.is in let r = run.run in
+      subst (λ (m : MergeMoment T W (List W)). Each (λ u. AsksLast asked_so u) m.configuration.under_way) r.ends
+      (asks_last appends (λ p. []) (just_opened form []) h.events run.trace r.moments keeps.each tt)
+
   module _ (bound : Last.now.queue.capacity ≡ capacity_of form) (stands : (p : ℕ) → stage_at p (let run = keeps.is in run.parties) ≡ (standing_of views p).stage) where
-    by_view : (us : List (ActiveCall T W)) → Each (λ u. StandsIn (let run = keeps.is in run.parties) u) us → Each (λ u. StandsByView views u) us
-    by_view [] e = tt
-    by_view (u ∷ us) e = let one = e.0 in ((one.0, sym (stands u.party) ∙ one.1, one.2), by_view us e.1)
+    by_view : (us : List (ActiveCall T W)) → Each (λ u. StandsIn (let run = keeps.is in run.parties) u) us → Each (λ u. AsksLast asked_so u) us → Each (λ u. StandsByView views u) us
+    by_view [] e f = tt
+    by_view (u ∷ us) e f =
+        let one = e.0 in let ask = f.0 in let mine = h.each u.party in (
+          record {
+            at = one.0;
+            stage = sym (stands u.party) ∙ one.1;
+            here = one.2;
+            before = ask.0;
+            asked = mine.asked ∙ sym (asked_own (λ q. []) h.events u.party) ∙ ask.1;
+          },
+          by_view us e.1 f.1,
+        )
 
     pub moment_says : MomentSays form views cells senders receivers h keeps Last
     moment_says =
@@ -97,7 +118,7 @@ module _ {T W : Type 0} (form : QueueForm) (views : List (Standing T W)) (cells 
           lists = lists;
           counts = λ side. ap (λ (a : WaitLists W). count side a) lists ∙ counts_made side h.events _ _ h.order ∙ ap (λ (n : ℕ). counted_by side h.events n) (one side);
           capacity = bound;
-          calls = by_view Last.under_way there;
+          calls = by_view Last.under_way there ask;
           all_calls = λ p at e.
               subst (λ (us : List (ActiveCall T W)). Any (λ u. (u.party ≡ p) × IsAtStage at u) us) (sym sh.under_way)
               (all_there sh.witnesses p at (ap (λ (ps : List (Party T W)). stage_at p ps) (sym sh.parties_are) ∙ stands p ∙ e));

@@ -11,6 +11,7 @@ use Rattle.event_listener.specs.declared.key.Key.{Key}
 use Rattle.channel_calls.specs.Deeds.{lowered, raised}
 use Rattle.channel_calls.specs.Moves.{phase}
 use Rattle.channel_calls.specs.Parts.{count}
+use Rattle.channel_calls.specs.declared.ask.ChannelAsk.{ChannelAsk}
 use Rattle.channel_calls.specs.declared.stage.Side.{Side}
 use Rattle.channel_calls.specs.declared.stage.Side.TheVariants.{Senders, Receivers}
 use Rattle.channel_calls.specs.declared.whole.Completed.{Completed}
@@ -57,9 +58,13 @@ module _ {T W : Type 0} where
   abbrev pub IsAtStage : Stage (QueueCall T) T W → ActiveCall T W → Type 0
   IsAtStage at u = (f : Phase T) × (u.at ≡ phase f at)
 
-  -- it is its party's, and stands where that party's view says
-  abbrev pub StandsByView : List (Standing T W) → ActiveCall T W → Type 0
-  StandsByView views u = (at : Stage (QueueCall T) T W) × ((standing_of views u.party).stage ≡ Some at) × IsAtStage at u
+  -- it stands where its party's view says, and asks what that party asked last
+  pub record StandsByView (views : List (Standing T W)) (u : ActiveCall T W) : Type 0 where
+    pub at : Stage (QueueCall T) T W
+    pub stage : (standing_of views u.party).stage ≡ Some at
+    pub here : IsAtStage at u
+    pub before : List (ChannelAsk T W)
+    pub asked : (standing_of views u.party).asked ≡ before ++ u.ask ∷ []
 
   -- a call of this party, which was under way at the one moment and gave this by the step to the other: the row of its reply holds of its
   -- marks and moments
