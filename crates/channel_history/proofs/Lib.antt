@@ -6,6 +6,7 @@ mod Sections
 mod Deeds
 mod Joining
 mod Splitting
+mod Row
 mod Counting
 mod ByViews
 mod Asking

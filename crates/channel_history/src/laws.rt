@@ -1,6 +1,7 @@
 //! Laws of every history of a channel's cells. Each is the contract of a function that does nothing.
 
 ghost use Rattle.channel_history.specs.Keeps.{DeedsDo, OpensWell, QueueOperationsKeep, SectionsKeep, CountOperationsKeep, BeginningsKeep, ArrivalsKeep, EndingsKeep, JoinsKeep, SplitsKeep};
+ghost use Rattle.channel_history.specs.Row.{OneSenderIsCounted};
 ghost use Rattle.channel_history.specs.Says.{HistoriesAreRuns, NobodyIsMissedAtRest};
 
 /// A channel that was just opened has a history, in which nothing has happened and the four lists lie with the first seat.
@@ -33,6 +34,11 @@ pub fn calls_keep_the_history<T, W>()
 pub fn lists_pass_from_seat_to_seat<T, W>()
     ensures joins { JoinsKeep T W }
     ensures splits { SplitsKeep T W }
+{}
+
+/// There are such histories with calls in them: a new party asks how many senders there are, and is told one.
+pub fn one_sender_is_counted<T, W>()
+    ensures counted { OneSenderIsCounted T W }
 {}
 
 /// At every moment such a history is a run of the channel, of which the whole headline holds, as long as positions last: of any length
