@@ -89,14 +89,14 @@ module _ {T W S : Type 0} (wakes : S → W → S → Type 0) where
       let now : ℕ → List (ChannelAsk T W) = asked_more asked (record { party = q; event = begins ask }) in
       subst (λ (us : List (ActiveCall T W)). All now us) (sym b.under_way)
       (all_begun now m.configuration.under_way _ (all_others asked q ask m.configuration.under_way b.idle h)
-          (asked q, ap (λ (y : Bool). asked q ++ (if y then ask ∷ [] else [])) (eq-eqb q q refl)))
+      (asked q, ap (λ (y : Bool). asked q ++ (if y then ask ∷ [] else [])) (eq-eqb q q refl)))
   asks_next asked m q (does o) e n says h =
       let w = says.call in
       let now : ℕ → List (ChannelAsk T W) = asked_more asked (record { party = q; event = does o }) in
       let all : All now (w.before ++ (w.call ∷ w.behind)) = subst (λ (us : List (ActiveCall T W)). All now us) w.under_way (all_same asked q o m.configuration.under_way h) in
       subst (λ (us : List (ActiveCall T W)). All now us) (sym w.goes_on)
       (all_stepped now n.configuration.now w.before w.call w.after e.reply w.behind
-          (λ one. subst (λ (u : ActiveCall T W). AsksLast now u) (sym w.is) (one.0, one.1)) all)
+      (λ one. subst (λ (u : ActiveCall T W). AsksLast now u) (sym w.is) (one.0, one.1)) all)
 
   pub asks_last : (asked : ℕ → List (ChannelAsk T W)) (m : MergeMoment T W S) (events : List (Happening T W)) (es : List (Entry T)) (ns : List (MergeMoment T W S))
       → EachStep (MergeStepSays wakes) m (steps_of events) es ns → All asked m.configuration.under_way → All (λ q. asked_by asked events q) (end_of m ns).configuration.under_way

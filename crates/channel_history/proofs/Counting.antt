@@ -1,10 +1,10 @@
 -- The counts are what raises and lowerings made of them.
-use Rattle.std.proofs.Common.{◌≡◌, ℕ, ◌+◌, ◌-◌, ◌==◌, ◌&&◌, Bool, true, false, List, [], ◌∷◌, refl, sym, ap, ◌∙◌, subst, true≢false}
+use Rattle.std.proofs.Common.{◌≡◌, ℕ, ◌+◌, ◌-◌, ◌&&◌, Bool, true, false, List, [], ◌∷◌, refl, sym, ap, ◌∙◌, true≢false}
 use Rattle.std.specs.Prelude.{None, Some, Ok, Err, if◌then◌else◌}
 use Rattle.concurrent_queue.proofs.Callers.{is_same}
 use Rattle.channel_calls.specs.Deeds.{Deed, stepped, inserted, registered, taken_off, told, counted, lowered, raised}
 use Rattle.channel_calls.specs.Effects.{Does}
-use Rattle.channel_calls.specs.Parts.{Parts, Listeners, WaitLists, with_listeners, count, with_count, with_wait_lists}
+use Rattle.channel_calls.specs.Parts.{Parts, Listeners, WaitLists, with_listeners, count, with_count}
 use Rattle.channel_calls.specs.declared.stage.Side.{Side}
 use Rattle.channel_calls.specs.declared.stage.Side.TheVariants.{Senders, Receivers}
 use Rattle.channel_calls.specs.declared.stage.WaitList.{WaitList}

@@ -1,13 +1,7 @@
 -- What each section and each operation on a count does to a channel that has this list, or these counts.
-use Rattle.std.proofs.Common.{◌≡◌, ℕ, ◌+◌, ◌-◌, ◌^◌, ◌==◌, ◌&&◌, nat_lt, Bool, true, false, List, refl, sym, ap, ◌∙◌, subst, eq-eqb}
-use Rattle.std.specs.Prelude.{Option, None, Some, Ok, Err}
+use Rattle.std.proofs.Common.{◌≡◌, ℕ, ◌+◌, ◌-◌, ◌^◌, ◌==◌, ◌&&◌, nat_lt, Bool, true, false, refl, sym, ap, ◌∙◌, subst, eq-eqb}
 use Rattle.event_listener.specs.Lists.{kind_of, listened, registration, removed, removed_wakes}
-use Rattle.event_listener.specs.declared.error.ListenError.{ListenError}
-use Rattle.event_listener.specs.declared.key.Key.{Key}
-use Rattle.channel_calls.specs.Deeds.{inserted, registered, taken_off, told, counted, lowered, raised}
 use Rattle.channel_calls.specs.Parts.{Parts, Listeners, WaitLists, listeners, with_listeners, with_wait_lists, Registers, told_as, told_as_wakes}
-use Rattle.channel_calls.specs.declared.stage.Side.TheVariants.{Senders, Receivers}
-use Rattle.channel_calls.specs.declared.stage.Telling.{Telling}
 use Rattle.channel_calls.specs.declared.stage.WaitList.{WaitList}
 use Rattle.channel_calls.specs.declared.stage.WaitList.TheVariants.{Sends, Receives, Streams, Closings}
 use Rattle.channel_history.specs.Keeps.{DeedsDo}

@@ -7,7 +7,7 @@ use Rattle.concurrent_queue.specs.declared.cells.QueueForm.{QueueForm}
 use Rattle.event_listener.specs.Notices.{Woken}
 use Rattle.channel_calls.specs.Parts.{Parts, Listeners}
 use Rattle.channel_calls.specs.declared.stage.WaitList.{WaitList}
-use Rattle.channel_steps.specs.every_run.Bridge.{Act, on_queue, on_wait_lists, on_nothing, Event, begins, does, Happening, own, Changes, InOneOrder}
+use Rattle.channel_steps.specs.every_run.Bridge.{Act, on_queue, on_wait_lists, on_nothing, Event, does, Happening, own, Changes, InOneOrder}
 use Rattle.channel_history.specs.History.{appends, LiesWithOne, parts_of, IsChannelHistory}
 use Rattle.channel_history.specs.Keeps.{with_lists}
 use Rattle.channel_history.specs.Party.{fresh, standing_of, Leads, TouchesNothing, TouchNothing}

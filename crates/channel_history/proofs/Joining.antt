@@ -1,26 +1,17 @@
 -- The lists of one seat go to another.
-use Rattle.std.proofs.Common.{◌≡◌, ◌≢◌, ℕ, zero, suc, ◌⊎◌, inl, inr, ⊎_elim, Bool, true, false, List, [], ◌∷◌, ◌++◌, length, map, if◌then◌else◌, refl, sym, ap, ◌∙◌, subst, append-nil, true≢false}
-use Rattle.std.specs.Prelude.{slice_set, Some}
-use mathlib.Core.Option.{some}
+use Rattle.std.proofs.Common.{◌≡◌, ◌≢◌, ℕ, List, [], ◌∷◌, ◌++◌, sym, ap, ◌∙◌, subst, append-nil}
+use Rattle.std.specs.Prelude.{slice_set}
 use native.Mathlib.Decide.{ℕ_discrete}
-use lib.ListN.{get_elem?}
 use Rattle.concurrent_queue.specs.Contents.{Contents}
-use Rattle.concurrent_queue.specs.Made.{new_cells}
 use Rattle.concurrent_queue.specs.declared.cells.QueueForm.{QueueForm}
-use Rattle.event_listener.specs.Lists.{ListView}
-use Rattle.channel_calls.specs.Deeds.{Deed, woken_by}
-use Rattle.channel_calls.specs.Effects.{Does}
-use Rattle.channel_calls.specs.Parts.{Parts, Listeners, listeners, with_listeners, with_wait_lists, nobody_listens}
+use Rattle.channel_calls.specs.Parts.{Listeners}
 use Rattle.channel_calls.specs.declared.stage.WaitList.{WaitList}
-use Rattle.channel_calls.specs.declared.stage.WaitList.TheVariants.{Sends, Receives, Streams, Closings}
-use Rattle.channel_steps.specs.every_run.Bridge.{Event, begins, does, on_queue, on_wait_lists}
-use Rattle.channel_history.specs.History.{appends, is_line, of_kind, LiesWithOne, parts_of, IsChannelHistory}
-use Rattle.channel_history.specs.Keeps.{IsAt, with_lists, opening, OpensWell, QueueOperationsKeep, SectionsKeep, CountOperationsKeep, BeginningsKeep, ArrivalsKeep, EndingsKeep, JoinsKeep, SplitsKeep}
-use Rattle.channel_history.specs.Party.{fresh, standing_of, Leads}
+use Rattle.channel_history.specs.History.{of_kind, LiesWithOne, IsChannelHistory}
+use Rattle.channel_history.specs.Keeps.{IsAt, with_lists, JoinsKeep}
+use Rattle.channel_history.specs.Party.{standing_of}
 use Rattle.channel_history.specs.declared.party.Standing.{Standing}
-use Rattle.channel_history.proofs.Goes.{all_by, all_woken, order_still, order_last, goes_on, moved}
-use Rattle.channel_history.proofs.PartyFacts.{leads_nowhere, leads_same}
-use Rattle.channel_history.proofs.Seats.{With, set_else, set_not_past, kinds_on, lies_here, lies_same, same_lists, stands_at, stands_set, stands_else, stands_past, stands_last, stands_before}
+use Rattle.channel_history.proofs.Goes.{moved}
+use Rattle.channel_history.proofs.Seats.{With, set_else, kinds_on, lies_same, stands_at, stands_set, stands_else}
 
 module _ {T W : Type 0} (form : QueueForm) (views : List (Standing T W)) (c : Contents T) (n m p q : ℕ) (v w : Standing T W) (h : IsChannelHistory form views c n m)
     (at_p : IsAt views p v) (at_q : IsAt views q w) (apart : q ≢ p) where

@@ -1,31 +1,26 @@
 -- What keeps a history, from one lemma of events more: an operation, and a call that begins or ends.
-use Rattle.std.proofs.Common.{◌≡◌, ◌≢◌, ℕ, zero, suc, ◌⊎◌, inl, inr, ⊎_elim, Bool, true, false, List, [], ◌∷◌, ◌++◌, length, map, if◌then◌else◌, refl, sym, ap, ◌∙◌, subst, append-nil, true≢false}
+use Rattle.std.proofs.Common.{◌≡◌, ◌≢◌, ℕ, zero, suc, List, [], ◌∷◌, ◌++◌, length, map, refl, sym, ap, ◌∙◌, subst}
 use Rattle.std.specs.Prelude.{slice_set, Some}
-use mathlib.Core.Option.{some}
 use native.Mathlib.Decide.{ℕ_discrete}
-use lib.ListN.{get_elem?}
 use Rattle.concurrent_queue.specs.Contents.{Contents}
-use Rattle.concurrent_queue.specs.Made.{new_cells}
 use Rattle.concurrent_queue.specs.declared.cells.QueueForm.{QueueForm}
 use Rattle.event_listener.specs.Lists.{ListView}
-use Rattle.channel_calls.specs.Deeds.{Deed, woken_by}
-use Rattle.channel_calls.specs.Effects.{Does}
-use Rattle.channel_calls.specs.Parts.{Parts, Listeners, listeners, with_listeners, with_wait_lists, nobody_listens}
+use Rattle.channel_calls.specs.Deeds.{woken_by}
+use Rattle.channel_calls.specs.Parts.{Listeners, nobody_listens}
 use Rattle.channel_calls.specs.declared.stage.WaitList.{WaitList}
 use Rattle.channel_calls.specs.declared.stage.WaitList.TheVariants.{Sends, Receives, Streams, Closings}
 use Rattle.channel_steps.specs.every_run.Bridge.{Event, begins, does, on_queue, on_wait_lists}
-use Rattle.channel_history.specs.History.{appends, is_line, of_kind, LiesWithOne, parts_of, IsChannelHistory}
-use Rattle.channel_history.specs.Keeps.{IsAt, with_lists, opening, OpensWell, QueueOperationsKeep, SectionsKeep, CountOperationsKeep, BeginningsKeep, ArrivalsKeep, EndingsKeep, JoinsKeep, SplitsKeep}
+use Rattle.channel_history.specs.History.{of_kind, LiesWithOne, parts_of, IsChannelHistory}
+use Rattle.channel_history.specs.Keeps.{IsAt, with_lists, opening, OpensWell, QueueOperationsKeep, CountOperationsKeep, BeginningsKeep, ArrivalsKeep, EndingsKeep}
 use Rattle.channel_history.specs.Party.{fresh, standing_of, Leads}
 use Rattle.channel_history.specs.declared.party.Standing.{Standing}
-use Rattle.channel_history.proofs.Goes.{all_by, all_woken, order_still, order_last, goes_on, moved}
-use Rattle.channel_history.proofs.PartyFacts.{leads_nowhere, leads_same}
-use Rattle.channel_history.proofs.Seats.{With, set_else, set_not_past, kinds_on, lies_here, lies_same, same_lists, stands_at, stands_set, stands_else, stands_past, stands_last, stands_before}
+use Rattle.channel_history.proofs.Goes.{all_woken, order_still, order_last, goes_on}
+use Rattle.channel_history.proofs.PartyFacts.{leads_nowhere}
+use Rattle.channel_history.proofs.Seats.{With, lies_same, same_lists, stands_at, stands_set, stands_else, stands_past, stands_last, stands_before}
 
 -- ---- the opening
 
 module _ (T W : Type 0) (form : QueueForm) (l : ListView Unit W) (is : l.lists ≡ nobody_listens) where
-
   at_first : (p : ℕ) → Leads form fresh [] (standing_of {T = T} (opening l) p)
   at_first zero = record { more = []; acts = (refl, refl); given = refl; asked = refl }
   at_first (suc p) = leads_nowhere form
@@ -77,7 +72,7 @@ pub count_operations_keep : (T W : Type 0) → CountOperationsKeep T W
 count_operations_keep T W form views c n m n' m' p v w o h there (os, quiet, l) same changes =
     goes_on form views (Now form views c n m h p v w there) c c n m n' m' h p (map does (os ++ on_wait_lists o ∷ [])) h.listening (h.woken ++ woken_by o)
     (order_last p os (on_wait_lists o) (parts_of c h.listening n m, h.woken) (parts_of c h.listening n' m', h.woken ++ woken_by o) quiet
-        (changes (parts_of c h.listening n m) refl refl, all_woken h.woken (woken_by o)))
+    (changes (parts_of c h.listening n m) refl refl, all_woken h.woken (woken_by o)))
     (leads_now form views c n m h p v w there _ l) (others_now form views c n m h p v w there) (lie_now form views c n m h p v w there same)
 
 pub beginnings_keep : (T W : Type 0) → BeginningsKeep T W
@@ -97,7 +92,7 @@ arrivals_keep T W form views c n m w ask h l none =
     goes_on form views (views ++ w ∷ []) c c n m n m h (length views) (begins ask ∷ []) h.listening h.woken
     ((parts_of c h.listening n m, h.woken), refl, refl)
     (subst (λ (x : Standing T W). Leads form x (begins ask ∷ []) (standing_of (views ++ w ∷ []) (length views))) (sym (stands_past views))
-        (subst (λ (x : Standing T W). Leads form fresh (begins ask ∷ []) x) (sym (stands_last views w)) l))
+    (subst (λ (x : Standing T W). Leads form fresh (begins ask ∷ []) x) (sym (stands_last views w)) l))
     (λ q apart. ap (λ (s : Standing T W). with_lists [] s) (stands_before views q w apart))
     (λ line. lies_same views (views ++ w ∷ []) line (h.listening line) (λ q. with_same line q (ℕ_discrete q (length views))) (h.lies line))
   where

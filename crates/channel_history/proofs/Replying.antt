@@ -1,5 +1,5 @@
 -- Each reply that was given ended a call, as its row says.
-use Rattle.std.proofs.Common.{◌≡◌, ℕ, ◌==◌, Bool, true, false, List, [], ◌∷◌, ◌++◌, if◌then◌else◌, ◌⊎◌, inl, inr, refl, sym, ap, ◌∙◌, subst}
+use Rattle.std.proofs.Common.{◌≡◌, ℕ, ◌==◌, Bool, true, false, List, [], ◌∷◌, ◌++◌, if◌then◌else◌, inl, inr, refl, sym, ap, ◌∙◌, subst}
 use Rattle.std.specs.Prelude.{Option, None, Some, IfSome}
 use Rattle.concurrent_queue.proofs.Callers.{is_same}
 use Rattle.channel_calls.specs.declared.reply.Reply.{Reply}
@@ -15,7 +15,7 @@ use Rattle.channel_steps.specs.every_run.BridgeHeadline.{MergeStepSays}
 use Rattle.channel_steps.specs.every_run.EndSays.{EndSays}
 use Rattle.channel_steps.specs.every_run.Waits.{Any}
 use Rattle.channel_history.specs.History.{appends}
-use Rattle.channel_history.specs.Says.{EndsAs, EndsSo, HasEnded, HaveEnded}
+use Rattle.channel_history.specs.Says.{EndsAs, HaveEnded}
 
 module _ {T : Type 0} where
   abbrev gave : Reply T → Returned T → Completed T
@@ -44,14 +44,13 @@ module _ {T W : Type 0} where
           let end : EndSays w.after r e.kept = subst (λ (x : Option (Reply T)). IfSome x (λ y. EndSays w.after y e.kept)) ended work.ends in
           let kept : Returned T = end.kept in
           let here : EndSays w.after r (Some kept) = subst (λ (k : Option (Returned T)). EndSays w.after r k) end.leaves end in
-          subst (λ (k : Option (Returned T)). HaveEnded p (given_by (Some r) k ++ more) m (step_of q (does o) ∷ xs) (e ∷ es) (n ∷ ns)) (sym end.leaves)
-          (
+          subst (λ (k : Option (Returned T)). HaveEnded p (given_by (Some r) k ++ more) m (step_of q (does o) ∷ xs) (e ∷ es) (n ∷ ns)) (sym end.leaves) (
             inl (record {
               step = ap (λ (k : ℕ). step.Step k) is;
               reply = ended;
               row = subst (λ (us : List (ActiveCall T W)). Any (λ u. EndsAs p (gave r kept) m e n u) us) (sym w.under_way)
                   (among (λ u. EndsAs p (gave r kept) m e n u) w.before w.call w.behind
-                      (w.party ∙ is, w.at_now, subst (λ (u : ActiveCall T W). EndSays u r (Some kept)) w.is here));
+                  (w.party ∙ is, w.at_now, subst (λ (u : ActiveCall T W). EndSays u r (Some kept)) w.is here));
             }),
             later p more m n (step_of q (does o)) xs e es ns rest,
           )

@@ -1,11 +1,9 @@
 -- The laws lead to a history with a call in it.
-use Rattle.std.proofs.Common.{◌≡◌, ℕ, [], ◌∷◌, ◌++◌, refl}
-use Rattle.std.specs.Prelude.{None, Some}
+use Rattle.std.proofs.Common.{[], ◌∷◌, ◌++◌, refl}
+use Rattle.std.specs.Prelude.{Some}
 use Rattle.concurrent_queue.specs.Made.{new_cells}
 use Rattle.concurrent_queue.specs.declared.cells.QueueForm.{QueueForm}
-use Rattle.event_listener.specs.Lists.{ListView}
 use Rattle.channel_calls.specs.Deeds.{counted}
-use Rattle.channel_calls.specs.Parts.{nobody_listens}
 use Rattle.channel_calls.specs.Turns.{nothing_kept}
 use Rattle.channel_calls.specs.declared.ask.ChannelAsk.TheVariants.{HandleCount}
 use Rattle.channel_calls.specs.declared.mark.Mark.TheVariants.{Nothing}
@@ -29,12 +27,16 @@ module _ {T W : Type 0} (form : QueueForm) where
   begun = record { more = []; acts = (Working (Count Senders), (refl, refl), (refl, refl)); given = refl; asked = refl }
 
   loaded : Makes form Asks (on_wait_lists (counted Senders 1)) has_counted
-  loaded = ([], tt, record {
-    more = record { reply = reply.Count 1; kept = nothing_kept } ∷ [];
-    acts = (Nothing, Finished nothing_kept, Some (reply.Count 1), (1, refl, (refl, (refl, refl))), ([], refl, (refl, refl)));
-    given = refl;
-    asked = refl;
-  })
+  loaded = (
+    [],
+    tt,
+    record {
+      more = record { reply = reply.Count 1; kept = nothing_kept } ∷ [];
+      acts = (Nothing, Finished nothing_kept, Some (reply.Count 1), (1, refl, (refl, (refl, refl))), ([], refl, (refl, refl)));
+      given = refl;
+      asked = refl;
+    },
+  )
 
 pub one_sender_is_counted : (T W : Type 0) → OneSenderIsCounted T W
 one_sender_is_counted T W form l none =

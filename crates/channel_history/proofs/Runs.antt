@@ -1,23 +1,17 @@
 -- A history is a run of the channel, of which the headline holds.
-use Rattle.std.proofs.Common.{◌≡◌, ℕ, List, [], length, sym, ◌∙◌, refl, subst}
+use Rattle.std.proofs.Common.{ℕ, List, [], length, sym, subst}
 use Rattle.std.specs.Prelude.{None}
 use Rattle.concurrent_queue.specs.Bridge.{HasCells}
-use Rattle.concurrent_queue.specs.Capacity.{capacity_of}
 use Rattle.concurrent_queue.specs.Contents.{Contents}
 use Rattle.concurrent_queue.specs.declared.cells.QueueForm.{QueueForm}
 use Rattle.channel_calls.specs.declared.whole.Completed.{Completed}
-use Rattle.channel_steps.specs.Configuration.{Configuration}
-use Rattle.channel_steps.specs.Run.{NextConfiguration, new_configuration}
 use Rattle.channel_steps.specs.every_run.Bridge.{ActsTo, LastsFor, just_opened, own, steps_of}
-use Rattle.channel_steps.proofs.Interface.{run_keeps}
 use Rattle.channel_steps.proofs.every_run.BridgeHeadline.{keeps_the_headline}
-use Rattle.channel_steps.proofs.every_run.Bounds.{capacity_next}
 use Rattle.channel_history.specs.History.{appends, parts_of, IsChannelHistory}
 use Rattle.channel_history.specs.Party.{standing_of}
-use Rattle.channel_history.specs.Says.{HaveEnded, HistorySays, HistoriesAreRuns, NobodyIsMissedAtRest}
+use Rattle.channel_history.specs.Says.{HaveEnded, HistorySays, HistoriesAreRuns}
 use Rattle.channel_history.specs.declared.party.Standing.{Standing}
 use Rattle.channel_history.proofs.Replying.{have_ended}
-use Rattle.channel_history.proofs.Saying.{moment_says, rest_says}
 
 module _ {T W : Type 0} (form : QueueForm) (views : List (Standing T W)) (cells : Contents T) (senders receivers : ℕ) (has : HasCells form) (h : IsChannelHistory form views cells senders receivers)
     (lasts : LastsFor (length h.events) form) where
@@ -30,7 +24,7 @@ module _ {T W : Type 0} (form : QueueForm) (views : List (Standing T W)) (cells 
   pub history_says : HistorySays form views cells senders receivers h
   history_says =
       let run = keeps_the_headline T W (List W) appends form h.events (λ p. (standing_of views p).given) (λ p. (standing_of views p).stage) []
-          (parts_of cells h.listening senders receivers) h.woken has lasts acts h.order in
+      (parts_of cells h.listening senders receivers) h.woken has lasts acts h.order in
       let keeps = run.0 in let is = keeps.is in let r = is.run in
       record {
         keeps = keeps;
@@ -39,21 +33,5 @@ module _ {T W : Type 0} (form : QueueForm) (views : List (Standing T W)) (cells 
             (have_ended p (just_opened form []) h.events is.trace r.moments keeps.each);
       }
 
-  abbrev pub Last : Configuration T W
-  Last = let keeps = history_says.keeps in let run = keeps.is in run.configuration
-
-  pub bound : Last.now.queue.capacity ≡ capacity_of form
-  bound =
-      let keeps = history_says.keeps in let run = keeps.is in
-      run_keeps NextConfiguration (λ (s : Configuration T W). s.now.queue.capacity ≡ capacity_of form)
-      (λ s x e t n q. capacity_next s x e n.0 t n.1 ∙ q) (new_configuration (capacity_of form)) (steps_of h.events) run.trace Last run.configurations refl
-
 pub histories_are_runs : (T W : Type 0) → HistoriesAreRuns T W
-histories_are_runs T W form views cells senders receivers has h lasts =
-    let says = history_says form views cells senders receivers has h lasts in
-    (says, moment_says form views cells senders receivers h says.keeps (bound form views cells senders receivers has h lasts) says.stands)
-
-pub nobody_is_missed_at_rest : (T W : Type 0) → NobodyIsMissedAtRest T W
-nobody_is_missed_at_rest T W form views cells senders receivers has h lasts rest =
-    let says = history_says form views cells senders receivers has h lasts in
-    (says, rest_says form views cells senders receivers h says.keeps (bound form views cells senders receivers has h lasts) says.stands rest)
+histories_are_runs T W = history_says

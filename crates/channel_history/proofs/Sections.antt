@@ -1,27 +1,21 @@
 -- A section on a list that lies with the party's seat keeps a history.
-use Rattle.std.proofs.Common.{◌≡◌, ◌≢◌, ℕ, zero, suc, ◌⊎◌, inl, inr, ⊎_elim, Bool, true, false, List, [], ◌∷◌, ◌++◌, length, map, if◌then◌else◌, refl, sym, ap, ◌∙◌, subst, append-nil, true≢false}
-use Rattle.std.specs.Prelude.{slice_set, Some}
-use mathlib.Core.Option.{some}
+use Rattle.std.proofs.Common.{◌≡◌, ◌≢◌, ℕ, Bool, true, false, List, [], ◌∷◌, ◌++◌, map, if◌then◌else◌, refl, sym, ap, ◌∙◌, subst}
+use Rattle.std.specs.Prelude.{slice_set}
 use native.Mathlib.Decide.{ℕ_discrete}
-use lib.ListN.{get_elem?}
 use Rattle.concurrent_queue.specs.Contents.{Contents}
-use Rattle.concurrent_queue.specs.Made.{new_cells}
 use Rattle.concurrent_queue.specs.declared.cells.QueueForm.{QueueForm}
 use Rattle.event_listener.specs.Lists.{ListView}
-use Rattle.channel_calls.specs.Deeds.{Deed, woken_by}
+use Rattle.channel_calls.specs.Deeds.{woken_by}
 use Rattle.channel_calls.specs.Effects.{Does}
-use Rattle.channel_calls.specs.Parts.{Parts, Listeners, listeners, with_listeners, with_wait_lists, nobody_listens}
+use Rattle.channel_calls.specs.Parts.{Parts, Listeners, listeners, with_listeners, with_wait_lists}
 use Rattle.channel_calls.specs.declared.stage.WaitList.{WaitList}
 use Rattle.channel_calls.specs.declared.stage.WaitList.TheVariants.{Sends, Receives, Streams, Closings}
-use Rattle.channel_steps.specs.every_run.Bridge.{Event, begins, does, on_queue, on_wait_lists}
-use Rattle.channel_history.specs.History.{appends, is_line, of_kind, LiesWithOne, parts_of, IsChannelHistory}
-use Rattle.channel_history.specs.Keeps.{IsAt, with_lists, opening, OpensWell, QueueOperationsKeep, SectionsKeep, CountOperationsKeep, BeginningsKeep, ArrivalsKeep, EndingsKeep, JoinsKeep, SplitsKeep}
-use Rattle.channel_history.specs.Party.{fresh, standing_of, Leads}
+use Rattle.channel_steps.specs.every_run.Bridge.{does, on_wait_lists}
+use Rattle.channel_history.specs.History.{is_line, of_kind, LiesWithOne, parts_of, IsChannelHistory}
+use Rattle.channel_history.specs.Keeps.{IsAt, SectionsKeep}
 use Rattle.channel_history.specs.declared.party.Standing.{Standing}
-use Rattle.channel_history.proofs.Goes.{all_by, all_woken, order_still, order_last, goes_on, moved}
-use Rattle.channel_history.proofs.PartyFacts.{leads_nowhere, leads_same}
-use Rattle.channel_history.proofs.Seats.{With, set_else, set_not_past, kinds_on, lies_here, lies_same, same_lists, stands_at, stands_set, stands_else, stands_past, stands_last, stands_before}
-
+use Rattle.channel_history.proofs.Goes.{all_woken, order_last, goes_on}
+use Rattle.channel_history.proofs.Seats.{With, lies_here, lies_same, stands_at, stands_set, stands_else}
 use Rattle.channel_history.proofs.Keeping.{leads_now, others_now}
 
 itself : (line : WaitList) → is_line line line ≡ true
@@ -83,7 +77,9 @@ module _ {T W : Type 0} (form : QueueForm) (views : List (Standing T W)) (c : Co
 pub sections_keep : (T W : Type 0) → SectionsKeep T W
 sections_keep T W form views c n m p v w line l k o h there (os, quiet, leads) has leaves changes =
     goes_on form views (slice_set views p w) c c n m n m h p (map does (os ++ on_wait_lists o ∷ [])) (put line k.lists h.listening) (h.woken ++ woken_by o)
-    (order_last p os (on_wait_lists o) (parts_of c h.listening n m, h.woken) (parts_of c (put line k.lists h.listening) n m, h.woken ++ woken_by o) quiet
-        (subst (λ (x : Parts T W). Does o (parts_of c h.listening n m) x) (with_put line k.lists c h.listening n m)
-            (changes (parts_of c h.listening n m) (found line c h.listening n m ∙ held form views c n m h p v w there line l k has leaves)), all_woken h.woken (woken_by o)))
+    (order_last p os (on_wait_lists o) (parts_of c h.listening n m, h.woken) (parts_of c (put line k.lists h.listening) n m, h.woken ++ woken_by o) quiet (
+      subst (λ (x : Parts T W). Does o (parts_of c h.listening n m) x) (with_put line k.lists c h.listening n m)
+          (changes (parts_of c h.listening n m) (found line c h.listening n m ∙ held form views c n m h p v w there line l k has leaves)),
+      all_woken h.woken (woken_by o),
+    ))
     (leads_now form views c n m h p v w there _ leads) (others_now form views c n m h p v w there) (λ x. lie form views c n m h p v w there line l k has leaves x (is_line x line) refl)

@@ -1,11 +1,11 @@
 -- A party of a channel: where it stands, and what leads it on. It speaks of no cells.
-use Rattle.std.specs.Prelude.{◌≡◌, ℕ, List, [], ◌∷◌, ◌++◌, map, Option, None, Some}
+use Rattle.std.specs.Prelude.{◌≡◌, ℕ, List, [], ◌∷◌, ◌++◌, map, None}
 use mathlib.Core.Option as home
 use lib.ListN.{get_elem?}
 use Rattle.concurrent_queue.specs.declared.cells.QueueForm.{QueueForm}
 use Rattle.channel_calls.specs.declared.ask.ChannelAsk.{ChannelAsk}
 use Rattle.channel_calls.specs.declared.whole.Completed.{Completed}
-use Rattle.channel_steps.specs.every_run.Bridge.{Act, on_queue, on_wait_lists, on_nothing, Event, begins, does, ActsTo}
+use Rattle.channel_steps.specs.every_run.Bridge.{Act, on_queue, on_nothing, Event, begins, does, ActsTo}
 use Rattle.channel_history.specs.declared.party.Standing.{Standing}
 
 module _ {T W : Type 0} where

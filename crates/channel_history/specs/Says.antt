@@ -1,5 +1,5 @@
 -- What a history of a channel says at its moment: it is a run of the channel, in which each party stands where its view says.
-use Rattle.std.specs.Prelude.{◌≡◌, ℕ, ◌+◌, ◌-◌, ◌≤◌, Bool, true, false, List, [], ◌∷◌, ◌++◌, ◌⊎◌, length, if◌then◌else◌, Option, None, Some}
+use Rattle.std.specs.Prelude.{◌≡◌, ℕ, ◌+◌, ◌-◌, ◌≤◌, Bool, true, false, List, [], ◌∷◌, ◌++◌, ◌⊎◌, length, if◌then◌else◌, None, Some}
 use Rattle.concurrent_queue.specs.Bridge.{HasCells}
 use Rattle.concurrent_queue.specs.Capacity.{capacity_of}
 use Rattle.concurrent_queue.specs.Contents.{Contents}
@@ -101,59 +101,64 @@ module _ {T W : Type 0} (form : QueueForm) (views : List (Standing T W)) (cells 
     -- each reply that a view says was given ended a call of its party in a step of the run, as its row says
     pub replies : (p : ℕ) → HaveEnded p (standing_of views p).given (just_opened form []) (steps_of h.events) keeps.is.trace keeps.is.run.moments
 
-  -- what is said of this moment, at which the run has led to the configuration s
-  pub record MomentSays (keeps : IsHeadlineRun) (s : Configuration T W) : Type 0 where
-    -- its lists are those that lie with seats, by their views, and its counts are those of the words
-    pub lists : s.now.wait_lists ≡ (let parts = parts_of cells h.listening senders receivers in parts.wait_lists)
-    pub counts : (side : Side) → count side s.now.wait_lists ≡ counted_by side h.events 1
-    pub capacity : s.now.queue.capacity ≡ capacity_of form
+  -- where the run has led to
+  abbrev pub configuration_of : HistorySays → Configuration T W
+  configuration_of says = let keeps = says.keeps in let run = keeps.is in run.configuration
+
+  -- what is said of this moment
+  pub record MomentSays (says : HistorySays) : Type 0 where
+    -- its lists are those that lie with seats, by their views, and its counts those of the words; and these are what raises and lowerings
+    -- made of one handle of each kind
+    pub lists : (configuration_of says).now.wait_lists ≡ (parts_of cells h.listening senders receivers).wait_lists
+    pub counts : (side : Side) → count side (configuration_of says).now.wait_lists ≡ counted_by side h.events 1
+    pub capacity : (configuration_of says).now.queue.capacity ≡ capacity_of form
     -- its calls under way are those that the views say, and stand where these say
-    pub calls : Each (λ u. StandsByView views u) s.under_way
-    pub all_calls : (p : ℕ) (at : Stage (QueueCall T) T W) → (standing_of views p).stage ≡ Some at → Any (λ u. (u.party ≡ p) × IsAtStage at u) s.under_way
+    pub calls : Each (λ u. StandsByView views u) (configuration_of says).under_way
+    pub all_calls : (p : ℕ) (at : Stage (QueueCall T) T W) → (standing_of views p).stage ≡ Some at → Any (λ u. (u.party ≡ p) × IsAtStage at u) (configuration_of says).under_way
     -- what left the channel, followed by what it holds, is what came into it, in order, and it is no more than fit
-    pub in_order : s.gone ++ s.now.queue.items ≡ s.came
-    pub fits : IsWithinBound s.now
+    pub in_order : (configuration_of says).gone ++ (configuration_of says).now.queue.items ≡ (configuration_of says).came
+    pub fits : IsWithinBound (configuration_of says).now
     -- and so the cells say it
-    pub words : WordsSay cells keeps.is.parties s
+    pub words : WordsSay cells says.keeps.is.parties (configuration_of says)
     -- beside one who is pending and was not told, whose listener no call has in hand, there is no message, no free place and no
     -- closing but such as a told one or a call under way answers for
-    pub receives : PendingReceivesAreOwed s
-    pub sends : PendingSendsAreOwed s
-    pub streams : PendingStreamsAreOwed s
-    pub closing : PendingIsOwedTheClosing s
+    pub receives : PendingReceivesAreOwed (configuration_of says)
+    pub sends : PendingSendsAreOwed (configuration_of says)
+    pub streams : PendingStreamsAreOwed (configuration_of says)
+    pub closing : PendingIsOwedTheClosing (configuration_of says)
 
   -- ---- at rest: no party has a call under way
 
   abbrev pub AtRest : Type 0
   AtRest = (p : ℕ) → (standing_of views p).stage ≡ None
 
-  pub record RestSays (s : Configuration T W) : Type 0 where
+  pub record RestSays (says : HistorySays) : Type 0 where
     -- what was accepted is what was taken, followed by what the cells hold, in order
-    pub account : s.came ≡ s.gone ++ items_in cells
+    pub account : (configuration_of says).came ≡ (configuration_of says).gone ++ items_in cells
     -- where a receive waits, each message has a receive that was told
-    pub receives : (key : Key) → IsIn key (let l = h.listening Receives in l.waiting) → length (items_in cells) ≤ length (let l = h.listening Receives in l.told)
+    pub receives : (key : Key) → IsIn key (h.listening Receives).waiting → length (items_in cells) ≤ length (h.listening Receives).told
     -- where a send waits there is a bound, and each place has a message or a send that was told
-    pub sends : (key : Key) → IsIn key (let l = h.listening Sends in l.waiting)
-        → HasPlaces (capacity_of form) (length (items_in cells) + length (let l = h.listening Sends in l.told))
+    pub sends : (key : Key) → IsIn key (h.listening Sends).waiting → HasPlaces (capacity_of form) (length (items_in cells) + length (h.listening Sends).told)
     -- where a stream waits there is no message
-    pub streams : (key : Key) → IsIn key (let l = h.listening Streams in l.waiting) → items_in cells ≡ []
+    pub streams : (key : Key) → IsIn key (h.listening Streams).waiting → items_in cells ≡ []
     -- where anybody waits the channel is open
-    pub closing : (line : WaitList) (key : Key) → IsIn key (let l = h.listening line in l.waiting) → closed_in cells ≡ false
+    pub closing : (line : WaitList) (key : Key) → IsIn key (h.listening line).waiting → closed_in cells ≡ false
+
+-- ---- the laws
 
 module _ (T W : Type 0) where
-  -- as long as positions last
-  abbrev pub Histories : ((form : QueueForm) (views : List (Standing T W)) (cells : Contents T) (senders receivers : ℕ) → IsChannelHistory form views cells senders receivers → Type 0) → Type 0
-  Histories P =
-      (form : QueueForm) (views : List (Standing T W)) (cells : Contents T) (senders receivers : ℕ) → HasCells form
-      → (h : IsChannelHistory form views cells senders receivers) → LastsFor (length h.events) form → P form views cells senders receivers h
-
-  -- THE LAW
+  -- as long as positions last, a history is such a run
   abbrev pub HistoriesAreRuns : Type 0
-  HistoriesAreRuns = Histories (λ form views cells senders receivers h.
-      (says : HistorySays form views cells senders receivers h)
-      × MomentSays form views cells senders receivers h says.keeps (let keeps = says.keeps in let run = keeps.is in run.configuration))
+  HistoriesAreRuns =
+      (form : QueueForm) (views : List (Standing T W)) (cells : Contents T) (senders receivers : ℕ) → HasCells form
+      → (h : IsChannelHistory form views cells senders receivers) → LastsFor (length h.events) form → HistorySays form views cells senders receivers h
+
+  abbrev pub EachMomentIsSaid : Type 0
+  EachMomentIsSaid =
+      (form : QueueForm) (views : List (Standing T W)) (cells : Contents T) (senders receivers : ℕ) (h : IsChannelHistory form views cells senders receivers)
+      (says : HistorySays form views cells senders receivers h) → MomentSays form views cells senders receivers h says
 
   abbrev pub NobodyIsMissedAtRest : Type 0
-  NobodyIsMissedAtRest = Histories (λ form views cells senders receivers h.
-      AtRest form views cells senders receivers h → (says : HistorySays form views cells senders receivers h)
-      × RestSays form views cells senders receivers h (let keeps = says.keeps in let run = keeps.is in run.configuration))
+  NobodyIsMissedAtRest =
+      (form : QueueForm) (views : List (Standing T W)) (cells : Contents T) (senders receivers : ℕ) (h : IsChannelHistory form views cells senders receivers)
+      (says : HistorySays form views cells senders receivers h) → AtRest form views cells senders receivers h → RestSays form views cells senders receivers h says

@@ -2,7 +2,7 @@
 
 ghost use Rattle.channel_history.specs.Keeps.{DeedsDo, OpensWell, QueueOperationsKeep, SectionsKeep, CountOperationsKeep, BeginningsKeep, ArrivalsKeep, EndingsKeep, JoinsKeep, SplitsKeep};
 ghost use Rattle.channel_history.specs.Row.{OneSenderIsCounted};
-ghost use Rattle.channel_history.specs.Says.{HistoriesAreRuns, NobodyIsMissedAtRest};
+ghost use Rattle.channel_history.specs.Says.{EachMomentIsSaid, HistoriesAreRuns, NobodyIsMissedAtRest};
 
 /// A channel that was just opened has a history, in which nothing has happened and the four lists lie with the first seat.
 pub fn a_new_channel_has_a_history<T, W>()
@@ -42,13 +42,17 @@ pub fn one_sender_is_counted<T, W>()
 {}
 
 /// At every moment such a history is a run of the channel, of which the whole headline holds, as long as positions last: of any length
-/// over one slot, and else of fewer than 2^61 events. Each party has been given what its view says, and stands where its view says.
-///
-/// Of this moment: what left the channel, followed by what it holds, is what came into it, in order. Beside one who is pending and was
-/// not told there is no message, no free place and no closing but such as a told one or a call under way answers for. The lists are
-/// those that the views say, and the counts those of the words.
+/// over one slot, and else of fewer than 2^61 events. Each party has been given what its view says, each reply as its row says, and
+/// stands where its view says.
 pub fn histories_are_runs<T, W>()
     ensures runs { HistoriesAreRuns T W }
+{}
+
+/// Of this moment: what left the channel, followed by what it holds, is what came into it, in order. Beside one who is pending and was
+/// not told there is no message, no free place and no closing but such as a told one or a call under way answers for. These calls, with
+/// what they ask, and the lists are those that the views say; the counts are those of the words, and what raises and lowerings made.
+pub fn each_moment_is_said<T, W>()
+    ensures said { EachMomentIsSaid T W }
 {}
 
 /// Where no party has a call under way, nobody is missed. Who waits in an open channel as a receive sees no more messages than receives
