@@ -60,7 +60,7 @@ module _ {T W : Type 0} where
   differ_stepped c (x ∷ xs) u v r behind e h = (each_stepped x.party c xs u v r behind e h.0, differ_stepped c xs u v r behind e h.1)
 
 module _ {T W S : Type 0} (wakes : S → W → S → Type 0) where
-  differ_next : (m : MergeMoment T W S) (x : Step T W) (e : Entry T) (n : MergeMoment T W S) → MergeStepSays wakes m x e n → AllDiffer m.configuration.under_way → AllDiffer n.configuration.under_way
+  pub differ_next : (m : MergeMoment T W S) (x : Step T W) (e : Entry T) (n : MergeMoment T W S) → MergeStepSays wakes m x e n → AllDiffer m.configuration.under_way → AllDiffer n.configuration.under_way
   differ_next m (step.Begin p ask) e n says h =
       let b = says.call in
       subst (λ (us : List (ActiveCall T W)). AllDiffer us) (sym b.under_way) (differ_begun m.configuration.under_way _ h b.idle)

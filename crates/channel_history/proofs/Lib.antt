@@ -12,4 +12,7 @@ mod ByViews
 mod Asking
 mod Replying
 mod Saying
+mod RowFacts
+mod Accounting
+mod Accounts
 mod Runs

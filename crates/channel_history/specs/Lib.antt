@@ -4,4 +4,5 @@ pub mod Party
 pub mod History
 pub mod Keeps
 pub mod Says
+pub mod Accounts
 pub mod Row

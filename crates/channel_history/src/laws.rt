@@ -1,5 +1,6 @@
 //! Laws of every history of a channel's cells. Each is the contract of a function that does nothing.
 
+ghost use Rattle.channel_history.specs.Accounts.{HistoriesAreAccounted};
 ghost use Rattle.channel_history.specs.Keeps.{DeedsDo, OpensWell, QueueOperationsKeep, SectionsKeep, CountOperationsKeep, BeginningsKeep, ArrivalsKeep, EndingsKeep, JoinsKeep, SplitsKeep};
 ghost use Rattle.channel_history.specs.Row.{OneSenderIsCounted};
 ghost use Rattle.channel_history.specs.Says.{EachMomentIsSaid, HistoriesAreRuns, NobodyIsMissedAtRest};
@@ -60,4 +61,11 @@ pub fn each_moment_is_said<T, W>()
 /// nobody waits. What was accepted is what was taken, followed by what the cells hold, in order.
 pub fn nobody_is_missed_at_rest<T, W>()
     ensures rest { NobodyIsMissedAtRest T W }
+{}
+
+/// Each message that came into the channel or left it is a party's, by its view. What a party has brought in and taken out is what its
+/// calls that have ended brought in and took out, by what they asked and gave, in their order, and then what its call under way has
+/// brought in or taken out by its marks.
+pub fn histories_are_accounted<T, W>()
+    ensures accounted { HistoriesAreAccounted T W }
 {}
