@@ -1,26 +1,14 @@
 -- Each message that came in or left is a party's, by what its calls asked and gave.
 use Rattle.std.proofs.Common.{◌≡◌, ℕ, ◌==◌, Bool, true, false, List, [], ◌∷◌, ◌++◌, map, if◌then◌else◌, refl, sym, ap, ◌∙◌, subst, eq-eqb, ne_eqb, append_assoc, append-nil}
-use Rattle.std.specs.Prelude.{Option, None, Some, IfSome}
-use native.Mathlib.Decide.{ℕ_discrete}
+use Rattle.std.specs.Prelude.{Option, None, Some}
 use Rattle.channel_calls.specs.Moves.{Channel}
 use Rattle.channel_calls.specs.declared.ask.ChannelAsk.{ChannelAsk}
 use Rattle.channel_calls.specs.declared.reply.Reply.{Reply}
-use Rattle.channel_calls.specs.declared.stage.Returned.{Returned}
 use Rattle.channel_calls.specs.declared.whole.Completed.{Completed}
-use Rattle.channel_steps.specs.Configuration.{ActiveCall, Configuration, brought, gone_by, sees, unless_ended}
-use Rattle.channel_steps.specs.Run.{EachStep, end_of}
-use Rattle.channel_steps.specs.declared.party.Entry.{Entry}
-use Rattle.channel_steps.specs.every_run.Bridge.{Event, begins, does, Happening, MergeMoment, given_by, step_of, steps_of}
-use Rattle.channel_steps.specs.every_run.BridgeHeadline.{MergeStepSays, MergeWorkSays}
-use Rattle.channel_steps.specs.every_run.EndSays.{EndSays}
+use Rattle.channel_steps.specs.Configuration.{ActiveCall, sees, unless_ended}
 use Rattle.channel_steps.specs.every_run.Ends.{Each}
-use Rattle.channel_steps.specs.every_run.Marked.{brought_by}
-use Rattle.channel_history.specs.Accounts.{accepted_of, taken_of, messages, of_party, all_accepted, all_taken, asked_in, given_in, marked_in, marked_out, of_call, asks_in, brings_in, takes_out, PartyAccount, Accounts}
-use Rattle.channel_history.specs.History.{appends}
-use Rattle.channel_history.specs.Party.{asks_of}
-use Rattle.channel_history.proofs.Asking.{asked_more}
+use Rattle.channel_history.specs.Accounts.{accepted_of, taken_of, messages, of_party, all_accepted, all_taken, asked_in, given_in, of_call, asks_in, brings_in, takes_out, PartyAccount}
 use Rattle.channel_history.proofs.ByViews.{AllDiffer}
-use Rattle.channel_history.proofs.RowFacts.{in_marked, out_marked, row_in, row_out}
 
 -- ---- messages with their parties
 
@@ -87,7 +75,7 @@ module _ {T W X : Type 0} (f : ActiveCall T W → List X) where
   of_behind p [] vs h = refl
   of_behind p (u ∷ us) vs h = ap (λ (b : Bool). if b then f u else Of p (us ++ vs)) (ne_eqb u.party p h.0) ∙ of_behind p us vs h.1
 
-  of_first : (p : ℕ) (u : ActiveCall T W) (us : List (ActiveCall T W)) → u.party ≡ p → Of p (u ∷ us) ≡ f u
+  pub of_first : (p : ℕ) (u : ActiveCall T W) (us : List (ActiveCall T W)) → u.party ≡ p → Of p (u ∷ us) ≡ f u
   of_first p u us e = ap (λ (b : Bool). if b then f u else Of p us) (eq-eqb u.party p e)
 
   -- another's beginning

@@ -7,17 +7,18 @@ use Rattle.channel_calls.specs.declared.ask.ChannelAsk.{ChannelAsk}
 use Rattle.channel_calls.specs.declared.reply.Reply.{Reply}
 use Rattle.channel_calls.specs.declared.stage.Returned.{Returned}
 use Rattle.channel_calls.specs.declared.whole.Completed.{Completed}
-use Rattle.channel_steps.specs.Configuration.{ActiveCall, Configuration, brought, gone_by, sees, unless_ended}
+use Rattle.channel_steps.specs.Configuration.{ActiveCall, brought, gone_by, sees, unless_ended}
 use Rattle.channel_steps.specs.Run.{EachStep, call_begun, end_of, new_configuration}
 use Rattle.channel_steps.specs.declared.party.Entry.{Entry}
 use Rattle.channel_steps.specs.every_run.Bridge.{Act, Event, begins, does, Happening, MergeMoment, given_by, given_to, just_opened, step_of, steps_of}
 use Rattle.channel_steps.specs.every_run.BridgeHeadline.{MergeStepSays, MergeWorkSays}
 use Rattle.channel_steps.specs.every_run.EndSays.{EndSays}
+use Rattle.channel_steps.specs.every_run.Ends.{Each}
 use Rattle.channel_steps.specs.every_run.Marked.{brought_by}
-use Rattle.channel_history.specs.Accounts.{accepted_of, taken_of, of_party, asks_in, brings_in, takes_out, PartyAccount, Accounts, HistoriesAreAccounted}
+use Rattle.channel_history.specs.Accounts.{accepted_of, of_party, of_call, asks_in, brings_in, takes_out, PartyAccount, Accounts, HistoriesAreAccounted}
 use Rattle.channel_history.specs.History.{appends}
 use Rattle.channel_history.specs.Party.{asks_of, standing_of}
-use Rattle.channel_history.proofs.Accounting.{tagged, messages_more, party_mine, party_other, of_begun, of_stepped, restate, other_calls, begins_one, goes_on, has_ended}
+use Rattle.channel_history.proofs.Accounting.{tagged, messages_more, party_mine, party_other, of_first, of_begun, of_stepped, restate, other_calls, begins_one, goes_on, has_ended}
 use Rattle.channel_history.proofs.Asking.{asked_more, asked_by, asked_own}
 use Rattle.channel_history.proofs.ByViews.{AllDiffer, differ_next}
 use Rattle.channel_history.proofs.RowFacts.{in_marked, out_marked, row_in, row_out}
@@ -47,13 +48,13 @@ module _ {T W : Type 0} where
         restate k (asked k) _ (given k) _ (of_party k acc.accepted) _ (of_party k acc.taken) _ (m.configuration.under_way ++ u ∷ []) _
         (ap (λ (x : Bool). asked k ++ (if x then ask ∷ [] else [])) (ne_eqb q k apart) ∙ append-nil (asked k)) (nothing_given k) refl refl b.under_way
         (other_calls k (asked k) (given k) (of_party k acc.accepted) (of_party k acc.taken) m.configuration.under_way (m.configuration.under_way ++ u ∷ [])
-            (of_begun asks_in k m.configuration.under_way u apart) (of_begun brings_in k m.configuration.under_way u apart) (of_begun takes_out k m.configuration.under_way u apart) (acc.each k))
+        (of_begun asks_in k m.configuration.under_way u apart) (of_begun brings_in k m.configuration.under_way u apart) (of_begun takes_out k m.configuration.under_way u apart) (acc.each k))
     begun_each k (yes is) =
         let b = says.call in let u : ActiveCall T W = call_begun q ask b.at_first m.configuration.now in
         subst (λ (j : ℕ). PartyAccount j (asked_more asked (record { party = q; event = begins ask }) j) (given_more given q e j) (of_party j acc.accepted) (of_party j acc.taken) n.configuration.under_way) is
         (restate q (asked q ++ ask ∷ []) _ (given q) _ (of_party q acc.accepted) _ (of_party q acc.taken) _ (m.configuration.under_way ++ u ∷ []) _
-            (ap (λ (x : Bool). asked q ++ (if x then ask ∷ [] else [])) (eq-eqb q q refl)) (nothing_given q) refl refl b.under_way
-            (begins_one q (asked q) (given q) (of_party q acc.accepted) (of_party q acc.taken) m.configuration.under_way u b.idle refl refl refl (acc.each q)))
+        (ap (λ (x : Bool). asked q ++ (if x then ask ∷ [] else [])) (eq-eqb q q refl)) (nothing_given q) refl refl b.under_way
+        (begins_one q (asked q) (given q) (of_party q acc.accepted) (of_party q acc.taken) m.configuration.under_way u b.idle refl refl refl (acc.each q)))
 
     begun_accounts : Accounts (λ k. asked_more asked (record { party = q; event = begins ask }) k) (λ k. given_more given q e k) n.configuration
     begun_accounts = let next = says.next.0 in record {
@@ -111,10 +112,10 @@ module _ {T W : Type 0} where
         (nothing_asked k) (ap (λ (x : Bool). given k ++ (if x then given_by e.reply e.kept else [])) (ne_eqb q k apart) ∙ append-nil (given k))
         (party_other acc.accepted q k Ins apart) (party_other acc.taken q k Outs apart) w.goes_on
         (other_calls k (asked k) (given k) (of_party k acc.accepted) (of_party k acc.taken) Was (Left e.reply)
-            (of_stepped asks_in (λ c u. refl) n.configuration.now k w.before w.call w.after e.reply w.behind not_his same_party)
-            (of_stepped brings_in (λ c u. refl) n.configuration.now k w.before w.call w.after e.reply w.behind not_his same_party)
-            (of_stepped takes_out (λ c u. refl) n.configuration.now k w.before w.call w.after e.reply w.behind not_his same_party)
-            (there k))
+        (of_stepped asks_in (λ c u. refl) n.configuration.now k w.before w.call w.after e.reply w.behind not_his same_party)
+        (of_stepped brings_in (λ c u. refl) n.configuration.now k w.before w.call w.after e.reply w.behind not_his same_party)
+        (of_stepped takes_out (λ c u. refl) n.configuration.now k w.before w.call w.after e.reply w.behind not_his same_party)
+        (there k))
 
     abbrev NowWith : Option (Reply T) → Type 0
     NowWith r = PartyAccount q (asked q) (given q ++ given_by r e.kept) (of_party q acc.accepted ++ Ins) (of_party q acc.taken ++ Outs) (Left r)
@@ -123,7 +124,7 @@ module _ {T W : Type 0} where
     step_mine None is =
         restate q (asked q) _ (given q) _ (of_party q acc.accepted ++ Ins) _ (of_party q acc.taken ++ Outs) _ (Left None) _ refl (append-nil (given q)) refl refl refl
         (goes_on q n.configuration.now w.before w.call w.after w.behind (subst (λ (us : List (ActiveCall T W)). AllDiffer us) w.under_way differ) w.party same_party
-            (asked q) (given q) (of_party q acc.accepted) (of_party q acc.taken) Ins Outs same_ask brings takes (there q))
+        (asked q) (given q) (of_party q acc.accepted) (of_party q acc.taken) Ins Outs same_ask brings takes (there q))
     step_mine (Some r) is =
         let work = w.work in
         let end : EndSays w.after r e.kept = subst (λ (x : Option (Reply T)). IfSome x (λ y. EndSays w.after y e.kept)) is work.ends in
@@ -132,17 +133,17 @@ module _ {T W : Type 0} where
         restate q (asked q) _ (given q ++ x ∷ []) _ (of_party q acc.accepted ++ Ins) _ (of_party q acc.taken ++ Outs) _ (Left (Some r)) _ refl
         (ap (λ (k : Option (Returned T)). given q ++ given_by (Some r) k) end.leaves) refl refl refl
         (has_ended q n.configuration.now w.before w.call w.after w.behind (subst (λ (us : List (ActiveCall T W)). AllDiffer us) w.under_way differ) w.party same_party
-            (asked q) (given q) (of_party q acc.accepted) (of_party q acc.taken) Ins Outs same_ask brings takes (there q) x
-            (row_in w.after.ask w.after.marks met.1 r met.3 ∙ ap (λ (a : ChannelAsk T W). accepted_of a r) same_ask)
-            (row_out w.after.ask w.after.marks met.1 r met.3))
+        (asked q) (given q) (of_party q acc.accepted) (of_party q acc.taken) Ins Outs same_ask brings takes (there q) x
+        (row_in w.after.ask w.after.marks met.1 r met.3 ∙ ap (λ (a : ChannelAsk T W). accepted_of a r) same_ask)
+        (row_out w.after.ask w.after.marks met.1 r met.3))
 
     step_each : (k : ℕ) → Dec (q ≡ k) → Now k
     step_each k (no apart) = step_other k apart
     step_each k (yes is) =
         subst Now is
         (restate q (asked q) _ (given q ++ given_by e.reply e.kept) _ (of_party q acc.accepted ++ Ins) _ (of_party q acc.taken ++ Outs) _ (Left e.reply) _
-            (nothing_asked q) (ap (λ (x : Bool). given q ++ (if x then given_by e.reply e.kept else [])) (eq-eqb q q refl))
-            (party_mine acc.accepted q Ins) (party_mine acc.taken q Outs) w.goes_on (step_mine e.reply refl))
+        (nothing_asked q) (ap (λ (x : Bool). given q ++ (if x then given_by e.reply e.kept else [])) (eq-eqb q q refl))
+        (party_mine acc.accepted q Ins) (party_mine acc.taken q Outs) w.goes_on (step_mine e.reply refl))
 
     step_accounts : Accounts (λ k. asked_more asked (record { party = q; event = does o }) k) (λ k. given_more given q e k) n.configuration
     step_accounts = let work = w.work in let add = work.accounts in record {
@@ -197,8 +198,8 @@ pub histories_are_accounted : (T W : Type 0) → HistoriesAreAccounted T W
 histories_are_accounted T W form views cells senders receivers h says =
     let keeps = says.keeps in let is = keeps.is in let r = is.run in
     let end : Accounts (λ k. asked_by (λ q. []) h.events k) (λ k. given_all (λ q. []) h.events is.trace k) is.configuration =
-        subst (λ (m : MergeMoment T W (List W)). Accounts (λ k. asked_by (λ q. []) h.events k) (λ k. given_all (λ q. []) h.events is.trace k) m.configuration) r.ends
-        (accounts_last (λ q. []) (λ q. []) (just_opened form []) h.events is.trace r.moments keeps.each tt (opened (capacity_of form))) in
+    subst (λ (m : MergeMoment T W (List W)). Accounts (λ k. asked_by (λ q. []) h.events k) (λ k. given_all (λ q. []) h.events is.trace k) m.configuration) r.ends
+    (accounts_last (λ q. []) (λ q. []) (just_opened form []) h.events is.trace r.moments keeps.each tt (opened (capacity_of form))) in
     record {
       accepted = end.accepted;
       taken = end.taken;
@@ -209,3 +210,17 @@ histories_are_accounted T W form views cells senders receivers h says =
           restate p _ (standing_of views p).asked _ (standing_of views p).given (of_party p end.accepted) _ (of_party p end.taken) _ is.configuration.under_way _
           (mine.asked ∙ sym (asked_own (λ q. []) h.events p)) (sym (is.answers p) ∙ sym (given_own (λ q. []) h.events is.trace p)) refl refl refl (end.each p);
     }
+
+-- ---- what a call under way asks
+
+module _ {T W : Type 0} where
+  behind_first : (x : ActiveCall T W) (xs ys : List (ActiveCall T W)) → Each (λ v. v.party ≡ x.party → ⊥) ys → Each (λ u. of_call asks_in u.party xs ≡ u.ask ∷ []) ys
+      → Each (λ u. of_call asks_in u.party (x ∷ xs) ≡ u.ask ∷ []) ys
+  behind_first x xs [] n h = tt
+  behind_first x xs (y ∷ ys) n h =
+      (ap (λ (b : Bool). if b then asks_in x else of_call asks_in y.party xs) (ne_eqb x.party y.party (λ e. n.0 (sym e))) ∙ h.0, behind_first x xs ys n.1 h.1)
+
+  -- it is the only one of its party
+  pub each_asks : (us : List (ActiveCall T W)) → AllDiffer us → Each (λ u. of_call asks_in u.party us ≡ u.ask ∷ []) us
+  each_asks [] d = tt
+  each_asks (x ∷ xs) d = (of_first asks_in x.party x xs refl, behind_first x xs xs d.0 (each_asks xs d.1))

@@ -29,10 +29,12 @@ use Rattle.channel_steps.specs.every_run.Ends.{Each}
 use Rattle.channel_steps.specs.every_run.Waits.{Any, IsIn, Waits}
 use Rattle.channel_steps.proofs.Interface.{run_keeps}
 use Rattle.channel_steps.proofs.every_run.Bounds.{capacity_next}
+use Rattle.channel_history.specs.Accounts.{Accounts, asked_in, asks_in, of_call}
 use Rattle.channel_history.specs.History.{appends, parts_of, IsChannelHistory}
+use Rattle.channel_history.specs.Party.{standing_of}
 use Rattle.channel_history.specs.Says.{IsAtStage, StandsByView, counted_by, IsHeadlineRun, HistorySays, MomentSays, AtRest, RestSays, EachMomentIsSaid, NobodyIsMissedAtRest}
 use Rattle.channel_history.specs.declared.party.Standing.{Standing}
-use Rattle.channel_history.proofs.Asking.{AsksLast, asked_by, asked_own, asks_last}
+use Rattle.channel_history.proofs.Accounts.{histories_are_accounted, each_asks}
 use Rattle.channel_history.proofs.ByViews.{AllDiffer, StandsIn, differ_last, all_stand, all_there}
 use Rattle.channel_history.proofs.Counting.{counts_made}
 
@@ -84,14 +86,8 @@ module _ {T W : Type 0} (form : QueueForm) (views : List (Standing T W)) (cells 
       subst (λ (m : MergeMoment T W (List W)). AllDiffer m.configuration.under_way) r.ends
       (differ_last appends (just_opened form []) (steps_of h.events) run.trace r.moments keeps.each tt)
 
-  abbrev asked_so : ℕ → List (ChannelAsk T W)
-  asked_so q = asked_by (λ p. []) h.events q
-
-  ask : Each (λ u. AsksLast asked_so u) Last.under_way
-  ask =
-      let run = keeps.is in let r = run.run in
-      subst (λ (m : MergeMoment T W (List W)). Each (λ u. AsksLast asked_so u) m.configuration.under_way) r.ends
-      (asks_last appends (λ p. []) (just_opened form []) h.events run.trace r.moments keeps.each tt)
+  accounts : Accounts (λ p. (standing_of views p).asked) (λ p. (standing_of views p).given) Last
+  accounts = histories_are_accounted T W form views cells senders receivers h says
 
   bound : Last.now.queue.capacity ≡ capacity_of form
   bound =
@@ -99,16 +95,17 @@ module _ {T W : Type 0} (form : QueueForm) (views : List (Standing T W)) (cells 
       run_keeps NextConfiguration (λ (s : Configuration T W). s.now.queue.capacity ≡ capacity_of form)
       (λ s x e t n q. capacity_next s x e n.0 t n.1 ∙ q) (new_configuration (capacity_of form)) (steps_of h.events) run.trace Last run.configurations refl
 
-  by_view : (us : List (ActiveCall T W)) → Each (λ u. StandsIn (let run = keeps.is in run.parties) u) us → Each (λ u. AsksLast asked_so u) us → Each (λ u. StandsByView views u) us
+  by_view : (us : List (ActiveCall T W)) → Each (λ u. StandsIn (let run = keeps.is in run.parties) u) us → Each (λ u. of_call asks_in u.party Last.under_way ≡ u.ask ∷ []) us
+      → Each (λ u. StandsByView views u) us
   by_view [] e f = tt
   by_view (u ∷ us) e f =
-      let one = e.0 in let ask = f.0 in let mine = h.each u.party in (
+      let one = e.0 in let account = accounts.each u.party in (
         record {
           at = one.0;
           stage = sym (says.stands u.party) ∙ one.1;
           here = one.2;
-          before = ask.0;
-          asked = mine.asked ∙ sym (asked_own (λ q. []) h.events u.party) ∙ ask.1;
+          before = asked_in account.calls;
+          asked = account.asked_so ∙ ap (λ (l : List (ChannelAsk T W)). asked_in account.calls ++ l) f.0;
         },
         by_view us e.1 f.1,
       )
@@ -125,7 +122,7 @@ module _ {T W : Type 0} (form : QueueForm) (views : List (Standing T W)) (cells 
         lists = lists;
         counts = λ side. ap (λ (a : WaitLists W). count side a) lists ∙ counts_made side h.events _ _ h.order ∙ ap (λ (n : ℕ). counted_by side h.events n) (one side);
         capacity = bound;
-        calls = by_view Last.under_way there ask;
+        calls = by_view Last.under_way there (each_asks Last.under_way differ);
         all_calls = λ p at e.
             subst (λ (us : List (ActiveCall T W)). Any (λ u. (u.party ≡ p) × IsAtStage at u) us) (sym sh.under_way)
             (all_there sh.witnesses p at (ap (λ (ps : List (Party T W)). stage_at p ps) (sym sh.parties_are) ∙ says.stands p ∙ e));
@@ -176,6 +173,7 @@ module _ {T W : Type 0} (form : QueueForm) (views : List (Standing T W)) (cells 
 
     pub rest_says : RestSays form views cells senders receivers h says
     rest_says = let now = moment_says in let words = now.words in record {
+      nobody = idle;
       account = sym now.in_order ∙ ap (λ (ms : List T). Last.gone ++ ms) held;
       receives = λ key w.
           let enough = now.receives key (waits Receives key w) (free _) in

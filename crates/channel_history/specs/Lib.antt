@@ -1,5 +1,5 @@
--- `Party` says what a party's machine does, `History` what a history is, `Keeps` what keeps it, and `Says` what follows of it. `Row` is a
--- history with a call in it.
+-- `Party` says what a party's machine does, `History` what a history is, and `Keeps` what keeps it. `Says` is what follows of it, and
+-- `Accounts` whose its messages are. `Row` is a history with a call in it.
 pub mod Party
 pub mod History
 pub mod Keeps

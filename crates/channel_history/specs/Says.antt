@@ -133,6 +133,8 @@ module _ {T W : Type 0} (form : QueueForm) (views : List (Standing T W)) (cells 
   AtRest = (p : ℕ) → (standing_of views p).stage ≡ None
 
   pub record RestSays (says : HistorySays) : Type 0 where
+    -- no call is under way
+    pub nobody : (configuration_of says).under_way ≡ []
     -- what was accepted is what was taken, followed by what the cells hold, in order
     pub account : (configuration_of says).came ≡ (configuration_of says).gone ++ items_in cells
     -- where a receive waits, each message has a receive that was told
