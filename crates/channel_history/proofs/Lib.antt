@@ -1,4 +1,5 @@
 mod PartyFacts
+mod Steps
 mod Seats
 mod Goes
 mod Keeping

@@ -15,8 +15,10 @@ use Rattle.channel_steps.specs.every_run.Bridge.{on_wait_lists}
 use Rattle.channel_history.specs.Keeps.{opening, DeedsDo}
 use Rattle.channel_history.specs.Party.{fresh, Begins, Makes}
 use Rattle.channel_history.specs.Row.{has_counted, OneSenderIsCounted}
+use Rattle.channel_history.specs.Steps.{PartiesGoOn}
 use Rattle.channel_history.specs.declared.party.Standing.{Standing}
 use Rattle.channel_history.proofs.Deeds.{deeds_do}
+use Rattle.channel_history.proofs.Steps.{parties_go_on}
 use Rattle.channel_history.proofs.Keeping.{opens_well, arrivals_keep, count_operations_keep}
 
 module _ {T W : Type 0} (form : QueueForm) where
@@ -24,19 +26,13 @@ module _ {T W : Type 0} (form : QueueForm) where
   Asks = record { asked = HandleCount Senders ∷ []; stage = Some (Working (Count Senders)); given = []; lists = [] }
 
   begun : Begins form fresh (HandleCount Senders) Asks
-  begun = record { more = []; acts = (Working (Count Senders), (refl, refl), (refl, refl)); given = refl; asked = refl }
+  begun = let on : PartiesGoOn T W = parties_go_on T W in on.begins form fresh (HandleCount Senders) (Working (Count Senders)) refl (refl, refl)
 
   loaded : Makes form Asks (on_wait_lists (counted Senders 1)) has_counted
-  loaded = (
-    [],
-    tt,
-    record {
-      more = record { reply = reply.Count 1; kept = nothing_kept } ∷ [];
-      acts = (Nothing, Finished nothing_kept, Some (reply.Count 1), (1, refl, (refl, (refl, refl))), ([], refl, (refl, refl)));
-      given = refl;
-      asked = refl;
-    },
-  )
+  loaded =
+      let on : PartiesGoOn T W = parties_go_on T W in
+      on.makes form Asks has_counted (on_wait_lists (counted Senders 1))
+      (Working (Count Senders), Nothing, Finished nothing_kept, Some (reply.Count 1), refl, (1, refl, (refl, (refl, refl))), refl)
 
 pub one_sender_is_counted : (T W : Type 0) → OneSenderIsCounted T W
 one_sender_is_counted T W form l none =

@@ -4,6 +4,13 @@ ghost use Rattle.channel_history.specs.Accounts.{HistoriesAreAccounted};
 ghost use Rattle.channel_history.specs.Keeps.{DeedsDo, OpensWell, QueueOperationsKeep, SectionsKeep, CountOperationsKeep, BeginningsKeep, ArrivalsKeep, EndingsKeep, JoinsKeep, SplitsKeep};
 ghost use Rattle.channel_history.specs.Row.{OneSenderIsCounted};
 ghost use Rattle.channel_history.specs.Says.{EachMomentIsSaid, HistoriesAreRuns, NobodyIsMissedAtRest};
+ghost use Rattle.channel_history.specs.Steps.{PartiesGoOn};
+
+/// What a party does next, step by step: it begins a call, its call makes an act at once or after steps that touch nothing, and its call
+/// ends, perhaps by such steps.
+pub fn parties_go_on<T, W>()
+    ensures goes_on { PartiesGoOn T W }
+{}
 
 /// A channel that was just opened has a history, in which nothing has happened and the four lists lie with the first seat.
 pub fn a_new_channel_has_a_history<T, W>()
