@@ -1,0 +1,78 @@
+//! Laws of every history of a channel's cells. Each is the contract of a function that does nothing.
+
+ghost use Rattle.channel_history.specs.Accounts.{HistoriesAreAccounted};
+ghost use Rattle.channel_history.specs.Keeps.{DeedsDo, OpensWell, QueueOperationsKeep, SectionsKeep, CountOperationsKeep, BeginningsKeep, ArrivalsKeep, EndingsKeep, JoinsKeep, SplitsKeep};
+ghost use Rattle.channel_history.specs.Row.{OneSenderIsCounted};
+ghost use Rattle.channel_history.specs.Says.{EachMomentIsSaid, HistoriesAreRuns, NobodyIsMissedAtRest};
+ghost use Rattle.channel_history.specs.Steps.{PartiesGoOn};
+
+/// What a party does next, step by step: it begins a call, its call makes an act at once or after steps that touch nothing, and its call
+/// ends, perhaps by such steps.
+pub fn parties_go_on<T, W>()
+    ensures goes_on { PartiesGoOn T W }
+{}
+
+/// A channel that was just opened has a history, in which nothing has happened and the four lists lie with the first seat.
+pub fn a_new_channel_has_a_history<T, W>()
+    ensures opens { OpensWell T W }
+{}
+
+/// What the machine of a party does next keeps the history, where it does to the channel what it answers: an operation on a cell of
+/// the queue, a section on the list that lies with the party's seat, an operation on a count. Each may be preceded by steps of its
+/// call that touch nothing.
+pub fn operations_keep_the_history<T, W>()
+    ensures queue { QueueOperationsKeep T W }
+    ensures list { SectionsKeep T W }
+    ensures count { CountOperationsKeep T W }
+{}
+
+/// What a section on a list does, and an operation on a count: this, on every channel that has this list there, or these counts.
+pub fn deeds_do<T, W>()
+    ensures deeds { DeedsDo T W }
+{}
+
+/// So do the beginning of a call, of a party that has none under way or of a new one, and the end of a call. They touch nothing.
+pub fn calls_keep_the_history<T, W>()
+    ensures begins { BeginningsKeep T W }
+    ensures arrives { ArrivalsKeep T W }
+    ensures ends { EndingsKeep T W }
+{}
+
+/// And so it is where lists go from one seat to another: into that of a call before a section, and to a seat of their own after it.
+pub fn lists_pass_from_seat_to_seat<T, W>()
+    ensures joins { JoinsKeep T W }
+    ensures splits { SplitsKeep T W }
+{}
+
+/// There are such histories with calls in them: a new party asks how many senders there are, and is told one.
+pub fn one_sender_is_counted<T, W>()
+    ensures counted { OneSenderIsCounted T W }
+{}
+
+/// At every moment such a history is a run of the channel, of which the whole headline holds, as long as positions last: of any length
+/// over one slot, and else of fewer than 2^61 events. Each party has been given what its view says, each reply as its row says, and
+/// stands where its view says.
+pub fn histories_are_runs<T, W>()
+    ensures runs { HistoriesAreRuns T W }
+{}
+
+/// Of this moment: what left the channel, followed by what it holds, is what came into it, in order. Beside one who is pending and was
+/// not told there is no message, no free place and no closing but such as a told one or a call under way answers for. These calls, with
+/// what they ask, and the lists are those that the views say; the counts are those of the words, and what raises and lowerings made.
+pub fn each_moment_is_said<T, W>()
+    ensures said { EachMomentIsSaid T W }
+{}
+
+/// Where no party has a call under way, nobody is missed. Who waits in an open channel as a receive sees no more messages than receives
+/// that were told, as a send no more places than messages and sends that were told, as a stream no message; and in a closed channel
+/// nobody waits. What was accepted is what was taken, followed by what the cells hold, in order.
+pub fn nobody_is_missed_at_rest<T, W>()
+    ensures rest { NobodyIsMissedAtRest T W }
+{}
+
+/// Each message that came into the channel or left it is a party's, by its view. What a party has brought in and taken out is what its
+/// calls that have ended brought in and took out, by what they asked and gave, in their order, and then what its call under way has
+/// brought in or taken out by its marks.
+pub fn histories_are_accounted<T, W>()
+    ensures accounted { HistoriesAreAccounted T W }
+{}

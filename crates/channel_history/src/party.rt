@@ -1,0 +1,21 @@
+//! What the view of a seat says of its party. These types are for the proofs alone: no value of them is made.
+
+use channel_calls::ask::ChannelAsk;
+use channel_calls::stage::{Stage, WaitList};
+use channel_calls::whole::Completed;
+use concurrent_queue::QueueCall;
+use event_listener::List;
+use std::collections::LinkedList;
+
+/// Where a party stands. A party is whoever has one seat, and makes calls one after another; or its seat lies with a list of listeners
+/// behind the list's lock, and it makes none.
+pub struct Standing<T, W> {
+    /// What its calls asked, in order.
+    pub asked: LinkedList<ChannelAsk<T, W>>,
+    /// How far its call under way has come.
+    pub stage: Option<Stage<QueueCall<T>, T, W>>,
+    /// What its calls answered and left, in order.
+    pub given: LinkedList<Completed<T>>,
+    /// The lists of listeners that lie with its seat. A call's seat has one within a section, and no other.
+    pub lists: LinkedList<(WaitList, List<(), W>)>,
+}
