@@ -55,6 +55,23 @@ def is_library_there(crate, since):
     return bool(since) and is_whole and os.stat(folder).st_mtime >= since
 
 
+def was_touched(crate, since):
+    """Whether a file or folder that a check of a crate reads was changed since that moment, as far as the system's clock says."""
+    folders = [at for part in ("src", "specs", "proofs") for at in os.walk(f"{crate.folder}/{part}")]
+    paths = [path for at, _, names in folders for path in (at, *(f"{at}/{name}" for name in names))]
+    return any(os.lstat(path).st_ctime >= since for path in paths)
+
+
+def has_just_proved(crate, since):
+    """Whether `rt ci` has proved a crate since that moment, of the text that stands and over the libraries that stand.
+
+    It writes the library of a crate that it has proved, and leaves no stamp there. What it read is older than the moment at which it began.
+    """
+    if not since or os.stat(f"{crate.folder}/../../crates.txt").st_ctime >= since:
+        return False
+    return all(is_library_there(it, since) and not was_touched(it, since) for it in [*crate.below(), crate])
+
+
 def build_libraries(names, top, since):
     """Builds the libraries below these crates that are not there, and returns the crates that lack one."""
     failed, lacking = set(), []
