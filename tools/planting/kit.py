@@ -98,10 +98,11 @@ class Ran:
 def check(crate, room, only, kept=None, limit=None):
     """Checks these functions of a copy of a crate past its holes, over the work that an earlier check kept there, if it is given.
 
-    With a limit the check ends by a signal, status -SIGXCPU, once it has taken so many processor seconds.
+    With a limit each search for a proof ends after half of its steps (`--margin`), and the check by a signal, status -SIGXCPU, once it has
+    taken so many processor seconds.
     """
     words = ["sh", "-c", f'ulimit -c 0; ulimit -S -t {limit}; exec "$@"', "sh"] if limit else []
-    words += [library().RATTLE, "check", *crate.words(["--jobs", "1", "--allow-holes"])]
+    words += [library().RATTLE, "check", *crate.words(["--jobs", "1", "--allow-holes", *(["--margin"] if limit else [])])]
     words += [word for it in only for word in ("--only", it)]
     words += ["--incremental", kept] if kept else []
     with tempfile.TemporaryFile("w+", encoding="utf-8", errors="replace") as log:

@@ -60,7 +60,8 @@ class Trial:
     def key(self, edit):
         """The name under which it is kept what a check of an edit printed, without the answers that are deleted by then."""
         deleted = [[file, sorted(answers)] for file, answers in sorted(self.deleted.get(edit.label, {}).items())]
-        return kept.sum_of(self.sum, "edit", edit.pairs, [*deleted, SECOND, EACH] if deleted else [])
+        limits = [SECOND, EACH] if deleted and self.is_known(edit) else []
+        return kept.sum_of(self.sum, "edit", edit.pairs, deleted + limits)
 
     def control_key(self, function):
         """The name under which it is kept that a function was accepted as it stands."""
