@@ -15,6 +15,10 @@ MONTH = 30 * 24 * 3600
 PLANTS = ("answers", "kit", "layout", "plant", "room")
 
 
+# Whether this run takes nothing that earlier ones kept. What it finds is kept all the same.
+is_anew = False
+
+
 @functools.lru_cache(maxsize=None)
 def folder():
     """The folder of what is kept, outside of each checkout: beside the kit, as `rt ci` does, or else in the user's cache."""
@@ -64,6 +68,8 @@ def crate_sum(crate):
 
 def find(key):
     """What is kept under a key, or None."""
+    if is_anew:
+        return None
     try:
         with open(f"{folder()}/{key}", encoding="utf-8") as it:
             found = json.load(it)

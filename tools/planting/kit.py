@@ -55,6 +55,23 @@ def is_library_there(crate, since):
     return bool(since) and is_whole and os.stat(folder).st_mtime >= since
 
 
+def was_touched(crate, since):
+    """Whether a file or folder that a check of a crate reads was changed since that moment, as far as the system's clock says."""
+    folders = [at for part in ("src", "specs", "proofs") for at in os.walk(f"{crate.folder}/{part}")]
+    paths = [path for at, _, names in folders for path in (at, *(f"{at}/{name}" for name in names))]
+    return any(os.lstat(path).st_ctime >= since for path in paths)
+
+
+def has_just_proved(crate, since):
+    """Whether `rt ci` has proved a crate since that moment, of the text that stands and over the libraries that stand.
+
+    It writes the library of a crate that it has proved, and leaves no stamp there. What it read is older than the moment at which it began.
+    """
+    if not since or os.stat(f"{crate.folder}/../../crates.txt").st_ctime >= since:
+        return False
+    return all(is_library_there(it, since) and not was_touched(it, since) for it in [*crate.below(), crate])
+
+
 def build_libraries(names, top, since):
     """Builds the libraries below these crates that are not there, and returns the crates that lack one."""
     failed, lacking = set(), []
@@ -81,10 +98,11 @@ class Ran:
 def check(crate, room, only, kept=None, limit=None):
     """Checks these functions of a copy of a crate past its holes, over the work that an earlier check kept there, if it is given.
 
-    With a limit the check ends by a signal, status -SIGXCPU, once it has taken so many processor seconds.
+    With a limit each search for a proof ends after half of its steps (`--margin`), and the check by a signal, status -SIGXCPU, once it has
+    taken so many processor seconds.
     """
     words = ["sh", "-c", f'ulimit -c 0; ulimit -S -t {limit}; exec "$@"', "sh"] if limit else []
-    words += [library().RATTLE, "check", *crate.words(["--jobs", "1", "--allow-holes"])]
+    words += [library().RATTLE, "check", *crate.words(["--jobs", "1", "--allow-holes", *(["--margin"] if limit else [])])]
     words += [word for it in only for word in ("--only", it)]
     words += ["--incremental", kept] if kept else []
     with tempfile.TemporaryFile("w+", encoding="utf-8", errors="replace") as log:

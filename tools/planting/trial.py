@@ -2,7 +2,6 @@
 import os
 import shutil
 import signal
-import subprocess
 import tempfile
 
 import judge
@@ -14,9 +13,10 @@ import said
 from answers import delete
 from contract import only_clause
 from layout import homes, symbol_of
+from work import Work
 
 # So many processor seconds a second check, without answers that don't fit, takes at most, so many more for each edit, and so many more where
-# it has to read all itself, since no control round was needed.
+# it has to read all itself, since no other check was needed.
 SECOND, EACH, ALONE = 40, 20, 400
 # The statuses of a check that says something of each function: all proved, some not, or antt could not tell.
 JUDGED = (0, 1, 3)
@@ -37,15 +37,17 @@ def deletions(misfits):
 class Trial:
     """The mutants of one crate, what is known of them, and what is yet to be tried."""
 
-    def __init__(self, name, top, edits):
+    def __init__(self, name, top, edits, since=0):
         self.crate, self.edits, self.seconds = kit.crate_of(name, top), edits, 0.0
         self.folder = self.crate.folder
         self.texts, self.types = room.read_sources(self.folder), homes(self.folder)
         self.sum = kept.crate_sum(self.crate)
         self.at = tempfile.mkdtemp(prefix=f"mutants-{name}-")
+        self.work = Work(f"{self.at}/work")
         self.deleted, self.second_outputs = {}, {}
         self.outputs = {it.label: kept.find(self.key(it)) for it in self.whole()}
-        self.controls = {it.key: kept.find(self.control_key(it)) for it in self.functions()}
+        just_proved = "proved with its crate" if kit.has_just_proved(self.crate, since) else None
+        self.controls = {it.key: just_proved or kept.find(self.control_key(it)) for it in self.functions()}
 
     def whole(self):
         """The edits that can be planted."""
@@ -58,7 +60,8 @@ class Trial:
     def key(self, edit):
         """The name under which it is kept what a check of an edit printed, without the answers that are deleted by then."""
         deleted = [[file, sorted(answers)] for file, answers in sorted(self.deleted.get(edit.label, {}).items())]
-        return kept.sum_of(self.sum, "edit", edit.pairs, [*deleted, SECOND, EACH] if deleted else [])
+        limits = [SECOND, EACH] if deleted and self.is_known(edit) else []
+        return kept.sum_of(self.sum, "edit", edit.pairs, deleted + limits)
 
     def control_key(self, function):
         """The name under which it is kept that a function was accepted as it stands."""
@@ -93,20 +96,15 @@ class Trial:
         if not functions:
             return
         where, _ = self.copy("control", [], functions)
-        ran = self.check(where, functions, f"{self.at}/work")
+        lent = self.work.lend(f"{where}.work")
+        ran = self.check(where, functions, lent)
+        self.work.take(lent)
         verdicts = said.verdicts(ran.output)
         for function in functions:
             line = next((it.line for name, it in verdicts.items() if name == symbol_of(function, self.types)), "no line: " + ran.output[-300:])
             self.controls[function.key] = line
             if line.startswith(said.ACCEPTED):
                 kept.keep(self.control_key(function), line)
-
-    def work_for(self, name):
-        """A copy, by links, of what the control round kept, for a check that adds to it."""
-        to = f"{self.at}/{name}.work"
-        if os.path.isdir(f"{self.at}/work"):
-            subprocess.run(["cp", "-al", f"{self.at}/work", to], check=True)
-        return to
 
     def note(self, edit, ran):
         """Keeps what a check printed, unless it was killed, and nothing is known."""
@@ -119,7 +117,9 @@ class Trial:
         """Plants some edits together and checks their functions. Where these don't compile, each is tried alone."""
         functions = [it for edit in edits for it in edit.functions]
         where, fault = self.copy(f"round-{number}", edits, functions)
-        ran = kit.Ran(2, fault, 0.0) if fault else self.check(where, [] if edits[0].error else functions, self.work_for(f"round-{number}"))
+        lent = self.work.lend(f"{where}.work")
+        ran = kit.Ran(2, fault, 0.0) if fault else self.check(where, [] if edits[0].error else functions, lent)
+        self.work.take(lent)
         shutil.rmtree(where, ignore_errors=True)
         if said.compile_error(ran.output) and len(edits) > 1:
             for at, edit in enumerate(edits):
@@ -127,7 +127,6 @@ class Trial:
         else:
             for edit in edits:
                 self.note(edit, ran)
-        shutil.rmtree(f"{self.at}/round-{number}.work", ignore_errors=True)
 
     def rounds(self):
         """The edits of which nothing is known, in rounds."""
@@ -192,14 +191,16 @@ class Trial:
         return rounds.rounds_of(known, self.texts) + rounds.rounds_of([it for it in left if it not in known], self.texts)
 
     def retry(self, number, edits):
-        """Checks edits together without the answers that don't fit."""
-        functions, name = [it for edit in edits for it in edit.functions], f"without-{number}"
-        where, _ = self.copy(name, edits, functions)
+        """Checks edits together without the answers that don't fit: the functions that have such answers, and no others."""
+        functions = [it for edit in edits for it in edit.functions if symbol_of(it, self.types) in self.misfits(edit)]
+        where, _ = self.copy(f"without-{number}", edits, functions)
         for edit in edits:
             for file, answers in self.deleted[edit.label].items():
                 delete(f"{where}/{file}", answers)
-        limit = SECOND + EACH * len(edits) + (0 if os.path.isdir(f"{self.at}/work") else ALONE)
-        ran = self.check(where, functions, self.work_for(name), limit if all(map(self.is_known, edits)) else None)
+        limit = SECOND + EACH * len(edits) + (0 if self.work.is_there() else ALONE)
+        lent = self.work.lend(f"{where}.work")
+        ran = self.check(where, functions, lent, limit if all(map(self.is_known, edits)) else None)
+        self.work.take(lent)
         for edit in edits:
             self.note(edit, ran)
 
