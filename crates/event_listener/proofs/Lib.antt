@@ -7,6 +7,7 @@ pub mod NoticeLemmas
 mod RunLemmas
 mod OrderLemmas
 mod TellingLemmas
+mod SectionLemmas
 pub mod DrawingLemmas
 mod ReplayLemmas
 pub mod LeftLemmas

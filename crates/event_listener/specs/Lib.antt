@@ -12,3 +12,6 @@ pub mod Telling
 pub mod Drawing
 pub mod Replay
 pub mod Homes
+pub mod Sections
+pub mod Places
+pub mod Notifying

@@ -36,8 +36,10 @@ pub mod relaxed;
 pub mod run;
 pub mod section;
 pub mod stack;
+pub mod steps;
 pub mod tagged;
 pub mod tagged_with;
+mod turn;
 pub mod wakes;
 pub mod waking;
 
@@ -56,6 +58,7 @@ pub use relaxed::Relaxed;
 pub use run::{ListCall, ListReply, ListRun, Target};
 pub use section::{Inside, Locked, Section};
 pub use stack::{StackListener, StackSlot};
+pub use steps::Steps;
 pub use tagged::Tag;
 pub use tagged_with::TagWith;
 pub use wakes::Wakes;
