@@ -11,6 +11,7 @@ pub mod Order
 pub mod Telling
 pub mod Drawing
 pub mod Replay
+pub mod Recorded
 pub mod Homes
 pub mod Sections
 pub mod Places

@@ -32,13 +32,13 @@ abbrev pub time_until : Option Instant → Instant → ℕ
 time_until (Some now) deadline = instant_nanos deadline - instant_nanos now
 time_until None deadline = 0
 
-module _ (read : Option Instant → Type 0) (slept : ℕ → Option Duration → Type 0) where
+module _ (read : Option Instant → Type 0) (read_again : Option Instant → Option Instant → Type 0) (slept : ℕ → Option Duration → Type 0) where
   -- the clock was asked twice, and the thread slept on this parker for what was left then, if anything was
   pub record Lapsed (parker : ℕ) (timeout : Duration) : Type 0 where
     pub begun : Option Instant
     pub begun_read : read begun
     pub later : Option Instant
-    pub later_read : read later
+    pub later_read : read_again begun later
     pub left : Duration
     pub left_is : as_nanos left ≡ time_left begun later timeout
     pub slept_so : (as_nanos left ≡ 0) ⊎ slept parker (Some left)
@@ -68,13 +68,13 @@ module _ {T L : Type 0} (did : ℕ → Section T → L → L → Type 0) where
         × (OnSome did l.list (parks key parker (Some tag))
         ⊎ (OnSome did l.list (parks key parker None) × slept parker None × OnSome did l.list (looks key parker (Some tag))))
 
-  module _ (read : Option Instant → Type 0) (slept : ℕ → Option Duration → Type 0) where
+  module _ (read : Option Instant → Type 0) (read_again : Option Instant → Option Instant → Type 0) (slept : ℕ → Option Duration → Type 0) where
     -- the same with a limit: it found its tag when it registered, or the time went by, and it left with what it found then
     abbrev pub WaitedFor : Listening → Duration → Option T → Type 0
     WaitedFor l timeout found =
         (key : Key) × (l.key ≡ Some key) × (parker : ℕ)
         × (((tag : T) × (found ≡ Some tag) × OnSome did l.list (parks key parker (Some tag)))
-        ⊎ (OnSome did l.list (parks key parker None) × Lapsed read slept parker timeout × OnSome did l.list (leaves key timeout found)))
+        ⊎ (OnSome did l.list (parks key parker None) × Lapsed read read_again slept parker timeout × OnSome did l.list (leaves key timeout found)))
 
     -- the same with a moment up to which it waits, for as long as the clock says
     abbrev pub WaitedUntil : Listening → Instant → Option T → Type 0

@@ -217,9 +217,9 @@ impl<T: Drop, R: Wait + Copy, L: Steps<T>> Listener<T> for EventListener<T, R, L
 
     ghost waited = { Waited L.did L.slept };
 
-    ghost waited_for = { WaitedFor L.did L.read L.slept };
+    ghost waited_for = { WaitedFor L.did L.read L.read_again L.slept };
 
-    ghost waited_until = { WaitedUntil L.did L.read L.slept };
+    ghost waited_until = { WaitedUntil L.did L.read L.read_again L.slept };
 
     ghost discarded = { λ l told. LeftSo L.did l false told };
 

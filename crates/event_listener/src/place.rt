@@ -165,7 +165,7 @@ impl<T: Drop, L: Steps<T>> Place<T, L> {
     ) -> Option<T>
         requires listed { is_none self.old.key ≡ false }
         requires same { arc_value task ≡ parker.now }
-        ensures waited { WaitedFor L.did L.read L.slept (seen self.old) timeout result }
+        ensures waited { WaitedFor L.did L.read L.read_again L.slept (seen self.old) timeout result }
         ensures left { is_none self.new.key ≡ true }
     {
         let Some(key) = self.key else { unreachable!() };
@@ -192,9 +192,9 @@ impl<T: Drop, L: Steps<T>> Place<T, L> {
     )
         requires parked { OnSome L.did (seen self.now).list (parks key (parker_of parker.now) None) }
         requires begun { L.read begun }
-        ensures { Lapsed L.read L.slept (parker_of parker.now) timeout }
+        ensures { Lapsed L.read L.read_again L.slept (parker_of parker.now) timeout }
     {
-        let later = L::now(clock);
+        let later = L::now_again(clock, begun);
         let left = time_left(begun, later, timeout);
         if !left.is_zero() {
             L::sleep_for(rt, self.home.seal(), key, parker, clock, left);

@@ -42,6 +42,9 @@ pub trait Steps<T>: Drop {
     /// Whether a clock was asked, and read so, or couldn't be read.
     ghost read: { Option Moment → Type 0 };
 
+    /// Whether a clock was asked again, after it had read so first.
+    ghost read_again: { Option Moment → Option Moment → Type 0 };
+
     /// Whether the thread slept on the parker of this name, without a limit or for so long at most.
     ghost slept: { ℕ → Option Span → Type 0 };
 
@@ -97,7 +100,7 @@ pub trait Steps<T>: Drop {
     /// Takes a listener off, told or not, and gives the tag of a told one, once the thread has slept on this parker for as long as was left.
     /// It passes nothing on.
     fn leave(&mut self, seal: &Source, key: Key, parker: &Parker, timeout: Duration) -> Option<T>
-        requires { Lapsed read slept (parker_of parker.now) timeout }
+        requires { Lapsed read read_again slept (parker_of parker.now) timeout }
         ensures { did seal.now.id (leaves key timeout result) self.old self.new };
 
     /// Takes a listener off, and answers whether it was told. A told one may pass its notice on.
@@ -142,6 +145,10 @@ pub trait Steps<T>: Drop {
     /// Asks the clock.
     fn now<K: Clock>(clock: &K) -> Option<Instant>
         ensures { read result };
+
+    /// Asks it again.
+    fn now_again<K: Clock>(clock: &K, begun: Option<Instant>) -> Option<Instant>
+        ensures { read_again begun result };
 }
 
 impl<T: Drop> Steps<T> for List<T, Task> {
@@ -154,6 +161,8 @@ impl<T: Drop> Steps<T> for List<T, Task> {
     ghost lacks = { λ _. Unit {0} };
 
     ghost read = { λ _. Unit {0} };
+
+    ghost read_again = { λ _ _. Unit {0} };
 
     ghost slept = { λ _ _. Unit {0} };
 
@@ -285,6 +294,11 @@ impl<T: Drop> Steps<T> for List<T, Task> {
 
     #[inline(always)]
     fn now<K: Clock>(clock: &K) -> Option<Instant> {
+        Instant::now(clock).ok()
+    }
+
+    #[inline(always)]
+    fn now_again<K: Clock>(clock: &K, _begun: Option<Instant>) -> Option<Instant> {
         Instant::now(clock).ok()
     }
 }

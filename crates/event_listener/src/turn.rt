@@ -108,7 +108,7 @@ impl<'a, T, L: Steps<T>> Turn<'a, T, L> {
         parker: &Parker,
         timeout: Duration,
     ) -> Option<T>
-        requires { Lapsed L.read L.slept (parker_of parker.now) timeout }
+        requires { Lapsed L.read L.read_again L.slept (parker_of parker.now) timeout }
         ensures { OnSome L.did (seal_of self.entry.home.now) (leaves key timeout result) }
     {
         let Turn { home } = self;
