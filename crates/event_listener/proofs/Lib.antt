@@ -6,6 +6,7 @@ pub mod InsideLemmas
 pub mod NoticeLemmas
 mod RunLemmas
 mod OrderLemmas
+mod RunOrder
 mod TellingLemmas
 mod SectionLemmas
 pub mod DrawingLemmas

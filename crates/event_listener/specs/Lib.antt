@@ -14,5 +14,6 @@ pub mod Replay
 pub mod Recorded
 pub mod Homes
 pub mod Sections
+pub mod SectionRuns
 pub mod Places
 pub mod Notifying

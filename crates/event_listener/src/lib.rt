@@ -11,6 +11,9 @@
 //!
 //! A list behind a lock is [`Locked`], on which each call is one section by type: it is handed the right to take the lock once
 //! ([`Section`]).
+//!
+//! Events and their listeners are written over any type of lists with [`Steps`], by whose contracts a call says which sections it made; each
+//! event that is made has a [`List`].
 #![tactic(auto)]
 
 pub mod calls;
@@ -22,6 +25,7 @@ pub mod id;
 mod integers;
 pub mod into_notification;
 pub mod key;
+pub mod laws;
 mod links;
 pub mod list;
 pub mod listener;
@@ -30,6 +34,7 @@ mod node_calls;
 pub mod notify;
 pub mod parker;
 mod place;
+pub mod prelude;
 pub mod recorded;
 mod recording;
 pub mod records;
