@@ -6,7 +6,9 @@ pub mod InsideLemmas
 pub mod NoticeLemmas
 mod RunLemmas
 mod OrderLemmas
+mod RunOrder
 mod TellingLemmas
+mod SectionLemmas
 pub mod DrawingLemmas
 mod ReplayLemmas
 pub mod LeftLemmas

@@ -11,4 +11,9 @@ pub mod Order
 pub mod Telling
 pub mod Drawing
 pub mod Replay
+pub mod Recorded
 pub mod Homes
+pub mod Sections
+pub mod SectionRuns
+pub mod Places
+pub mod Notifying

@@ -14,3 +14,7 @@ module _ {N T : Type 0} where
     pub rest : N
     pub drawn : Draws gives notice tags rest
     pub answer : IsAnswer gives many (length tags) rest result
+
+  -- the same, and a section was made in which it told them by these tags
+  abbrev pub TellsIn : (N → ℕ) → (N → Result T NoMemory → N → Type 0) → N → Result ℕ NotifyError → (List T → Type 0) → Type 0
+  TellsIn size gives notice result Made = (told : Tells size gives notice result) × Made told.tags

@@ -80,6 +80,7 @@ impl<T: Drop, W: Drop> List<T, W> {
         ensures lists { self.new.lists ≡ removed key false self.old.lists }
         ensures once { IsSome (kind_of self.old.lists key) → HasLeft self.new key }
         ensures left { (key : Key) → HasLeft self.old key → HasLeft self.new key }
+        ensures serials { self.new.serials ≡ self.old.serials }
     {
         match self.poll(key) {
             Ok(Some(tag)) => Some(tag),

@@ -1,6 +1,5 @@
 //! What stands behind the lock of a recorded event: a recording, and the book that counts its entries.
-ghost use Rattle.std.specs.Prelude.{◌≡◌, ◌+◌, ◌≤◌, ◌<◌, length, nat_lt, OnErr, OnOk, Ok, Some, None};
-ghost use Rattle.event_listener.specs.Drawing.{TellsOrNone};
+ghost use Rattle.std.specs.Prelude.{◌≡◌, length, nat_lt};
 ghost use Rattle.event_listener.specs.Lists.{told_by};
 ghost use Rattle.event_listener.specs.Replay.{Replays, nobody};
 
@@ -11,6 +10,7 @@ use crate::list::List;
 use crate::notify::Notification;
 use crate::recorded::{RecordedCall, RegisterError};
 use crate::recording::Recording;
+use crate::records::Records;
 use crate::wakes::Wakes;
 use std::alloc::Global;
 use std::marker::Model;
@@ -20,7 +20,7 @@ use std::sync::ledger::{Book, Ledger, Share};
 ///
 /// A caller's share rises by one with each entry of its own. So what all shares count the record holds.
 #[derive(Drop)]
-pub(crate) struct Counted<T: Copy, W: Copy, L: Ledger> {
+pub struct Counted<T: Copy, W: Copy, L: Ledger> {
     recording: Recording<T, W>,
     book: Book<L>,
 }
@@ -46,13 +46,23 @@ impl<T: Copy, W: Copy, L: Ledger> Counted<T, W, L> {
         }
     }
 
-    /// Adds a listener.
-    pub(crate) fn insert(&mut self, mine: &mut Share<L>) -> Result<Key, ListenError>
-        requires { 0 < mine.old.parts }
-        ensures counted { OnOk result (mine.new.amount ≡ mine.old.amount + 1) }
-        ensures uncounted { OnErr result (mine.new.amount ≡ mine.old.amount) }
-        ensures parts { mine.new.parts ≡ mine.old.parts }
+    /// The list as it stands, the record that leads there, and the book that counts it.
+    pub(crate) fn into_parts(self) -> (List<T, W>, Vec<RecordedCall<T, W>>, Book<L>)
+        ensures replays { Replays nobody 0 result.1.items result.0.lists result.0.serials }
+        ensures counted { length result.1.items ≡ result.2.total }
     {
+        let Counted { recording, book } = self;
+        let (list, calls) = recording.into_parts();
+        (list, calls, book)
+    }
+}
+
+impl<T: Copy, W: Copy, L: Ledger> Records<T, W, L> for Counted<T, W, L> {
+    ghost use Rattle.event_listener.specs.Recorded.{Stores};
+
+    ghost did = { Stores };
+
+    fn insert(&mut self, mine: &mut Share<L>) -> Result<Key, ListenError> {
         match self.recording.insert() {
             Ok(key) => {
                 self.book.add(mine, 1);
@@ -62,18 +72,12 @@ impl<T: Copy, W: Copy, L: Ledger> Counted<T, W, L> {
         }
     }
 
-    /// Takes a told listener off, or stores the task of one that waits.
-    pub(crate) fn register(
+    fn register(
         &mut self,
         mine: &mut Share<L>,
         key: Key,
         task: W,
-    ) -> Result<Registered<T>, RegisterError>
-        requires { 0 < mine.old.parts }
-        ensures counted { OnOk result (mine.new.amount ≡ mine.old.amount + 1) }
-        ensures uncounted { OnErr result (mine.new.amount ≡ mine.old.amount) }
-        ensures parts { mine.new.parts ≡ mine.old.parts }
-    {
+    ) -> Result<Registered<T>, RegisterError> {
         match self.recording.register(key, task) {
             Ok(registered) => {
                 self.book.add(mine, 1);
@@ -83,18 +87,7 @@ impl<T: Copy, W: Copy, L: Ledger> Counted<T, W, L> {
         }
     }
 
-    /// Takes a told listener off.
-    pub(crate) fn poll(
-        &mut self,
-        mine: &mut Share<L>,
-        key: Key,
-    ) -> Result<Option<T>, UnknownListener>
-        requires { 0 < mine.old.parts }
-        ensures counted { (tag : T) → result ≡ Ok (Some tag) → mine.new.amount ≡ mine.old.amount + 1 }
-        ensures waiting { result ≡ Ok None → mine.new.amount ≡ mine.old.amount }
-        ensures uncounted { OnErr result (mine.new.amount ≡ mine.old.amount) }
-        ensures parts { mine.new.parts ≡ mine.old.parts }
-    {
+    fn poll(&mut self, mine: &mut Share<L>, key: Key) -> Result<Option<T>, UnknownListener> {
         match self.recording.poll(key) {
             Ok(Some(tag)) => {
                 self.book.add(mine, 1);
@@ -105,19 +98,13 @@ impl<T: Copy, W: Copy, L: Ledger> Counted<T, W, L> {
         }
     }
 
-    /// Takes a listener off.
-    pub(crate) fn remove<S: Wakes<W>>(
+    fn remove<S: Wakes<W>>(
         &mut self,
         mine: &mut Share<L>,
         key: Key,
         pass_on: bool,
         sink: &mut S,
-    ) -> Result<bool, UnknownListener>
-        requires { 0 < mine.old.parts }
-        ensures counted { OnOk result (mine.new.amount ≡ mine.old.amount + 1) }
-        ensures uncounted { OnErr result (mine.new.amount ≡ mine.old.amount) }
-        ensures parts { mine.new.parts ≡ mine.old.parts }
-    {
+    ) -> Result<bool, UnknownListener> {
         match self.recording.remove(key, pass_on, sink) {
             Ok(told) => {
                 self.book.add(mine, 1);
@@ -127,22 +114,13 @@ impl<T: Copy, W: Copy, L: Ledger> Counted<T, W, L> {
         }
     }
 
-    /// Tells listeners.
-    pub(crate) fn notify<N: Notification<Tag = T> + Drop, S: Wakes<W>>(
+    fn notify<N: Notification<Tag = T> + Drop, S: Wakes<W>>(
         &mut self,
         alloc: Global,
         mine: &mut Share<L>,
         notice: N,
         sink: &mut S,
-    ) -> Result<usize, NotifyError>
-        requires notice { N.can_give notice }
-        requires share { 0 < mine.old.parts }
-        ensures at_most { told_by result ≤ N.size notice }
-        ensures tells { TellsOrNone N.gives N.size notice result }
-        ensures counted { 0 < told_by result → mine.new.amount ≡ mine.old.amount + 1 }
-        ensures uncounted { told_by result ≡ 0 → mine.new.amount ≡ mine.old.amount }
-        ensures parts { mine.new.parts ≡ mine.old.parts }
-    {
+    ) -> Result<usize, NotifyError> {
         let answer = self.recording.notify(alloc, notice, sink);
         if told_somebody(&answer) {
             self.book.add(mine, 1);
@@ -150,29 +128,16 @@ impl<T: Copy, W: Copy, L: Ledger> Counted<T, W, L> {
         answer
     }
 
-    /// Makes room for so many more listeners, their records and their ends.
-    pub(crate) fn reserve(&mut self, extra: usize) -> Result<(), NoMemory> {
+    fn reserve(&mut self, extra: usize) -> Result<(), NoMemory> {
         self.recording.reserve(extra)
     }
 
-    /// How many are listed.
-    pub(crate) fn total(&self) -> usize {
+    fn total(&self) -> usize {
         self.recording.total()
     }
 
-    /// How many are told.
-    pub(crate) fn told(&self) -> usize {
+    fn told(&self) -> usize {
         self.recording.told()
-    }
-
-    /// The list as it stands, the record that leads there, and the book that counts it.
-    pub(crate) fn into_parts(self) -> (List<T, W>, Vec<RecordedCall<T, W>>, Book<L>)
-        ensures replays { Replays nobody 0 result.1.items result.0.lists result.0.serials }
-        ensures counted { length result.1.items ≡ result.2.total }
-    {
-        let Counted { recording, book } = self;
-        let (list, calls) = recording.into_parts();
-        (list, calls, book)
     }
 }
 

@@ -1,14 +1,18 @@
 //! Events, on which threads and tasks listen for notices.
-ghost use Rattle.std.specs.Prelude.{◌≡◌, ◌≤◌, false, IfOk};
-ghost use Rattle.event_listener.specs.Telling.{Tells};
+ghost use Rattle.std.specs.Prelude.{◌≡◌, ◌≤◌, true, false, nat_lt, IfOk};
+ghost use Rattle.event_listener.specs.Listening.{Listened};
+ghost use Rattle.event_listener.specs.Notifying.{NotifiesEvent, TellsEvent, CountsEvent};
+ghost use Rattle.event_listener.specs.Sections.{counts_told, counts_all};
 
 use crate::error::{ListenError, NotifyError};
 use crate::home::Homes;
 use crate::id::EventId;
 use crate::into_notification::IntoNotification;
+use crate::list::List;
 use crate::listener::EventListener;
 use crate::notify::{Additional, Notify};
-use crate::waking::{WakeNow, WakerCell};
+use crate::steps::Steps;
+use crate::waking::{Task, WakerCell};
 use std::alloc::Global;
 use std::marker::Model;
 use std::sync::{Arc, Wait};
@@ -19,38 +23,41 @@ use std::sync::{Arc, Wait};
 /// It takes no memory until the first listening. Contracts see it as its identity. As `event-listener` 5.4.2, but for
 /// the identity, the refusals, and the runtime and allocator that are passed in.
 #[derive(Drop)]
-pub struct Event<T> {
+pub struct Event<T, L = List<T, Task>> {
     id: EventId,
-    homes: Homes<T>,
+    homes: Homes<T, L>,
 }
 
-impl<T> Model for Event<T> {
-    ghost use Rattle.std.specs.Prelude.{ℕ};
+impl<T, L> Model for Event<T, L> {
+    ghost use Rattle.event_listener.specs.Listening.{EventView};
 
-    ghost Value = { ℕ };
+    ghost Value = { EventView };
 
-    ghost view = { λ event. event.id };
+    ghost view = { λ event. record { number = event.id; lock = event.homes.once.id } };
 }
 
 impl<T: Drop> Event<T> {
     /// An event of this identity without listeners, whose notices carry tags. It takes no memory.
     pub fn with_tag(alloc: Global, id: EventId) -> Event<T>
-        ensures { result ≡ id }
+        ensures { result.number ≡ id }
     {
         Event {
             id,
             homes: Homes::new(alloc),
         }
     }
+}
 
+impl<T: Drop, L: Steps<T>> Event<T, L> {
     /// Adds a listener, which is told by the next notice that reaches it. It gives up its place when it is dropped, for which it
     /// keeps a copy of the runtime.
     ///
     /// Refused for memory, or where all serials of the event's list were given; the listeners are as before then. It
     /// may wait for the list's lock, and the first time for another thread that listens first.
-    pub fn listen<R: Wait + Copy>(&self, rt: &R) -> Result<EventListener<T, R>, ListenError>
-        ensures event { IfOk result (λ listener. listener.event ≡ self.now) }
-        ensures listens { IfOk result (λ listener. listener.is_finished ≡ false) }
+    pub fn listen<R: Wait + Copy>(&self, rt: &R) -> Result<EventListener<T, R, L>, ListenError>
+        ensures event { IfOk result (λ listener. listener.event ≡ self.now.number) }
+        ensures list { IfOk result (λ listener. L.holds self.now.lock listener.list) }
+        ensures listens { IfOk result (Listened L.did) }
     {
         match Arc::new(self.homes.alloc(), WakerCell::new()) {
             Ok(cell) => EventListener::new(*rt, self, cell),
@@ -59,13 +66,15 @@ impl<T: Drop> Event<T> {
     }
 
     pub(crate) fn number(&self) -> u64
-        ensures { result ≡ self.now }
+        ensures { result ≡ self.now.number }
     {
         self.id.number()
     }
 
     /// Where its list is kept.
-    pub(crate) fn homes(&self) -> &Homes<T> {
+    pub(crate) fn homes(&self) -> &Homes<T, L>
+        ensures { result.now.once.id ≡ self.now.lock }
+    {
         &self.homes
     }
 
@@ -81,14 +90,11 @@ impl<T: Drop> Event<T> {
         notice: N,
     ) -> Result<usize, NotifyError>
         requires { (n : N.Notify) → N.becomes notice n → N.Notify.can_give n }
-        ensures tells { (n : N.Notify) × N.becomes notice n × Tells N.Notify.size N.Notify.gives n result }
+        ensures tells { (n : N.Notify) × N.becomes notice n × NotifiesEvent N.Notify.size N.Notify.additional N.Notify.gives L.did L.holds L.lacks self.now.lock n result }
     {
         let notice = notice.into_notification();
-        match self.homes.get() {
-            Some(home) => {
-                let mut section = home.section().enter(rt);
-                section.value().notify(notice, &mut WakeNow { rt })
-            }
+        match self.homes.turn() {
+            Some(turn) => turn.notify(rt, notice),
             None => Ok(0),
         }
     }
@@ -96,17 +102,21 @@ impl<T: Drop> Event<T> {
     /// Whether some listener was told and has not taken its tag yet. It may wait for the list's lock.
     ///
     /// Never so on an event without listeners. Own meaning: `event-listener` compares a count read outside the lock.
-    pub fn is_notified<R: Wait>(&self, rt: &R) -> bool {
-        match self.homes.get() {
-            Some(home) => home.section().enter(rt).value().told() > 0,
+    pub fn is_notified<R: Wait>(&self, rt: &R) -> bool
+        ensures counted { CountsEvent L.did L.holds L.lacks self.now.lock counts_told (λ told. result ≡ nat_lt 0 told) }
+    {
+        match self.homes.turn() {
+            Some(turn) => turn.told(rt) > 0,
             None => false,
         }
     }
 
     /// How many listeners there are, told and waiting. It may wait for the list's lock. As `event-listener` 5.4.2.
-    pub fn total_listeners<R: Wait>(&self, rt: &R) -> usize {
-        match self.homes.get() {
-            Some(home) => home.section().enter(rt).value().total(),
+    pub fn total_listeners<R: Wait>(&self, rt: &R) -> usize
+        ensures counted { CountsEvent L.did L.holds L.lacks self.now.lock counts_all (λ all. result ≡ all) }
+    {
+        match self.homes.turn() {
+            Some(turn) => turn.total(rt),
             None => 0,
         }
     }
@@ -115,16 +125,19 @@ impl<T: Drop> Event<T> {
 impl Event<()> {
     /// An event of this identity without listeners. It takes no memory. As `event-listener` 5.4.2.
     pub fn new(alloc: Global, id: EventId) -> Event<()>
-        ensures { result ≡ id }
+        ensures { result.number ≡ id }
     {
         Event::with_tag(alloc, id)
     }
+}
 
+impl<L: Steps<()>> Event<(), L> {
     /// A default notice for so many listeners, which promises no order among other steps; here it is a plain one.
     ///
     /// It takes no memory. It may wait for the list's lock.
     pub fn notify_relaxed<R: Wait>(&self, rt: &R, count: usize) -> usize
         ensures at_most { result ≤ count }
+        ensures told { TellsEvent L.did L.holds L.lacks self.now.lock false count result }
     {
         match self.notify(rt, Notify { count }) {
             Ok(told) => told,
@@ -137,6 +150,7 @@ impl Event<()> {
     /// It takes no memory. It may wait for the list's lock.
     pub fn notify_additional<R: Wait>(&self, rt: &R, count: usize) -> usize
         ensures at_most { result ≤ count }
+        ensures told { TellsEvent L.did L.holds L.lacks self.now.lock true count result }
     {
         match self.notify(
             rt,
@@ -154,6 +168,7 @@ impl Event<()> {
     /// It takes no memory. It may wait for the list's lock.
     pub fn notify_additional_relaxed<R: Wait>(&self, rt: &R, count: usize) -> usize
         ensures at_most { result ≤ count }
+        ensures told { TellsEvent L.did L.holds L.lacks self.now.lock true count result }
     {
         self.notify_additional(rt, count)
     }

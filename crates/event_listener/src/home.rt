@@ -1,15 +1,16 @@
 //! The list of an event, which it shares with its listeners, and which is made at the first listening.
 
-ghost use Rattle.std.specs.Prelude.{◌≡◌, IfOk};
+ghost use Rattle.std.specs.Prelude.{◌≡◌, IfOk, IfSome, IfNone};
 ghost use Rattle.std.specs.Arc.{arc_value};
 ghost use Rattle.event_listener.specs.Homes.{seal_of};
 
 use crate::error::NoMemory;
-use crate::list::List;
 use crate::section::{Locked, Section};
-use crate::waking::Task;
+use crate::steps::Steps;
+use crate::turn::Turn;
 use futures::task::Source;
 use std::alloc::Global;
+use std::marker::PhantomData;
 use std::sync::{Arc, OnceLock, OnceToken, Wait};
 
 /// A list behind its lock. Nobody makes one but [`Homes`].
@@ -17,36 +18,46 @@ use std::sync::{Arc, OnceLock, OnceToken, Wait};
 /// Its seal takes no bytes and can't be copied, and nobody can show that a new one is equal to another: so a clause can say
 /// which list it speaks of.
 #[derive(Drop)]
-pub(crate) struct Home<T> {
+pub struct Home<T, L> {
     seal: Source,
-    list: Locked<List<T, Task>>,
+    list: Locked<L>,
+    of: PhantomData<Locked<T>>,
 }
 
 /// Where an event keeps its list.
 #[derive(Drop)]
-pub(crate) struct Homes<T> {
+pub(crate) struct Homes<T, L> {
     alloc: Global,
-    once: OnceLock<Arc<Home<T>>>,
+    once: OnceLock<Arc<Home<T, L>>>,
 }
 
-impl<T: Drop> Home<T> {
-    fn new(alloc: Global) -> Home<T> {
+impl<T, L> Home<T, L> {
+    fn new(list: L) -> Home<T, L> {
         Home {
             seal: Source::new(),
-            list: Locked::new(List::new(alloc)),
+            list: Locked::new(list),
+            of: PhantomData,
         }
     }
 
-    /// The right to one section on the list.
+    /// Its seal.
     #[inline(always)]
-    pub(crate) fn section(&self) -> Section<'_, List<T, Task>> {
+    pub(crate) fn seal(&self) -> &Source
+        ensures { result.now.id ≡ seal_of self.now }
+    {
+        &self.seal
+    }
+
+    /// The right to take its lock once.
+    #[inline(always)]
+    pub(crate) fn section(&self) -> Section<'_, L> {
         self.list.section()
     }
 }
 
-impl<T: Drop> Homes<T> {
+impl<T, L> Homes<T, L> {
     /// Without a list. It takes no memory.
-    pub(crate) fn new(alloc: Global) -> Homes<T> {
+    pub(crate) fn new(alloc: Global) -> Homes<T, L> {
         Homes {
             alloc,
             once: OnceLock::new(),
@@ -56,23 +67,32 @@ impl<T: Drop> Homes<T> {
     pub(crate) fn alloc(&self) -> Global {
         self.alloc
     }
+}
 
-    /// The list, where somebody has listened.
-    pub(crate) fn get(&self) -> Option<&Home<T>> {
-        match self.once.get() {
-            Some(home) => Some(home),
+impl<T, L: Steps<T>> Homes<T, L> {
+    /// The right to one section on the list, where somebody has listened.
+    #[inline(always)]
+    pub(crate) fn turn(&self) -> Option<Turn<'_, T, L>>
+        ensures held { IfSome result (λ turn. L.holds self.now.once.id (seal_of turn.home.now)) }
+        ensures lacked { IfNone result (L.lacks self.now.once.id) }
+    {
+        match L::find(&self.once) {
+            Some(token) => {
+                L::see(&token);
+                Some(Turn::new(self.once.value(&token)))
+            }
             None => None,
         }
     }
 
     /// What shows the list, made here where nobody listened yet. Where two threads make it, the first one's stays.
-    fn shown<R: Wait>(&self, rt: &R) -> Result<OnceToken<'_, Arc<Home<T>>>, NoMemory>
+    fn shown<R: Wait>(&self, rt: &R) -> Result<OnceToken<'_, Arc<Home<T, L>>>, NoMemory>
         ensures { IfOk result (λ token. token.of ≡ self.now.once.id) }
     {
-        if let Some(token) = self.once.witness() {
+        if let Some(token) = L::find(&self.once) {
             return Ok(token);
         }
-        let made = match Arc::new(self.alloc, Home::new(self.alloc)) {
+        let made = match Arc::new(self.alloc, Home::new(L::empty(self.alloc))) {
             Ok(made) => made,
             Err(_) => return Err(NoMemory),
         };
@@ -85,17 +105,14 @@ impl<T: Drop> Homes<T> {
         }
     }
 
-    /// The list, made where nobody listened yet, and what shows that it is this event's.
-    pub(crate) fn get_or_make<R: Wait>(
-        &self,
-        rt: &R,
-    ) -> Result<(Arc<Home<T>>, OnceToken<'_, Arc<Home<T>>>), NoMemory>
-        ensures shown { IfOk result (λ found. found.1.of ≡ self.now.once.id) }
-        ensures own { IfOk result (λ found. seal_of (arc_value found.0) ≡ seal_of (arc_value found.1.value)) }
+    /// The list, made where nobody listened yet.
+    pub(crate) fn get_or_make<R: Wait>(&self, rt: &R) -> Result<Arc<Home<T, L>>, NoMemory>
+        ensures held { IfOk result (λ home. L.holds self.now.once.id (seal_of (arc_value home))) }
     {
         let token = self.shown(rt)?;
+        L::see(&token);
         match Arc::try_clone(self.once.value(&token)) {
-            Ok(home) => Ok((home, token)),
+            Ok(home) => Ok(home),
             Err(_) => Err(NoMemory),
         }
     }

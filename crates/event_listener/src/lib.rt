@@ -11,6 +11,9 @@
 //!
 //! A list behind a lock is [`Locked`], on which each call is one section by type: it is handed the right to take the lock once
 //! ([`Section`]).
+//!
+//! Events and their listeners are written over any type of lists with [`Steps`], by whose contracts a call says which sections it made; each
+//! event that is made has a [`List`].
 #![tactic(auto)]
 
 pub mod calls;
@@ -22,6 +25,7 @@ pub mod id;
 mod integers;
 pub mod into_notification;
 pub mod key;
+pub mod laws;
 mod links;
 pub mod list;
 pub mod listener;
@@ -30,14 +34,18 @@ mod node_calls;
 pub mod notify;
 pub mod parker;
 mod place;
+pub mod prelude;
 pub mod recorded;
 mod recording;
+pub mod records;
 pub mod relaxed;
 pub mod run;
 pub mod section;
 pub mod stack;
+pub mod steps;
 pub mod tagged;
 pub mod tagged_with;
+mod turn;
 pub mod wakes;
 pub mod waking;
 
@@ -52,10 +60,12 @@ pub use listener::{EventListener, Listener, PollFault, WaitError};
 pub use notify::{Additional, Notification, Notify};
 pub use parker::Parker;
 pub use recorded::{RecordedCall, RecordedEvent, RegisterError};
+pub use records::Records;
 pub use relaxed::Relaxed;
 pub use run::{ListCall, ListReply, ListRun, Target};
 pub use section::{Inside, Locked, Section};
 pub use stack::{StackListener, StackSlot};
+pub use steps::Steps;
 pub use tagged::Tag;
 pub use tagged_with::TagWith;
 pub use wakes::Wakes;

@@ -1,13 +1,18 @@
 //! Listeners of events.
-ghost use Rattle.std.specs.Prelude.{◌≡◌, ℕ, Bool, true, false, ◌↔◌, IsTrue, IfOk, IfErr, Err, is_none};
+ghost use Rattle.std.specs.Prelude.{◌≡◌, ℕ, Bool, Option, Some, None, true, false, ◌↔◌, IsTrue, IfOk, IfErr, Ok, Err, is_none};
+ghost use Rattle.std.specs.declared.time.Duration.{Duration as Span};
+ghost use Rattle.std.specs.declared.time.Instant.{Instant as Moment};
 ghost use Rattle.futures.specs.Poll.{OnPending, IfReady};
-ghost use Rattle.event_listener.specs.Listening.{Listening};
+ghost use Rattle.futures.specs.declared.task.waker.Waker.{Waker as OfTask};
+ghost use Rattle.event_listener.specs.Listening.{Listening, Listened, LeftSo};
 ghost use Rattle.event_listener.specs.Waits.{listener_of};
 
 use crate::error::ListenError;
 use crate::event::Event;
+use crate::list::List;
 use crate::place::Place;
-use crate::waking::WakerCell;
+use crate::steps::Steps;
+use crate::waking::{Task, WakerCell};
 use futures::future::Future;
 use futures::task::{Context, Poll, Waker};
 use std::error::Error;
@@ -84,6 +89,21 @@ pub trait Listener<T>: Sized {
     /// Whether it has given its tag.
     ghost is_finished: { Self → Bool };
 
+    /// Whether a poll with this waker looked at it, in a section on its list, and found this: its tag, or that it waits.
+    ghost polled: { Self → OfTask → Option T → Type 0 };
+
+    /// Whether a wait on it registered and slept so that it got this tag.
+    ghost waited: { Self → T → Type 0 };
+
+    /// Whether a wait with this limit on it did, and left so, with its tag or without.
+    ghost waited_for: { Self → Span → Option T → Type 0 };
+
+    /// Whether a wait up to this moment did.
+    ghost waited_until: { Self → Moment → Option T → Type 0 };
+
+    /// Whether it was taken off its list without passing a notice on, in one section, and was told, or was finished before.
+    ghost discarded: { Self → Bool → Type 0 };
+
     /// Takes the tag of a told listener; one that waits keeps the waker and wakes it when it is told.
     ///
     /// `NeverInserted` exactly where it was finished; nothing is changed then. It may wait for the list's lock.
@@ -93,6 +113,8 @@ pub trait Listener<T>: Sized {
     /// `Future` of `futures` wakes nobody by that.
     fn poll(&mut self, waker: Waker) -> Poll<Result<T, PollFault>>
         ensures fault { (result ≡ Poll.Ready (Err PollFault.NeverInserted)) ↔ (is_finished self.old ≡ true) }
+        ensures ready { (tag : T) → result ≡ Poll.Ready (Ok tag) → polled self.old waker (Some tag) }
+        ensures waits { OnPending result (polled self.old waker None) }
         ensures finished { IfReady result (λ _. is_finished self.new ≡ true) }
         ensures pending { OnPending result (self.new ≡ self.old) }
         ensures event { identity self.new ≡ identity self.old };
@@ -102,7 +124,8 @@ pub trait Listener<T>: Sized {
     /// The thread sleeps on a lock and a condition variable of its own, which want memory. It may wait for ever.
     fn wait(self) -> Result<T, WaitError<Self>>
         ensures never_inserted { (result ≡ Err (WaitError.NeverInserted self)) ↔ (is_finished self ≡ true) }
-        ensures handed_back { IfErr result (λ e. listener_of e ≡ self) };
+        ensures handed_back { IfErr result (λ e. listener_of e ≡ self) }
+        ensures waited { IfOk result (waited self) };
 
     /// Blocks the thread until the listener is told or the time is up: its tag, or `None` after the listener has left.
     ///
@@ -117,7 +140,8 @@ pub trait Listener<T>: Sized {
         timeout: Duration,
     ) -> Result<Option<T>, WaitError<Self>>
         ensures never_inserted { (result ≡ Err (WaitError.NeverInserted self)) ↔ (is_finished self ≡ true) }
-        ensures handed_back { IfErr result (λ e. listener_of e ≡ self) };
+        ensures handed_back { IfErr result (λ e. listener_of e ≡ self) }
+        ensures waited { IfOk result (waited_for self timeout) };
 
     /// As [`wait_timeout`](Listener::wait_timeout), until the clock reads `deadline`; one that has passed doesn't sleep.
     fn wait_deadline<K: Clock>(
@@ -126,20 +150,22 @@ pub trait Listener<T>: Sized {
         deadline: Instant,
     ) -> Result<Option<T>, WaitError<Self>>
         ensures never_inserted { (result ≡ Err (WaitError.NeverInserted self)) ↔ (is_finished self ≡ true) }
-        ensures handed_back { IfErr result (λ e. listener_of e ≡ self) };
+        ensures handed_back { IfErr result (λ e. listener_of e ≡ self) }
+        ensures waited { IfOk result (waited_until self deadline) };
 
     /// Leaves the event without passing a notice on: whether it was told and had not given its tag.
     ///
     /// It may wait for the list's lock.
     fn discard(self) -> bool
-        ensures finished { is_finished self ≡ true → result ≡ false };
+        ensures finished { is_finished self ≡ true → result ≡ false }
+        ensures discarded { discarded self result };
 
     /// Whether this is the event that it listens to: whether the identities are equal. It waits for nobody.
     ///
     /// This tells apart events whose identities came from one `EventIds`. Each source begins with the same number, so of an event
     /// from another source it may be true though it is another one.
     fn listens_to(&self, event: &Event<T>) -> bool
-        ensures { IsTrue result ↔ (identity self.now ≡ event.now) };
+        ensures { IsTrue result ↔ (identity self.now ≡ event.now.number) };
 
     /// Whether both listen to one event: whether the identities are equal. It waits for nobody.
     ///
@@ -153,36 +179,49 @@ pub trait Listener<T>: Sized {
 ///
 /// It has the runtime with it, since its drop takes the list's lock. Contracts see its event's identity and whether it
 /// is finished. As `event-listener` 5.4.2, but that its place is in the list's own memory.
-pub struct EventListener<T: Drop, R: Wait + Copy> {
-    place: Place<T>,
+pub struct EventListener<T: Drop, R: Wait + Copy, L: Steps<T> = List<T, Task>> {
+    place: Place<T, L>,
     rt: R,
 }
 
-impl<T: Drop, R: Wait + Copy> Model for EventListener<T, R> {
+impl<T: Drop, R: Wait + Copy, L: Steps<T>> Model for EventListener<T, R, L> {
     ghost use Rattle.event_listener.specs.Listening.{Listening};
-    ghost use Rattle.std.specs.Prelude.{is_none};
+    ghost use Rattle.event_listener.specs.Places.{seen};
 
     ghost Value = { Listening };
 
-    ghost view = { λ l. record { event = l.place.event; is_finished = is_none l.place.key } };
+    ghost view = { λ l. seen l.place };
 }
 
-impl<T: Drop, R: Wait + Copy> EventListener<T, R> {
-    pub(crate) fn new(rt: R, event: &Event<T>, cell: Arc<WakerCell>) -> Result<Self, ListenError>
-        ensures event { IfOk result (λ listener. listener.event ≡ event.now) }
-        ensures listens { IfOk result (λ listener. listener.is_finished ≡ false) }
+impl<T: Drop, R: Wait + Copy, L: Steps<T>> EventListener<T, R, L> {
+    pub(crate) fn new(rt: R, event: &Event<T, L>, cell: Arc<WakerCell>) -> Result<Self, ListenError>
+        ensures event { IfOk result (λ listener. listener.event ≡ event.now.number) }
+        ensures list { IfOk result (λ listener. L.holds event.now.lock listener.list) }
+        ensures listens { IfOk result (Listened L.did) }
     {
         match Place::open(&rt, event.homes(), event.number(), cell) {
-            Ok((place, _shown)) => Ok(EventListener { place, rt }),
+            Ok(place) => Ok(EventListener { place, rt }),
             Err(error) => Err(error),
         }
     }
 }
 
-impl<T: Drop, R: Wait + Copy> Listener<T> for EventListener<T, R> {
+impl<T: Drop, R: Wait + Copy, L: Steps<T>> Listener<T> for EventListener<T, R, L> {
+    ghost use Rattle.event_listener.specs.Listening.{Polled, Waited, WaitedFor, WaitedUntil, LeftSo};
+
     ghost identity = { λ l. l.event };
 
-    ghost is_finished = { λ l. l.is_finished };
+    ghost is_finished = { λ l. is_none l.key };
+
+    ghost polled = { Polled L.did };
+
+    ghost waited = { Waited L.did L.slept };
+
+    ghost waited_for = { WaitedFor L.did L.read L.read_again L.slept };
+
+    ghost waited_until = { WaitedUntil L.did L.read L.read_again L.slept };
+
+    ghost discarded = { λ l told. LeftSo L.did l false told };
 
     fn poll(&mut self, waker: Waker) -> Poll<Result<T, PollFault>> {
         let rt = self.rt;
@@ -226,16 +265,16 @@ impl<T: Drop, R: Wait + Copy> Listener<T> for EventListener<T, R> {
         clock: &K,
         deadline: Instant,
     ) -> Result<Option<T>, WaitError<Self>> {
-        let timeout = match Instant::now(clock) {
-            Ok(now) => deadline.duration_since(now),
-            Err(_) => Duration::ZERO,
+        let timeout = match L::now(clock) {
+            Some(now) => deadline.duration_since(now),
+            None => Duration::ZERO,
         };
         self.wait_timeout(clock, timeout)
     }
 
-    fn discard(mut self) -> bool {
-        let rt = self.rt;
-        self.place.leave(&rt, false)
+    fn discard(self) -> bool {
+        let Self { place, rt } = self;
+        place.leave(&rt, false)
     }
 
     fn listens_to(&self, event: &Event<T>) -> bool {
@@ -247,13 +286,13 @@ impl<T: Drop, R: Wait + Copy> Listener<T> for EventListener<T, R> {
     }
 }
 
-impl<T: Drop, R: Wait + Copy> Future for EventListener<T, R> {
+impl<T: Drop, R: Wait + Copy, L: Steps<T>> Future for EventListener<T, R, L> {
     type Output = Result<T, PollFault>;
 
     ghost use Rattle.event_listener.specs.declared.listener.PollFault.TheVariants as fault;
 
     // A listener that has given its tag is refused, and no other.
-    ghost gives = { λ l r. (r ≡ Err fault.NeverInserted) ↔ (l.is_finished ≡ true) };
+    ghost gives = { λ l r. (r ≡ Err fault.NeverInserted) ↔ (is_none l.key ≡ true) };
 
     /// As [`Listener::poll`], with the waker of the task that is polled. A second poll wakes nobody.
     fn poll(&mut self, cx: &mut Context<'_>) -> Poll<Result<T, PollFault>> {
@@ -262,9 +301,11 @@ impl<T: Drop, R: Wait + Copy> Future for EventListener<T, R> {
     }
 }
 
-impl<T: Drop, R: Wait + Copy> Drop for EventListener<T, R> {
-    fn drop(self) {
-        let Self { mut place, rt } = self;
+impl<T: Drop, R: Wait + Copy, L: Steps<T>> Drop for EventListener<T, R, L> {
+    fn drop(self)
+        ensures { (told : Bool) × LeftSo L.did self true told }
+    {
+        let Self { place, rt } = self;
         place.leave(&rt, true);
     }
 }

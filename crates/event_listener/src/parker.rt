@@ -1,5 +1,6 @@
 //! What a thread sleeps on until its listener is told.
 
+use futures::task::Source;
 use std::sync::atomic::{AtomicBool, Ordering};
 use std::sync::{Condvar, Mutex, Wait};
 use std::time::{Clock, Duration};
@@ -12,6 +13,7 @@ const LOOKS: usize = 16;
 /// std's lock and condition variable. Own to this project.
 #[derive(Drop)]
 pub struct Parker {
+    seal: Source,
     has_rung: AtomicBool,
     is_rung: Mutex<bool>,
     rung: Condvar,
@@ -44,6 +46,7 @@ impl Parker {
     /// A bell that hasn't rung. It takes no memory.
     pub fn new() -> Parker {
         Parker {
+            seal: Source::new(),
             has_rung: AtomicBool::new(false),
             is_rung: Mutex::new(false),
             rung: Condvar::new(),

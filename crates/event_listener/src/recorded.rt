@@ -1,7 +1,9 @@
 //! An event that keeps a record of its calls.
-ghost use Rattle.std.specs.Prelude.{◌≡◌, ◌+◌, ◌≤◌, ◌<◌, length, OnErr, OnOk, Ok, Some, None};
+ghost use Rattle.std.specs.Prelude.{◌≡◌, ◌+◌, ◌≤◌, ◌<◌, length, OnErr, OnOk, Ok, Some, None, List as Names};
 ghost use Rattle.event_listener.specs.Drawing.{TellsOrNone};
 ghost use Rattle.event_listener.specs.Lists.{told_by};
+ghost use Rattle.event_listener.specs.Notices.{Woken};
+ghost use Rattle.event_listener.specs.Recorded.{OnRecord, inserts, registers, polls, removes, notifies, makes_room, counts_told, counts_all};
 ghost use Rattle.event_listener.specs.Replay.{Replays, nobody};
 
 use crate::calls::Registered;
@@ -10,10 +12,12 @@ use crate::error::{ListenError, NoMemory, NotifyError, UnknownListener};
 use crate::into_notification::IntoNotification;
 use crate::key::Key;
 use crate::list::List;
+use crate::records::Records;
 use crate::wakes::Wakes;
 use std::alloc::Global;
 use std::error::Error;
 use std::fmt;
+use std::marker::PhantomData;
 use std::sync::ledger::{Book, Ledger, Share};
 use std::sync::{Mutex, Wait};
 
@@ -93,9 +97,10 @@ impl Error for RegisterError {}
 /// share of the ledger, and adds one to its amount where it adds an entry. So who gathers all parts knows how many
 /// entries the record has.
 #[derive(Drop)]
-pub struct RecordedEvent<T: Copy, W: Copy, L: Ledger> {
+pub struct RecordedEvent<T: Copy, W: Copy, L: Ledger, C = Counted<T, W, L>> {
     alloc: Global,
-    inner: Mutex<Counted<T, W, L>>,
+    inner: Mutex<C>,
+    of: PhantomData<Mutex<(T, W, Book<L>)>>,
 }
 
 impl<T: Copy, W: Copy, L: Ledger> RecordedEvent<T, W, L> {
@@ -106,9 +111,29 @@ impl<T: Copy, W: Copy, L: Ledger> RecordedEvent<T, W, L> {
         RecordedEvent {
             alloc,
             inner: Mutex::new(Counted::new(alloc, book)),
+            of: PhantomData,
         }
     }
 
+    /// The list as it stands at the event's end, and the record that leads there from an empty one, in which each new
+    /// listener's key is one that was never given before. The book's total is the number of its entries.
+    ///
+    /// Who has all parts of the ledger learns by `Book::audit` that this is the amount of its share: as many calls as
+    /// changed the list.
+    pub fn into_parts(self) -> (List<T, W>, Vec<RecordedCall<T, W>>, Book<L>)
+        ensures replays { Replays nobody 0 result.1.items result.0.lists result.0.serials }
+        ensures counted { length result.1.items ≡ result.2.total }
+    {
+        let RecordedEvent {
+            alloc: _,
+            inner,
+            of: _,
+        } = self;
+        inner.into_inner().into_parts()
+    }
+}
+
+impl<T: Copy, W: Copy, L: Ledger, C: Records<T, W, L>> RecordedEvent<T, W, L, C> {
     /// Adds a listener, which waits without a task. It is counted where it is not refused.
     ///
     /// Refused for memory, of the list or of the record, or where all serials were given. It may wait for the lock.
@@ -117,6 +142,7 @@ impl<T: Copy, W: Copy, L: Ledger> RecordedEvent<T, W, L> {
         ensures counted { OnOk result (mine.new.amount ≡ mine.old.amount + 1) }
         ensures uncounted { OnErr result (mine.new.amount ≡ mine.old.amount) }
         ensures parts { mine.new.parts ≡ mine.old.parts }
+        ensures stored { OnRecord C.did (inserts result) }
     {
         self.inner.lock(rt).insert(mine)
     }
@@ -135,6 +161,7 @@ impl<T: Copy, W: Copy, L: Ledger> RecordedEvent<T, W, L> {
         ensures counted { OnOk result (mine.new.amount ≡ mine.old.amount + 1) }
         ensures uncounted { OnErr result (mine.new.amount ≡ mine.old.amount) }
         ensures parts { mine.new.parts ≡ mine.old.parts }
+        ensures stored { OnRecord C.did (registers key task result) }
     {
         self.inner.lock(rt).register(mine, key, task)
     }
@@ -152,6 +179,7 @@ impl<T: Copy, W: Copy, L: Ledger> RecordedEvent<T, W, L> {
         ensures waiting { result ≡ Ok None → mine.new.amount ≡ mine.old.amount }
         ensures uncounted { OnErr result (mine.new.amount ≡ mine.old.amount) }
         ensures parts { mine.new.parts ≡ mine.old.parts }
+        ensures stored { OnRecord C.did (polls key result) }
     {
         self.inner.lock(rt).poll(mine, key)
     }
@@ -170,6 +198,7 @@ impl<T: Copy, W: Copy, L: Ledger> RecordedEvent<T, W, L> {
         ensures counted { OnOk result (mine.new.amount ≡ mine.old.amount + 1) }
         ensures uncounted { OnErr result (mine.new.amount ≡ mine.old.amount) }
         ensures parts { mine.new.parts ≡ mine.old.parts }
+        ensures stored { (woken : Names W) × OnRecord C.did (removes key pass_on woken result) × Woken S.wakes sink.old woken sink.new }
     {
         self.inner.lock(rt).remove(mine, key, pass_on, sink)
     }
@@ -192,36 +221,30 @@ impl<T: Copy, W: Copy, L: Ledger> RecordedEvent<T, W, L> {
         ensures counted { 0 < told_by result → mine.new.amount ≡ mine.old.amount + 1 }
         ensures uncounted { told_by result ≡ 0 → mine.new.amount ≡ mine.old.amount }
         ensures parts { mine.new.parts ≡ mine.old.parts }
+        ensures stored { (n : N.Notify) × N.becomes notice n × (woken : Names W) × OnRecord C.did (notifies (N.Notify.additional n) (N.Notify.size n) woken result) × Woken S.wakes sink.old woken sink.new }
     {
         let notice = notice.into_notification();
         self.inner.lock(rt).notify(self.alloc, mine, notice, sink)
     }
 
     /// Makes room for so many more listeners, for their records and their ends. It may wait for the lock.
-    pub fn reserve<R: Wait>(&self, rt: &R, extra: usize) -> Result<(), NoMemory> {
+    pub fn reserve<R: Wait>(&self, rt: &R, extra: usize) -> Result<(), NoMemory>
+        ensures { OnRecord C.did makes_room }
+    {
         self.inner.lock(rt).reserve(extra)
     }
 
     /// How many are listed. It may wait for the lock.
-    pub fn total<R: Wait>(&self, rt: &R) -> usize {
+    pub fn total<R: Wait>(&self, rt: &R) -> usize
+        ensures { OnRecord C.did (counts_all result) }
+    {
         self.inner.lock(rt).total()
     }
 
     /// How many are told. It may wait for the lock.
-    pub fn told<R: Wait>(&self, rt: &R) -> usize {
-        self.inner.lock(rt).told()
-    }
-
-    /// The list as it stands at the event's end, and the record that leads there from an empty one, in which each new
-    /// listener's key is one that was never given before. The book's total is the number of its entries.
-    ///
-    /// Who has all parts of the ledger learns by `Book::audit` that this is the amount of its share: as many calls as
-    /// changed the list.
-    pub fn into_parts(self) -> (List<T, W>, Vec<RecordedCall<T, W>>, Book<L>)
-        ensures replays { Replays nobody 0 result.1.items result.0.lists result.0.serials }
-        ensures counted { length result.1.items ≡ result.2.total }
+    pub fn told<R: Wait>(&self, rt: &R) -> usize
+        ensures { OnRecord C.did (counts_told result) }
     {
-        let RecordedEvent { alloc: _, inner } = self;
-        inner.into_inner().into_parts()
+        self.inner.lock(rt).told()
     }
 }

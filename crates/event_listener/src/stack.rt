@@ -1,11 +1,13 @@
 //! Listeners that live no longer than their event, and the macro that makes one.
-ghost use Rattle.std.specs.Prelude.{◌≡◌, ◌↔◌, true, false, IfOk, Err};
-ghost use Rattle.event_listener.specs.Listening.{Listening};
+ghost use Rattle.std.specs.Prelude.{◌≡◌, ◌↔◌, true, false, is_none, IfOk, Err};
+ghost use Rattle.event_listener.specs.Listening.{Listening, Listened};
 
 use crate::error::{ListenError, NoMemory};
 use crate::event::Event;
+use crate::list::List;
 use crate::listener::{EventListener, Listener, PollFault, WaitError};
-use crate::waking::WakerCell;
+use crate::steps::Steps;
+use crate::waking::{Task, WakerCell};
 use futures::future::Future;
 use futures::task::{Context, Poll, Waker};
 use std::alloc::Global;
@@ -18,26 +20,26 @@ use std::time::{Clock, Duration, Instant};
 /// It has the runtime with it, for its listeners. As `event-listener` 5.4.2, but that the node itself is in the list's
 /// memory, so that nothing is pinned.
 #[derive(Drop)]
-pub struct StackSlot<'ev, T, R: Wait + Copy> {
+pub struct StackSlot<'ev, T, R: Wait + Copy, L = List<T, Task>> {
     rt: R,
     alloc: Global,
-    event: &'ev Event<T>,
+    event: &'ev Event<T, L>,
     cell: Option<Arc<WakerCell>>,
 }
 
-impl<'ev, T, R: Wait + Copy> Model for StackSlot<'ev, T, R> {
-    ghost use Rattle.std.specs.Prelude.{ℕ};
+impl<'ev, T, R: Wait + Copy, L> Model for StackSlot<'ev, T, R, L> {
+    ghost use Rattle.event_listener.specs.Listening.{EventView};
 
-    ghost Value = { ℕ };
+    ghost Value = { EventView };
 
     ghost view = { λ slot. slot.event.now };
 }
 
-impl<'ev, T: Drop, R: Wait + Copy> StackSlot<'ev, T, R> {
+impl<'ev, T: Drop, R: Wait + Copy, L: Steps<T>> StackSlot<'ev, T, R, L> {
     /// A slot for listeners of this event, with what the first of them needs to be woken.
     ///
     /// Refused where that was refused for memory.
-    pub fn new(rt: R, alloc: Global, event: &'ev Event<T>) -> Result<Self, NoMemory>
+    pub fn new(rt: R, alloc: Global, event: &'ev Event<T, L>) -> Result<Self, NoMemory>
         ensures { IfOk result (λ slot. slot ≡ event.now) }
     {
         match Arc::new(alloc, WakerCell::new()) {
@@ -52,9 +54,10 @@ impl<'ev, T: Drop, R: Wait + Copy> StackSlot<'ev, T, R> {
     }
 
     /// Adds a listener, as [`Event::listen`] does, and refused as there. It may wait for the list's lock.
-    pub fn listen(&mut self) -> Result<StackListener<'ev, T, R>, ListenError>
-        ensures event { IfOk result (λ listener. listener.event ≡ self.old) }
-        ensures listens { IfOk result (λ listener. listener.is_finished ≡ false) }
+    pub fn listen(&mut self) -> Result<StackListener<'ev, T, R, L>, ListenError>
+        ensures event { IfOk result (λ listener. listener.event ≡ self.old.number) }
+        ensures list { IfOk result (λ listener. L.holds self.old.lock listener.list) }
+        ensures listens { IfOk result (Listened L.did) }
         ensures slot { self.new ≡ self.old }
     {
         let cell = match self.cell.take() {
@@ -76,12 +79,12 @@ impl<'ev, T: Drop, R: Wait + Copy> StackSlot<'ev, T, R> {
 
 /// A listener in a slot. It is dropped as an [`EventListener`] is.
 #[derive(Drop)]
-pub struct StackListener<'ev, T: Drop, R: Wait + Copy> {
-    event: &'ev Event<T>,
-    inner: EventListener<T, R>,
+pub struct StackListener<'ev, T: Drop, R: Wait + Copy, L: Steps<T> = List<T, Task>> {
+    event: &'ev Event<T, L>,
+    inner: EventListener<T, R, L>,
 }
 
-impl<'ev, T: Drop, R: Wait + Copy> Model for StackListener<'ev, T, R> {
+impl<'ev, T: Drop, R: Wait + Copy, L: Steps<T>> Model for StackListener<'ev, T, R, L> {
     ghost use Rattle.event_listener.specs.Listening.{Listening};
 
     ghost Value = { Listening };
@@ -89,10 +92,22 @@ impl<'ev, T: Drop, R: Wait + Copy> Model for StackListener<'ev, T, R> {
     ghost view = { λ l. l.inner };
 }
 
-impl<'ev, T: Drop, R: Wait + Copy> Listener<T> for StackListener<'ev, T, R> {
+impl<'ev, T: Drop, R: Wait + Copy, L: Steps<T>> Listener<T> for StackListener<'ev, T, R, L> {
+    ghost use Rattle.event_listener.specs.Listening.{Polled, Waited, WaitedFor, WaitedUntil, LeftSo};
+
     ghost identity = { λ l. l.event };
 
-    ghost is_finished = { λ l. l.is_finished };
+    ghost is_finished = { λ l. is_none l.key };
+
+    ghost polled = { Polled L.did };
+
+    ghost waited = { Waited L.did L.slept };
+
+    ghost waited_for = { WaitedFor L.did L.read L.read_again L.slept };
+
+    ghost waited_until = { WaitedUntil L.did L.read L.read_again L.slept };
+
+    ghost discarded = { λ l told. LeftSo L.did l false told };
 
     fn poll(&mut self, waker: Waker) -> Poll<Result<T, PollFault>> {
         Listener::poll(&mut self.inner, waker)
@@ -144,12 +159,12 @@ impl<'ev, T: Drop, R: Wait + Copy> Listener<T> for StackListener<'ev, T, R> {
     }
 }
 
-impl<'ev, T: Drop, R: Wait + Copy> Future for StackListener<'ev, T, R> {
+impl<'ev, T: Drop, R: Wait + Copy, L: Steps<T>> Future for StackListener<'ev, T, R, L> {
     type Output = Result<T, PollFault>;
 
     ghost use Rattle.event_listener.specs.declared.listener.PollFault.TheVariants as fault;
 
-    ghost gives = { λ l r. (r ≡ Err fault.NeverInserted) ↔ (l.is_finished ≡ true) };
+    ghost gives = { λ l r. (r ≡ Err fault.NeverInserted) ↔ (is_none l.key ≡ true) };
 
     /// As [`Listener::poll`], with the waker of the task that is polled. A second poll wakes nobody.
     fn poll(&mut self, cx: &mut Context<'_>) -> Poll<Result<T, PollFault>> {
@@ -158,10 +173,10 @@ impl<'ev, T: Drop, R: Wait + Copy> Future for StackListener<'ev, T, R> {
 }
 
 // The listener that a wait hands back, in its slot again.
-fn in_slot<'ev, T: Drop, R: Wait + Copy>(
-    event: &'ev Event<T>,
-    error: WaitError<EventListener<T, R>>,
-) -> WaitError<StackListener<'ev, T, R>>
+fn in_slot<'ev, T: Drop, R: Wait + Copy, L: Steps<T>>(
+    event: &'ev Event<T, L>,
+    error: WaitError<EventListener<T, R, L>>,
+) -> WaitError<StackListener<'ev, T, R, L>>
     ensures no_memory { (l : _) → error ≡ WaitError.NoMemory l → result ≡ WaitError.NoMemory l }
     ensures never_inserted { (l : _) → error ≡ WaitError.NeverInserted l → result ≡ WaitError.NeverInserted l }
 {

@@ -3,8 +3,8 @@
 
 use crate::timed::{notifies_each, waits_briefly};
 use event_listener::event::Event;
-use event_listener::into_notification::IntoNotification;
-use event_listener::listener::{EventListener, Listener};
+use event_listener::listener::EventListener;
+use event_listener::prelude::{IntoNotification, Listener};
 use std::sync::Wait;
 use std::sync::atomic::AtomicUsize;
 use std::thread;

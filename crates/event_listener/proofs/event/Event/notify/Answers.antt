@@ -1,13 +1,16 @@
-use Rattle.event_listener.proofs.TellingLemmas.{moved-at-most}
+use Rattle.std.proofs.Common.{subst, inl}
+use Rattle.event_listener.specs.Homes.{seal_of}
+use Rattle.event_listener.specs.Listening.{EventView}
 use Rattle.event_listener.proofs.event.Event.notify.Goals as goal
 
 pub returns-in-Some : goal.returns-in-Some
 returns-in-Some g c =
-    let told = c.notify.ensures.notified in
+    let told = c.notify.ensures in
+    let list = seal_of c.in-Some.turn.home.now in
     record {
       tells = (
         c.into_notification-notice.result,
         c.into_notification-notice.ensures,
-        record { many = _; at_most = moved-at-most _ _ _; tags = told.tags; rest = told.rest; drawn = told.drawn; answer = told.answer },
+        inl (told.0, (list, subst (λ (v : EventView). g.L.Steps.holds v.lock list) c.self.view_is c.in-Some.ensures.held, told.1)),
       );
     }

@@ -1,6 +1,6 @@
 use Rattle.std.proofs.Common.{◌∷◌, [], Ok, ap, ◌∙◌, length, length-append, arith}
 use Rattle.event_listener.specs.declared.recorded.RecordedCall.TheVariants.{Polled}
-use Rattle.event_listener.proofs.counted.Counted.poll.Goals as goal
+use Rattle.event_listener.proofs.counted.CountedRecords.poll.Goals as goal
 
 pub invariant_of-self : goal.invariant_of-self
 invariant_of-self g c =

@@ -1,0 +1,10 @@
+//! Laws of what is done on events. Each is the contract of a function that does nothing.
+
+ghost use Rattle.event_listener.specs.SectionRuns.{RunsKeepTheOrder};
+
+/// The sections on the list of one event come in the one order that its lock gives, and each does what its calls of `List` do, with its own
+/// answer. So after any of them the told listeners are the first in the order of listening, both lists keep that order, and no key stands twice.
+/// Own to this project.
+pub fn sections_keep_the_order<T>()
+    ensures { RunsKeepTheOrder T }
+{}

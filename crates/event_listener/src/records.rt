@@ -1,0 +1,96 @@
+//! What stands behind the lock of a recorded event, by what is done to it in a section.
+ghost use Rattle.std.specs.Prelude.{◌≡◌, ◌+◌, ◌≤◌, ◌<◌, OnErr, OnOk, Ok, Some, None, List as Names};
+ghost use Rattle.event_listener.specs.Drawing.{TellsOrNone};
+ghost use Rattle.event_listener.specs.Lists.{told_by};
+ghost use Rattle.event_listener.specs.Notices.{Woken};
+ghost use Rattle.event_listener.specs.Recorded.{Section, inserts, registers, polls, removes, notifies, makes_room, counts_told, counts_all};
+
+use crate::calls::Registered;
+use crate::error::{ListenError, NoMemory, NotifyError, UnknownListener};
+use crate::key::Key;
+use crate::notify::Notification;
+use crate::recorded::RegisterError;
+use crate::wakes::Wakes;
+use std::alloc::Global;
+use std::sync::ledger::{Ledger, Share};
+
+/// A list with its record and the book that counts its entries. Each method says of itself that this was done, with this answer, and nothing
+/// else. So a call over records of which nothing is known but this can be shown to have made a section only where it made it. Own to this
+/// project.
+pub trait Records<T: Copy, W: Copy, L: Ledger>: Drop {
+    /// Whether this was done to the one record, so that it is the other.
+    ghost did: { Section T W → Self → Self → Type 0 };
+
+    /// Adds a listener.
+    fn insert(&mut self, mine: &mut Share<L>) -> Result<Key, ListenError>
+        requires { 0 < mine.old.parts }
+        ensures did { did (inserts result) self.old self.new }
+        ensures counted { OnOk result (mine.new.amount ≡ mine.old.amount + 1) }
+        ensures uncounted { OnErr result (mine.new.amount ≡ mine.old.amount) }
+        ensures parts { mine.new.parts ≡ mine.old.parts };
+
+    /// Takes a told listener off, or stores the task of one that waits.
+    fn register(
+        &mut self,
+        mine: &mut Share<L>,
+        key: Key,
+        task: W,
+    ) -> Result<Registered<T>, RegisterError>
+        requires { 0 < mine.old.parts }
+        ensures did { did (registers key task result) self.old self.new }
+        ensures counted { OnOk result (mine.new.amount ≡ mine.old.amount + 1) }
+        ensures uncounted { OnErr result (mine.new.amount ≡ mine.old.amount) }
+        ensures parts { mine.new.parts ≡ mine.old.parts };
+
+    /// Takes a told listener off.
+    fn poll(&mut self, mine: &mut Share<L>, key: Key) -> Result<Option<T>, UnknownListener>
+        requires { 0 < mine.old.parts }
+        ensures did { did (polls key result) self.old self.new }
+        ensures counted { (tag : T) → result ≡ Ok (Some tag) → mine.new.amount ≡ mine.old.amount + 1 }
+        ensures waiting { result ≡ Ok None → mine.new.amount ≡ mine.old.amount }
+        ensures uncounted { OnErr result (mine.new.amount ≡ mine.old.amount) }
+        ensures parts { mine.new.parts ≡ mine.old.parts };
+
+    /// Takes a listener off.
+    fn remove<S: Wakes<W>>(
+        &mut self,
+        mine: &mut Share<L>,
+        key: Key,
+        pass_on: bool,
+        sink: &mut S,
+    ) -> Result<bool, UnknownListener>
+        requires { 0 < mine.old.parts }
+        ensures did { (woken : Names W) × did (removes key pass_on woken result) self.old self.new × Woken S.wakes sink.old woken sink.new }
+        ensures counted { OnOk result (mine.new.amount ≡ mine.old.amount + 1) }
+        ensures uncounted { OnErr result (mine.new.amount ≡ mine.old.amount) }
+        ensures parts { mine.new.parts ≡ mine.old.parts };
+
+    /// Tells listeners.
+    fn notify<N: Notification<Tag = T> + Drop, S: Wakes<W>>(
+        &mut self,
+        alloc: Global,
+        mine: &mut Share<L>,
+        notice: N,
+        sink: &mut S,
+    ) -> Result<usize, NotifyError>
+        requires notice { N.can_give notice }
+        requires share { 0 < mine.old.parts }
+        ensures did { (woken : Names W) × did (notifies (N.additional notice) (N.size notice) woken result) self.old self.new × Woken S.wakes sink.old woken sink.new }
+        ensures at_most { told_by result ≤ N.size notice }
+        ensures tells { TellsOrNone N.gives N.size notice result }
+        ensures counted { 0 < told_by result → mine.new.amount ≡ mine.old.amount + 1 }
+        ensures uncounted { told_by result ≡ 0 → mine.new.amount ≡ mine.old.amount }
+        ensures parts { mine.new.parts ≡ mine.old.parts };
+
+    /// Makes room for so many more listeners, their records and their ends.
+    fn reserve(&mut self, extra: usize) -> Result<(), NoMemory>
+        ensures { did makes_room self.old self.new };
+
+    /// How many are listed.
+    fn total(&self) -> usize
+        ensures { did (counts_all result) self.now self.now };
+
+    /// How many are told.
+    fn told(&self) -> usize
+        ensures { did (counts_told result) self.now self.now };
+}

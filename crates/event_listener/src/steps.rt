@@ -1,0 +1,315 @@
+//! The steps that the calls of an event and of its listeners are made of: sections on its list, and what a wait does between them.
+//!
+//! The calls are written over any type of lists that has these steps. Each method's contract says that this very step was made, with this
+//! answer, by relations of which nothing else is known. So a call's contract, which names its steps, can be met only by making them.
+ghost use Rattle.std.specs.Prelude.{◌≡◌, ℕ, Option, Some, None, IfSome, IfNone};
+ghost use Rattle.std.specs.Arc.{arc_value};
+ghost use Rattle.std.specs.declared.time.Duration.{Duration as Span};
+ghost use Rattle.std.specs.declared.time.Instant.{Instant as Moment};
+ghost use Rattle.futures.specs.Task.{IsArmed, Keeps};
+ghost use Rattle.event_listener.specs.Homes.{seal_of};
+ghost use Rattle.event_listener.specs.Listening.{Lapsed};
+ghost use Rattle.event_listener.specs.Telling.{TellsIn};
+ghost use Rattle.event_listener.specs.Sections.{Section, OnSome, tag_given as given, cell_of, parker_of, listens, polls, arms, parks, looks, leaves, removes, notifies, counts_told, counts_all};
+
+use crate::calls::Registered;
+use crate::error::{ListenError, NotifyError, UnknownListener};
+use crate::home::Home;
+use crate::key::Key;
+use crate::list::List;
+use crate::notify::Notification;
+use crate::parker::Parker;
+use crate::waking::{Task, WakeNow, WakerCell};
+use futures::task::{Context, Source, Waker};
+use std::alloc::Global;
+use std::sync::{Arc, OnceLock, OnceToken, Wait};
+use std::time::{Clock, Duration, Instant};
+
+/// A list of the listeners of one event, by the steps that are made on it and for it. A [`List`] is one, and the list of each event. Own to
+/// this project.
+///
+/// A section is shown the seal of the list that it is on. It doesn't change what is done.
+pub trait Steps<T>: Drop {
+    /// Whether this was done to the list with this seal, so that the one became the other.
+    ghost did: { ℕ → Section T → Self → Self → Type 0 };
+
+    /// Whether an event's lock of this name was seen to keep the list with this seal.
+    ghost holds: { ℕ → ℕ → Type 0 };
+
+    /// Whether an event's lock of this name was seen to keep no list yet.
+    ghost lacks: { ℕ → Type 0 };
+
+    /// Whether a clock was asked, and read so, or couldn't be read.
+    ghost read: { Option Moment → Type 0 };
+
+    /// Whether a clock was asked again, after it had read so first.
+    ghost read_again: { Option Moment → Option Moment → Type 0 };
+
+    /// Whether the thread slept on the parker of this name, without a limit or for so long at most.
+    ghost slept: { ℕ → Option Span → Type 0 };
+
+    /// A list without listeners.
+    fn empty(alloc: Global) -> Self;
+
+    /// Looks whether the lock of an event has a list.
+    fn find<'a>(lock: &'a OnceLock<Arc<Home<T, Self>>>) -> Option<OnceToken<'a, Arc<Home<T, Self>>>>
+        ensures of { IfSome result (λ token. token.of ≡ lock.now.id) }
+        ensures lacks { IfNone result (lacks lock.now.id) };
+
+    /// Sees which list the lock of an event has.
+    fn see(token: &OnceToken<'_, Arc<Home<T, Self>>>)
+        ensures { holds token.now.of (seal_of (arc_value token.now.value)) };
+
+    /// Adds a listener, with the task whose waker lies in this cell.
+    fn listen(&mut self, seal: &Source, cell: Arc<WakerCell>) -> Result<Key, ListenError>
+        ensures { did seal.now.id (listens (cell_of (arc_value cell)) result) self.old self.new };
+
+    /// Takes a told listener off and gives its tag. Of one that waits it keeps the waker in its cell, so that no notice comes between.
+    fn poll<R: Wait>(
+        &mut self,
+        seal: &Source,
+        rt: &R,
+        key: Key,
+        cell: &WakerCell,
+        waker: Waker,
+    ) -> Option<T>
+        ensures { did seal.now.id (polls key (cell_of cell.now) waker result) self.old self.new };
+
+    /// The same with the waker of the task that is polled.
+    fn poll_in<R: Wait>(
+        &mut self,
+        seal: &Source,
+        rt: &R,
+        key: Key,
+        cell: &WakerCell,
+        cx: &mut Context<'_>,
+    ) -> Option<T>
+        ensures did { did seal.now.id (arms key (cell_of cell.now) result) self.old self.new }
+        ensures armed { result ≡ None → IsArmed cx.new }
+        ensures kept { Keeps cx.old cx.new };
+
+    /// Takes a told listener off and gives its tag. One that waits gets the thread that sleeps on this parker as its task.
+    fn park(&mut self, seal: &Source, key: Key, parker: Arc<Parker>) -> Option<T>
+        ensures { did seal.now.id (parks key (parker_of (arc_value parker)) result) self.old self.new };
+
+    /// Takes a told listener off and gives its tag, once the thread has slept on this parker.
+    fn look(&mut self, seal: &Source, key: Key, parker: &Parker) -> Option<T>
+        requires { slept (parker_of parker.now) None }
+        ensures { did seal.now.id (looks key (parker_of parker.now) result) self.old self.new };
+
+    /// Takes a listener off, told or not, and gives the tag of a told one, once the thread has slept on this parker for as long as was left.
+    /// It passes nothing on.
+    fn leave(&mut self, seal: &Source, key: Key, parker: &Parker, timeout: Duration) -> Option<T>
+        requires { Lapsed read read_again slept (parker_of parker.now) timeout }
+        ensures { did seal.now.id (leaves key timeout result) self.old self.new };
+
+    /// Takes a listener off, and answers whether it was told. A told one may pass its notice on.
+    fn remove<R: Wait>(&mut self, seal: &Source, rt: &R, key: Key, pass_on: bool) -> bool
+        ensures { did seal.now.id (removes key pass_on result) self.old self.new };
+
+    /// Tells listeners, and wakes them at once.
+    fn notify<N: Notification<Tag = T> + Drop, R: Wait>(
+        &mut self,
+        seal: &Source,
+        rt: &R,
+        notice: N,
+    ) -> Result<usize, NotifyError>
+        requires { N.can_give notice }
+        ensures { TellsIn N.size N.gives notice result (λ tags. did seal.now.id (notifies (N.additional notice) (N.size notice) tags result) self.old self.new) };
+
+    /// How many are told.
+    fn told(&self, seal: &Source) -> usize
+        ensures { did seal.now.id (counts_told result) self.now self.now };
+
+    /// How many there are.
+    fn total(&self, seal: &Source) -> usize
+        ensures { did seal.now.id (counts_all result) self.now self.now };
+
+    /// Sleeps on the parker that a listener registered with in this list, until it is rung.
+    fn sleep<R: Wait>(rt: &R, seal: &Source, key: Key, parker: &Parker)
+        requires { OnSome did seal.now.id (parks key (parker_of parker.now) None) }
+        ensures { slept (parker_of parker.now) None };
+
+    /// The same for so long at most.
+    fn sleep_for<R: Wait, K: Clock>(
+        rt: &R,
+        seal: &Source,
+        key: Key,
+        parker: &Parker,
+        clock: &K,
+        limit: Duration,
+    )
+        requires { OnSome did seal.now.id (parks key (parker_of parker.now) None) }
+        ensures { slept (parker_of parker.now) (Some limit) };
+
+    /// Asks the clock.
+    fn now<K: Clock>(clock: &K) -> Option<Instant>
+        ensures { read result };
+
+    /// Asks it again.
+    fn now_again<K: Clock>(clock: &K, begun: Option<Instant>) -> Option<Instant>
+        ensures { read_again begun result };
+}
+
+impl<T: Drop> Steps<T> for List<T, Task> {
+    ghost use Rattle.event_listener.specs.Sections.{OnList};
+
+    ghost did = { λ _ section before after. OnList section before after };
+
+    ghost holds = { λ _ _. Unit {0} };
+
+    ghost lacks = { λ _. Unit {0} };
+
+    ghost read = { λ _. Unit {0} };
+
+    ghost read_again = { λ _ _. Unit {0} };
+
+    ghost slept = { λ _ _. Unit {0} };
+
+    fn empty(alloc: Global) -> Self {
+        List::new(alloc)
+    }
+
+    #[inline(always)]
+    fn find<'a>(
+        lock: &'a OnceLock<Arc<Home<T, Self>>>,
+    ) -> Option<OnceToken<'a, Arc<Home<T, Self>>>> {
+        lock.witness()
+    }
+
+    #[inline(always)]
+    fn see(_token: &OnceToken<'_, Arc<Home<T, Self>>>) {}
+
+    #[inline(always)]
+    fn listen(&mut self, _seal: &Source, cell: Arc<WakerCell>) -> Result<Key, ListenError> {
+        let key = self.insert()?;
+        let _ = self.register(key, Task::Polled(cell));
+        Ok(key)
+    }
+
+    #[inline(always)]
+    fn poll<R: Wait>(
+        &mut self,
+        _seal: &Source,
+        rt: &R,
+        key: Key,
+        cell: &WakerCell,
+        waker: Waker,
+    ) -> Option<T> {
+        match List::poll(self, key) {
+            Ok(Some(tag)) => Some(tag),
+            Ok(None) | Err(_) => {
+                cell.keep(rt, waker);
+                None
+            }
+        }
+    }
+
+    #[inline(always)]
+    fn poll_in<R: Wait>(
+        &mut self,
+        _seal: &Source,
+        rt: &R,
+        key: Key,
+        cell: &WakerCell,
+        cx: &mut Context<'_>,
+    ) -> Option<T> {
+        match List::poll(self, key) {
+            Ok(Some(tag)) => Some(tag),
+            Ok(None) | Err(_) => {
+                let _armed = cell.arm(rt, cx);
+                None
+            }
+        }
+    }
+
+    #[inline(always)]
+    fn park(&mut self, _seal: &Source, key: Key, parker: Arc<Parker>) -> Option<T> {
+        tag_given(self.register(key, Task::Parked(parker)))
+    }
+
+    #[inline(always)]
+    fn look(&mut self, _seal: &Source, key: Key, _parker: &Parker) -> Option<T> {
+        match List::poll(self, key) {
+            Ok(tag) => tag,
+            Err(_) => None,
+        }
+    }
+
+    #[inline(always)]
+    fn leave(
+        &mut self,
+        _seal: &Source,
+        key: Key,
+        _parker: &Parker,
+        _timeout: Duration,
+    ) -> Option<T> {
+        self.take_off(key)
+    }
+
+    #[inline(always)]
+    fn remove<R: Wait>(&mut self, _seal: &Source, rt: &R, key: Key, pass_on: bool) -> bool {
+        match List::remove(self, key, pass_on, &mut WakeNow { rt }) {
+            Ok(told) => told,
+            Err(_) => false,
+        }
+    }
+
+    #[inline(always)]
+    fn notify<N: Notification<Tag = T> + Drop, R: Wait>(
+        &mut self,
+        _seal: &Source,
+        rt: &R,
+        notice: N,
+    ) -> Result<usize, NotifyError> {
+        List::notify(self, notice, &mut WakeNow { rt })
+    }
+
+    #[inline(always)]
+    fn told(&self, _seal: &Source) -> usize {
+        List::told(self)
+    }
+
+    #[inline(always)]
+    fn total(&self, _seal: &Source) -> usize {
+        List::total(self)
+    }
+
+    #[inline(always)]
+    fn sleep<R: Wait>(rt: &R, _seal: &Source, _key: Key, parker: &Parker) {
+        parker.sleep(rt);
+    }
+
+    #[inline(always)]
+    fn sleep_for<R: Wait, K: Clock>(
+        rt: &R,
+        _seal: &Source,
+        _key: Key,
+        parker: &Parker,
+        clock: &K,
+        limit: Duration,
+    ) {
+        parker.sleep_for(rt, clock, limit);
+    }
+
+    #[inline(always)]
+    fn now<K: Clock>(clock: &K) -> Option<Instant> {
+        Instant::now(clock).ok()
+    }
+
+    #[inline(always)]
+    fn now_again<K: Clock>(clock: &K, _begun: Option<Instant>) -> Option<Instant> {
+        Instant::now(clock).ok()
+    }
+}
+
+// The tag that a registration gives. A listener that isn't on the list is never told.
+fn tag_given<T>(found: Result<Registered<T>, UnknownListener>) -> Option<T>
+    ensures { result ≡ given found }
+{
+    match found {
+        Ok(Registered::Told(tag)) => Some(tag),
+        Ok(Registered::Waiting) => None,
+        Err(_) => None,
+    }
+}
