@@ -123,7 +123,11 @@ impl<'a, T> CallSeat<'a, T, Standing<T>, OfQueue> {
         requires ended { self.seat.me.0.state.call ≡ None }
         ensures { result.seat ≡ self.entry.seat }
     {
-        let CallSeat { table: _, count: _, seat } = self;
+        let CallSeat {
+            table: _,
+            count: _,
+            seat,
+        } = self;
         Witness { seat }
     }
 }
