@@ -123,7 +123,7 @@ impl<'a, T: Drop> Cells<T> for ForeignSeat<'a, T> {
 
     #[inline(always)]
     fn load(&mut self, at: Word) -> u64 {
-        match word_index(self.table, at) {
+        match word_index(self.table, self.table.slot_count(), at) {
             Some(index) => self.table.shared.load::<Passes>(&mut self.seat, index),
             None => 0,
         }
@@ -131,7 +131,7 @@ impl<'a, T: Drop> Cells<T> for ForeignSeat<'a, T> {
 
     #[inline(always)]
     fn store(&mut self, at: Word, value: u64) {
-        if let Some(index) = word_index(self.table, at) {
+        if let Some(index) = word_index(self.table, self.table.slot_count(), at) {
             self.table
                 .shared
                 .store::<Passes>(&mut self.seat, index, value);
@@ -140,7 +140,7 @@ impl<'a, T: Drop> Cells<T> for ForeignSeat<'a, T> {
 
     #[inline(always)]
     fn compare_exchange(&mut self, at: Word, expected: u64, next: u64) -> Result<u64, u64> {
-        let found = match word_index(self.table, at) {
+        let found = match word_index(self.table, self.table.slot_count(), at) {
             Some(index) => self
                 .table
                 .shared
@@ -156,7 +156,7 @@ impl<'a, T: Drop> Cells<T> for ForeignSeat<'a, T> {
 
     #[inline(always)]
     fn fetch_add(&mut self, at: Word, by: u64) -> u64 {
-        match word_index(self.table, at) {
+        match word_index(self.table, self.table.slot_count(), at) {
             Some(index) => self
                 .table
                 .shared
@@ -167,7 +167,7 @@ impl<'a, T: Drop> Cells<T> for ForeignSeat<'a, T> {
 
     #[inline(always)]
     fn fetch_or(&mut self, at: Word, bits: u64) -> u64 {
-        match word_index(self.table, at) {
+        match word_index(self.table, self.table.slot_count(), at) {
             Some(index) => self
                 .table
                 .shared
@@ -178,7 +178,7 @@ impl<'a, T: Drop> Cells<T> for ForeignSeat<'a, T> {
 
     #[inline(always)]
     fn fetch_and(&mut self, at: Word, bits: u64) -> u64 {
-        match word_index(self.table, at) {
+        match word_index(self.table, self.table.slot_count(), at) {
             Some(index) => self
                 .table
                 .shared
@@ -189,7 +189,7 @@ impl<'a, T: Drop> Cells<T> for ForeignSeat<'a, T> {
 
     #[inline(always)]
     fn take(&mut self, at: Slot) -> Option<T> {
-        match slot_index(self.table, at) {
+        match slot_index(self.table, self.table.slot_count(), at) {
             Some(index) => self.take_from(index),
             None => None,
         }
@@ -197,7 +197,7 @@ impl<'a, T: Drop> Cells<T> for ForeignSeat<'a, T> {
 
     #[inline(always)]
     fn put(&mut self, at: Slot, value: T) -> Result<(), T> {
-        match slot_index(self.table, at) {
+        match slot_index(self.table, self.table.slot_count(), at) {
             Some(index) => self.put_into(index, value),
             None => Err(value),
         }

@@ -51,7 +51,10 @@ pub struct RuledTable<T, A, P: Machine<T, A>> {
 /// The same from a party's seat, which has no slot. It has no drop, so a party's seat can't be let go by accident.
 pub struct CallSeat<'a, T, A, P: Machine<T, A>> {
     pub(crate) table: &'a KitTable<T, A, P>,
+    /// How many slots the table has. It is loaded once, since each operation on a word may have changed what memory holds.
+    pub(crate) count: usize,
     pub(crate) seat: Seat<Option<T>, View<T, A>>,
+    ghost counted: { count ≡ table.now.shared.table_id.slots },
     ghost bounded: { table.now.shared.key ≡ Bounded table.now.shared.table_id.slots },
     ghost slots: { table.now.shared.table_id.slots ≡ slots_of table.now.shared.key },
     ghost words: { table.now.shared.table_id.words ≡ slots_of table.now.shared.key + words_of table.now.shared.key },
@@ -61,6 +64,7 @@ pub struct CallSeat<'a, T, A, P: Machine<T, A>> {
 }
 
 /// How many stamps the words of a queue have: one for each slot of a ring.
+#[inline(always)]
 fn stamps_for(capacity: usize) -> usize
     ensures { result ≡ stamps_of (Bounded capacity) }
 {
@@ -101,28 +105,30 @@ pub(crate) fn flag_index<T, A, P: Machine<T, A>>(table: &KitTable<T, A, P>) -> u
     table.slot_count() + FLAG
 }
 
-/// Where a word of the queue lies, if there is such a word.
+/// Where a word of a queue with so many slots lies, if there is such a word.
 #[inline(always)]
 pub(crate) fn word_index<T, A, P: Machine<T, A>>(
     table: &KitTable<T, A, P>,
+    count: usize,
     at: Word,
 ) -> Option<usize>
+    requires counted { count ≡ table.now.shared.table_id.slots }
+    requires bounded { table.now.shared.key ≡ Bounded table.now.shared.table_id.slots }
     requires slots { table.now.shared.table_id.slots ≡ slots_of table.now.shared.key }
     requires words { table.now.shared.table_id.words ≡ slots_of table.now.shared.key + words_of table.now.shared.key }
     ensures { MatchOption result (IsAbsent table.now.shared.key at)
         (λ i. IsOwn table.now.shared.key at × (i ≡ slots_of table.now.shared.key + index_of (place_of at)) × (i < table.now.shared.table_id.words)) }
 {
-    let first = table.slot_count();
-    let end = table.word_count();
+    let _end = table.word_count();
     match at {
-        Word::State => Some(first + STATE),
-        Word::Head => Some(first + HEAD),
-        Word::Tail => Some(first + TAIL),
-        Word::HeadBlock => Some(first + HEAD_BLOCK),
-        Word::TailBlock => Some(first + TAIL_BLOCK),
+        Word::State => Some(count + STATE),
+        Word::Head => Some(count + HEAD),
+        Word::Tail => Some(count + TAIL),
+        Word::HeadBlock => Some(count + HEAD_BLOCK),
+        Word::TailBlock => Some(count + TAIL_BLOCK),
         Word::Stamp(index) => {
-            if index < (end - first - STAMPS) as u64 {
-                Some(first + STAMPS + index as usize)
+            if index < stamps_for(count) as u64 {
+                Some(count + STAMPS + index as usize)
             } else {
                 None
             }
@@ -131,18 +137,20 @@ pub(crate) fn word_index<T, A, P: Machine<T, A>>(
     }
 }
 
-/// Where a slot of the queue lies, if there is such a slot.
+/// Where a slot of a queue with so many slots lies, if there is such a slot.
 #[inline(always)]
 pub(crate) fn slot_index<T, A, P: Machine<T, A>>(
-    table: &KitTable<T, A, P>,
+    _table: &KitTable<T, A, P>,
+    count: usize,
     at: Slot,
 ) -> Option<usize>
-    requires slots { table.now.shared.table_id.slots ≡ slots_of table.now.shared.key }
-    ensures { MatchOption result (IsNoSlot table.now.shared.key at) (λ i. (at ≡ At i) × (i < table.now.shared.table_id.slots)) }
+    requires counted { count ≡ _table.now.shared.table_id.slots }
+    requires slots { _table.now.shared.table_id.slots ≡ slots_of _table.now.shared.key }
+    ensures { MatchOption result (IsNoSlot _table.now.shared.key at) (λ i. (at ≡ At i) × (i < _table.now.shared.table_id.slots)) }
 {
     match at {
         Slot::At(index) => {
-            if index < table.slot_count() as u64 {
+            if index < count as u64 {
                 Some(index as usize)
             } else {
                 None
@@ -172,7 +180,7 @@ impl<'a, T, A, P: Machine<T, A>> CallSeat<'a, T, A, P> {
     pub fn form(&self) -> QueueForm
         ensures { result ≡ self.now.seat.me.0.form }
     {
-        QueueForm::Bounded(self.table.slot_count())
+        QueueForm::Bounded(self.count)
     }
 
     /// An event that leaves all cells as they are, which the proof of the call picks. It costs a load.
@@ -194,7 +202,7 @@ impl<'a, T, A, P: Machine<T, A>> CallSeat<'a, T, A, P> {
         ensures made { P.moves self.old.seat.me.0.form self.old.seat.me.0.state (does (Some (loaded at result))) self.new.seat.me.0.state }
         ensures same { (self.new.seat.table_id ≡ self.old.seat.table_id) × (self.new.seat.me.0.who ≡ self.old.seat.me.0.who) × (self.new.seat.me.0.form ≡ self.old.seat.me.0.form) × (self.new.seat.me.0.over ≡ self.old.seat.me.0.over) }
     {
-        match word_index(self.table, at) {
+        match word_index(self.table, self.count, at) {
             Some(index) => self.table.shared.load::<Loads<P>>(&mut self.seat, index),
             None => {
                 self.happen::<Brand, Word, ()>(&at, &());
@@ -210,7 +218,7 @@ impl<'a, T, A, P: Machine<T, A>> CallSeat<'a, T, A, P> {
         ensures made { P.moves self.old.seat.me.0.form self.old.seat.me.0.state (does (Some (stored at value))) self.new.seat.me.0.state }
         ensures same { (self.new.seat.table_id ≡ self.old.seat.table_id) × (self.new.seat.me.0.who ≡ self.old.seat.me.0.who) × (self.new.seat.me.0.form ≡ self.old.seat.me.0.form) × (self.new.seat.me.0.over ≡ self.old.seat.me.0.over) }
     {
-        match word_index(self.table, at) {
+        match word_index(self.table, self.count, at) {
             Some(index) => self
                 .table
                 .shared
@@ -226,7 +234,7 @@ impl<'a, T, A, P: Machine<T, A>> CallSeat<'a, T, A, P> {
         ensures made { P.moves self.old.seat.me.0.form self.old.seat.me.0.state (does (Some (exchanged at expected next (answer result expected)))) self.new.seat.me.0.state }
         ensures same { (self.new.seat.table_id ≡ self.old.seat.table_id) × (self.new.seat.me.0.who ≡ self.old.seat.me.0.who) × (self.new.seat.me.0.form ≡ self.old.seat.me.0.form) × (self.new.seat.me.0.over ≡ self.old.seat.me.0.over) }
     {
-        match word_index(self.table, at) {
+        match word_index(self.table, self.count, at) {
             Some(index) => self
                 .table
                 .shared
@@ -245,7 +253,7 @@ impl<'a, T, A, P: Machine<T, A>> CallSeat<'a, T, A, P> {
         ensures made { P.moves self.old.seat.me.0.form self.old.seat.me.0.state (does (Some (added at by result))) self.new.seat.me.0.state }
         ensures same { (self.new.seat.table_id ≡ self.old.seat.table_id) × (self.new.seat.me.0.who ≡ self.old.seat.me.0.who) × (self.new.seat.me.0.form ≡ self.old.seat.me.0.form) × (self.new.seat.me.0.over ≡ self.old.seat.me.0.over) }
     {
-        match word_index(self.table, at) {
+        match word_index(self.table, self.count, at) {
             Some(index) => self
                 .table
                 .shared
@@ -264,7 +272,7 @@ impl<'a, T, A, P: Machine<T, A>> CallSeat<'a, T, A, P> {
         ensures made { P.moves self.old.seat.me.0.form self.old.seat.me.0.state (does (Some (bits_set at bits result))) self.new.seat.me.0.state }
         ensures same { (self.new.seat.table_id ≡ self.old.seat.table_id) × (self.new.seat.me.0.who ≡ self.old.seat.me.0.who) × (self.new.seat.me.0.form ≡ self.old.seat.me.0.form) × (self.new.seat.me.0.over ≡ self.old.seat.me.0.over) }
     {
-        match word_index(self.table, at) {
+        match word_index(self.table, self.count, at) {
             Some(index) => self
                 .table
                 .shared
@@ -283,7 +291,7 @@ impl<'a, T, A, P: Machine<T, A>> CallSeat<'a, T, A, P> {
         ensures made { P.moves self.old.seat.me.0.form self.old.seat.me.0.state (does (Some (bits_kept at bits result))) self.new.seat.me.0.state }
         ensures same { (self.new.seat.table_id ≡ self.old.seat.table_id) × (self.new.seat.me.0.who ≡ self.old.seat.me.0.who) × (self.new.seat.me.0.form ≡ self.old.seat.me.0.form) × (self.new.seat.me.0.over ≡ self.old.seat.me.0.over) }
     {
-        match word_index(self.table, at) {
+        match word_index(self.table, self.count, at) {
             Some(index) => self
                 .table
                 .shared
@@ -318,7 +326,7 @@ impl<'a, T, A, P: Machine<T, A>> CallSeat<'a, T, A, P> {
             (λ o. P.moves self.old.seat.me.0.form self.old.seat.me.0.state (does (Some (did_take at o))) self.new.seat.me.0.state) }
         ensures same { (self.new.seat.table_id ≡ self.old.seat.table_id) × (self.new.seat.me.0.who ≡ self.old.seat.me.0.who) × (self.new.seat.me.0.form ≡ self.old.seat.me.0.form) × (self.new.seat.me.0.over ≡ self.old.seat.me.0.over) }
     {
-        match slot_index(self.table, at) {
+        match slot_index(self.table, self.count, at) {
             Some(index) => self.take_from(index),
             None => {
                 self.happen::<Brand, Slot, ()>(&at, &());
@@ -336,7 +344,7 @@ impl<'a, T, A, P: Machine<T, A>> CallSeat<'a, T, A, P> {
             (λ e. (e.0 ≡ value) × MatchBool e.1 (P.moves self.old.seat.me.0.form self.old.seat.me.0.state (does (Some (did_put at value (Err value)))) self.new.seat.me.0.state) (self.new.seat.me ≡ self.old.seat.me)) }
         ensures same { (self.new.seat.table_id ≡ self.old.seat.table_id) × (self.new.seat.me.0.who ≡ self.old.seat.me.0.who) × (self.new.seat.me.0.form ≡ self.old.seat.me.0.form) × (self.new.seat.me.0.over ≡ self.old.seat.me.0.over) }
     {
-        match slot_index(self.table, at) {
+        match slot_index(self.table, self.count, at) {
             Some(index) => self.put_into(index, value),
             None => {
                 self.happen::<Brand, Slot, T>(&at, &value);

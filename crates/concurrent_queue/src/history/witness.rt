@@ -46,6 +46,7 @@ impl<T> RuledTable<T, Standing<T>, OfQueue> {
         let (_, seat) = self.table.shared.load_new_seat::<Begins<OfQueue, I>>(at);
         CallSeat {
             table: &self.table,
+            count: self.table.slot_count(),
             seat,
         }
     }
@@ -69,6 +70,7 @@ impl<T> RuledTable<T, Standing<T>, OfQueue> {
             .load::<BeginsAgain<OfQueue, I>>(&mut seat, at);
         CallSeat {
             table: &self.table,
+            count: self.table.slot_count(),
             seat,
         }
     }
@@ -121,7 +123,11 @@ impl<'a, T> CallSeat<'a, T, Standing<T>, OfQueue> {
         requires ended { self.seat.me.0.state.call ≡ None }
         ensures { result.seat ≡ self.entry.seat }
     {
-        let CallSeat { table: _, seat } = self;
+        let CallSeat {
+            table: _,
+            count: _,
+            seat,
+        } = self;
         Witness { seat }
     }
 }
