@@ -1,6 +1,7 @@
 //! Laws of every history of a channel's cells. Each is the contract of a function that does nothing.
 
 ghost use Rattle.channel_history.specs.Accounts.{HistoriesAreAccounted};
+ghost use Rattle.channel_history.specs.Handles.{HandlesAreCounted};
 ghost use Rattle.channel_history.specs.Keeps.{DeedsDo, OpensWell, QueueOperationsKeep, SectionsKeep, CountOperationsKeep, BeginningsKeep, ArrivalsKeep, EndingsKeep, JoinsKeep, SplitsKeep};
 ghost use Rattle.channel_history.specs.Row.{OneSenderIsCounted};
 ghost use Rattle.channel_history.specs.Says.{EachMomentIsSaid, HistoriesAreRuns, NobodyIsMissedAtRest};
@@ -12,14 +13,15 @@ pub fn parties_go_on<T, W>()
     ensures goes_on { PartiesGoOn T W }
 {}
 
-/// A channel that was just opened has a history, in which nothing has happened and the four lists lie with the first seat.
+/// A channel that was just opened has a history, in which nothing has happened; the four lists, a sender and a receiver lie with the
+/// first seat.
 pub fn a_new_channel_has_a_history<T, W>()
     ensures opens { OpensWell T W }
 {}
 
 /// What the machine of a party does next keeps the history, where it does to the channel what it answers: an operation on a cell of
-/// the queue, a section on the list that lies with the party's seat, an operation on a count. Each may be preceded by steps of its
-/// call that touch nothing.
+/// the queue, a section on the list that lies with the party's seat, an operation on a count. A count that was raised leaves a handle
+/// with the seat, and a lowering takes one away. Each may be preceded by steps of its call that touch nothing.
 pub fn operations_keep_the_history<T, W>()
     ensures queue { QueueOperationsKeep T W }
     ensures list { SectionsKeep T W }
@@ -38,8 +40,9 @@ pub fn calls_keep_the_history<T, W>()
     ensures ends { EndingsKeep T W }
 {}
 
-/// And so it is where lists go from one seat to another: into that of a call before a section, and to a seat of their own after it.
-pub fn lists_pass_from_seat_to_seat<T, W>()
+/// And so it is where lists and handles go from one seat to another: a list into that of a call before a section, and to a seat of its
+/// own after it; a handle that was made to a seat of its own, and one that is dropped to that of the call.
+pub fn what_lies_with_seats_passes<T, W>()
     ensures joins { JoinsKeep T W }
     ensures splits { SplitsKeep T W }
 {}
@@ -75,4 +78,10 @@ pub fn nobody_is_missed_at_rest<T, W>()
 /// brought in or taken out by its marks.
 pub fn histories_are_accounted<T, W>()
     ensures accounted { HistoriesAreAccounted T W }
+{}
+
+/// Each count is the number of handles of its kind that lie with seats, so that none is 0 that a handle's drop lowers; and no raise was
+/// one too many for the word.
+pub fn handles_are_counted<T, W>()
+    ensures counted { HandlesAreCounted T W }
 {}
