@@ -1,5 +1,5 @@
 -- What keeps a history, from one lemma of events more: an operation, and a call that begins or ends.
-use Rattle.std.proofs.Common.{◌≡◌, ◌≢◌, ℕ, zero, suc, List, [], ◌∷◌, ◌++◌, length, map, refl, sym, ap, subst}
+use Rattle.std.proofs.Common.{◌≡◌, ◌≢◌, ℕ, zero, suc, List, [], ◌∷◌, ◌++◌, length, map, refl, sym, ap, subst, arith}
 use Rattle.std.specs.Prelude.{slice_set, Some}
 use Rattle.concurrent_queue.specs.Contents.{Contents}
 use Rattle.concurrent_queue.specs.declared.cells.QueueForm.{QueueForm}
@@ -47,6 +47,8 @@ opens_well T W form l is = record {
     lists = each_once T W form l is;
     true_lists = ((is, (is, (is, (is, tt)))), tt);
     handles = one_each T W form l is;
+    listed = λ line key. refl;
+    once = λ line key. omega arith;
   };
 }
 

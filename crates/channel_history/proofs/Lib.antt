@@ -5,9 +5,11 @@ mod Together
 mod Lying
 mod Goes
 mod Keeping
+mod Counting
+mod Times
+mod Passing
 mod Sections
 mod Deeds
-mod Counting
 mod Handles
 mod Joining
 mod Splitting

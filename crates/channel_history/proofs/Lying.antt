@@ -6,7 +6,7 @@ use Rattle.futures.proofs.Pool.Sums.{total-append, total-set}
 use Rattle.concurrent_queue.specs.machine.Places.{Each}
 use Rattle.channel_calls.specs.Parts.{Listeners}
 use Rattle.channel_calls.specs.declared.stage.WaitList.{WaitList}
-use Rattle.channel_history.specs.History.{lists_of, handles_of, among, AllAre, LieWithSeats}
+use Rattle.channel_history.specs.History.{lists_of, handles_of, listeners_of, among, AllAre, LieWithSeats}
 use Rattle.channel_history.specs.Keeps.{IsAt}
 use Rattle.channel_history.specs.Party.{nothing, both, fresh, with_own}
 use Rattle.channel_history.specs.declared.party.Belongings.{Belongings}
@@ -30,6 +30,8 @@ module _ {T W : Type 0} (views views' : List (Standing T W)) where
     lists = λ line. numbers _ lists_of ((λ x y. refl), refl) _ ∙ h.lists line;
     true_lists = each _ lists_of ((λ x y. refl), refl) _ h.true_lists;
     handles = λ side. numbers _ handles_of ((λ x y. refl), refl) _ ∙ h.handles side;
+    listed = λ line key. numbers _ listeners_of ((λ x y. refl), refl) _ ∙ h.listed line key;
+    once = h.once;
   }
 
 module _ {T W : Type 0} where

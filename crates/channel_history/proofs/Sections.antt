@@ -7,7 +7,7 @@ use Rattle.concurrent_queue.specs.Contents.{Contents}
 use Rattle.concurrent_queue.specs.declared.cells.QueueForm.{QueueForm}
 use Rattle.concurrent_queue.specs.machine.Places.{Each}
 use Rattle.event_listener.specs.Lists.{ListView}
-use Rattle.channel_calls.specs.Deeds.{woken_by}
+use Rattle.channel_calls.specs.Deeds.{Deed, woken_by}
 use Rattle.channel_calls.specs.Effects.{Does}
 use Rattle.channel_calls.specs.Parts.{Parts, Listeners, listeners, with_listeners, with_wait_lists}
 use Rattle.channel_calls.specs.declared.stage.WaitList.{WaitList}
@@ -15,18 +15,13 @@ use Rattle.channel_calls.specs.declared.stage.WaitList.TheVariants.{Sends, Recei
 use Rattle.channel_steps.specs.every_run.Bridge.{does, on_wait_lists}
 use Rattle.channel_steps.specs.every_run.Closed.{one_if}
 use Rattle.channel_history.specs.History.{is_line, is_handle, is_list, IsTrue, parts_of, LieWithSeats, IsChannelHistory}
-use Rattle.channel_history.specs.Keeps.{IsAt, SectionsKeep}
+use Rattle.channel_history.specs.Keeps.{IsAt, with_list, ChangesList, Leaves, SectionsKeep}
 use Rattle.channel_history.specs.declared.party.Belongings.{Belongings}
 use Rattle.channel_history.specs.declared.party.Standing.{Standing}
 use Rattle.channel_history.proofs.Goes.{all_woken, order_last, goes_on}
 use Rattle.channel_history.proofs.Keeping.{leads_now, others_now}
+use Rattle.channel_history.proofs.Passing.{itself, found, handles_now, listed_now, once_now}
 use Rattle.channel_history.proofs.Together.{each_at, all_keep, others_keep}
-
-itself : (line : WaitList) → is_line line line ≡ true
-itself Sends = refl
-itself Receives = refl
-itself Streams = refl
-itself Closings = refl
 
 module _ {W : Type 0} where
   abbrev put : WaitList → Listeners W → (WaitList → Listeners W) → WaitList → Listeners W
@@ -40,18 +35,13 @@ module _ {T W : Type 0} where
   with_put Streams k c f n m = refl
   with_put Closings k c f n m = refl
 
-  found : (line : WaitList) (c : Contents T) (f : WaitList → Listeners W) (n m : ℕ) → let parts : Parts T W = parts_of c f n m in listeners line parts.wait_lists ≡ f line
-  found Sends c f n m = refl
-  found Receives c f n m = refl
-  found Streams c f n m = refl
-  found Closings c f n m = refl
-
 not_one : (b : Bool) → one_if b ≡ 0 → b ≡ false
 not_one false e = refl
 not_one true e = absurd (omega (arith, e))
 
 module _ {T W : Type 0} (form : QueueForm) (views : List (Standing T W)) (c : Contents T) (n m : ℕ) (h : IsChannelHistory form views c n m) (p : ℕ) (v w : Standing T W) (there : IsAt views p v)
-    (line : WaitList) (l k : ListView Unit W) (has : v.own.lists ≡ (line, l) ∷ []) (leaves : w.own ≡ record v.own { lists = (line, k) ∷ [] }) where
+    (line : WaitList) (l k : ListView Unit W) (o : Deed T W) (left : Belongings W) (has : v.own.lists ≡ (line, l) ∷ []) (leaves : Leaves o v.own left) (now : w.own ≡ with_list line k left)
+    (changes : ChangesList line o l.lists k.lists) where
   abbrev Here : (WaitList → Listeners W) → Standing T W → Type 0
   Here f s = Each (IsTrue f) s.own.lists
 
@@ -59,7 +49,7 @@ module _ {T W : Type 0} (form : QueueForm) (views : List (Standing T W)) (c : Co
   Put = put line k.lists h.listening
 
   left_lists : w.own.lists ≡ (line, k) ∷ []
-  left_lists = ap (λ (o : Belongings W). o.lists) leaves
+  left_lists = ap (λ (b : Belongings W). b.lists) now
 
   held : h.listening line ≡ l.lists
   held =
@@ -78,31 +68,31 @@ module _ {T W : Type 0} (form : QueueForm) (views : List (Standing T W)) (c : Co
   one_here : total (is_list line) v.own.lists ≡ 1
   one_here = ap (λ (ls : List (WaitList × ListView Unit W)). total (is_list line) ls) has ∙ ap (λ (b : Bool). one_if b + 0) (itself line)
 
+  pub did : Does o (parts_of c h.listening n m) (parts_of c Put n m)
+  did =
+      subst (λ (x : Parts T W). Does o (parts_of c h.listening n m) x) (with_put line k.lists c h.listening n m)
+      (changes (parts_of c h.listening n m) (found line c h.listening n m ∙ held))
+
   pub lie_after : LieWithSeats (slice_set views p w) Put n m
   lie_after = let lie = h.lie in record {
     lists = λ x.
         let set = total-set (λ (s : Standing T W). total (is_list x) s.own.lists) views p v w there in
         let was = ap (λ (ls : List (WaitList × ListView Unit W)). total (is_list x) ls) has in
-        let now = ap (λ (ls : List (WaitList × ListView Unit W)). total (is_list x) ls) left_lists in
+        let is = ap (λ (ls : List (WaitList × ListView Unit W)). total (is_list x) ls) left_lists in
         let one = lie.lists x in
-        omega (arith, set, was, now, one);
+        omega (arith, set, was, is, one);
     true_lists = let one = lie.lists line in
         others_keep (λ (s : Standing T W). total (is_list line) s.own.lists) (Here h.listening) (Here Put)
         (λ s none all. all_keep (is_list line) (IsTrue h.listening) (IsTrue Put) elsewhere s.own.lists none all)
         views p v w there (omega (arith, one_here)) (omega (arith, one)) lie.true_lists mine_now;
-    handles = λ side.
-        let set = total-set (λ (s : Standing T W). total (is_handle side) s.own.handles) views p v w there in
-        let same = ap (λ (o : Belongings W). total (is_handle side) o.handles) leaves in
-        let all = lie.handles side in
-        omega (arith, set, same, all);
+    handles = handles_now views p v w there o left leaves (ap (λ (b : Belongings W). b.listeners) now) (ap (λ (b : Belongings W). b.handles) now) c h.listening n m Put n m did lie;
+    listed = listed_now views p v w there o left leaves (ap (λ (b : Belongings W). b.listeners) now) (ap (λ (b : Belongings W). b.handles) now) c h.listening n m Put n m did lie;
+    once = once_now views p v w there o left leaves (ap (λ (b : Belongings W). b.listeners) now) (ap (λ (b : Belongings W). b.handles) now) c h.listening n m Put n m did lie;
   }
 
 pub sections_keep : (T W : Type 0) → SectionsKeep T W
-sections_keep T W form views c n m p v w line l k o h there (os, quiet, leads) has leaves changes =
+sections_keep T W form views c n m p v w line l k o left h there (os, quiet, leads) has leaves now changes =
     goes_on form views (slice_set views p w) c c n m n m h p (map does (os ++ on_wait_lists o ∷ [])) (put line k.lists h.listening) (h.woken ++ woken_by o)
-    (order_last p os (on_wait_lists o) (parts_of c h.listening n m, h.woken) (parts_of c (put line k.lists h.listening) n m, h.woken ++ woken_by o) quiet (
-      subst (λ (x : Parts T W). Does o (parts_of c h.listening n m) x) (with_put line k.lists c h.listening n m)
-          (changes (parts_of c h.listening n m) (found line c h.listening n m ∙ held form views c n m h p v w there line l k has leaves)),
-      all_woken h.woken (woken_by o),
-    ))
-    (leads_now form views c n m h p v w there _ leads) (others_now form views c n m h p v w there) (lie_after form views c n m h p v w there line l k has leaves)
+    (order_last p os (on_wait_lists o) (parts_of c h.listening n m, h.woken) (parts_of c (put line k.lists h.listening) n m, h.woken ++ woken_by o) quiet
+    (did form views c n m h p v w there line l k o left has leaves now changes, all_woken h.woken (woken_by o)))
+    (leads_now form views c n m h p v w there _ leads) (others_now form views c n m h p v w there) (lie_after form views c n m h p v w there line l k o left has leaves now changes)

@@ -11,11 +11,11 @@ use Rattle.channel_history.specs.declared.party.Standing.{Standing}
 
 module _ {W : Type 0} where
   abbrev pub nothing : Belongings W
-  nothing = record { lists = []; handles = [] }
+  nothing = record { lists = []; handles = []; listeners = [] }
 
   -- what lay with two seats, together
   abbrev pub both : Belongings W → Belongings W → Belongings W
-  both a b = record { lists = a.lists ++ b.lists; handles = a.handles ++ b.handles }
+  both a b = record { lists = a.lists ++ b.lists; handles = a.handles ++ b.handles; listeners = a.listeners ++ b.listeners }
 
 module _ {T W : Type 0} where
   -- a party that has done nothing

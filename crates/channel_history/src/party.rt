@@ -1,7 +1,7 @@
 //! What the view of a seat says of its party. These types are for the proofs alone: no value of them is made.
 
 use channel_calls::ask::ChannelAsk;
-use channel_calls::stage::{Side, Stage, WaitList};
+use channel_calls::stage::{ListenerRef, Side, Stage, WaitList};
 use channel_calls::whole::Completed;
 use concurrent_queue::QueueCall;
 use event_listener::List;
@@ -13,6 +13,8 @@ pub struct Belongings<W> {
     pub lists: LinkedList<(WaitList, List<(), W>)>,
     /// Strong handles: a count was raised for each, or it is one of the first two, and it wasn't lowered yet for any.
     pub handles: LinkedList<Side>,
+    /// Listeners that are on the lists: a call's, and those of operations that are pending.
+    pub listeners: LinkedList<ListenerRef>,
 }
 
 /// Where a party stands. A party is whoever has one seat, and makes calls one after another; or its seat lies with a list of listeners
