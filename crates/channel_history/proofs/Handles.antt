@@ -17,19 +17,16 @@ use Rattle.channel_history.specs.declared.party.Standing.{Standing}
 use Rattle.channel_history.proofs.Counting.{counts_fit}
 use Rattle.channel_history.proofs.Goes.{all_woken, order_last, goes_on}
 use Rattle.channel_history.proofs.Keeping.{leads_now, others_now}
-use Rattle.channel_history.proofs.Passing.{lists_stay, handles_now, listed_now, once_now}
+use Rattle.channel_history.proofs.Passing.{handles_now, listed_now, once_now}
 use Rattle.channel_history.proofs.Together.{each_at, each_set}
 
 pub count_operations_keep : (T W : Type 0) → CountOperationsKeep T W
-count_operations_keep T W form views c n m n' m' p v w o h there (os, quiet, l) leaves changes =
+count_operations_keep T W form views c n m n' m' p v w o h there (os, quiet, l) same leaves changes =
     goes_on form views (slice_set views p w) c c n m n' m' h p (map does (os ++ on_wait_lists o ∷ [])) h.listening (h.woken ++ woken_by o)
     (order_last p os (on_wait_lists o) (parts_of c h.listening n m, h.woken) (parts_of c h.listening n' m', h.woken ++ woken_by o) quiet
     (changes (parts_of c h.listening n m) refl refl, all_woken h.woken (woken_by o)))
     (leads_now form views c n m h p v w there _ l) (others_now form views c n m h p v w there) lie
   where
-    same : w.own.lists ≡ v.own.lists
-    same = lists_stay o v.own w.own leaves
-
     lie : LieWithSeats (slice_set views p w) h.listening n' m'
     lie = let before = h.lie in let did = changes (parts_of c h.listening n m) refl refl in record {
       lists = λ line.
@@ -40,9 +37,9 @@ count_operations_keep T W form views c n m n' m' p v w o h there (os, quiet, l) 
       true_lists = each_set (λ (s : Standing T W). Each (IsTrue h.listening) s.own.lists) views p w before.true_lists
           (subst (λ (l : List (WaitList × ListView Unit W)). Each (IsTrue h.listening) l) (sym same)
           (each_at (λ (s : Standing T W). Each (IsTrue h.listening) s.own.lists) views p v there before.true_lists));
-      handles = handles_now views p v w there o w.own leaves refl refl c h.listening n m h.listening n' m' did before;
-      listed = listed_now views p v w there o w.own leaves refl refl c h.listening n m h.listening n' m' did before;
-      once = once_now views p v w there o w.own leaves refl refl c h.listening n m h.listening n' m' did before;
+      handles = handles_now views p v w there o leaves c h.listening n m h.listening n' m' did before;
+      listed = listed_now views p v w there o leaves c h.listening n m h.listening n' m' did before;
+      once = once_now views p v w there o leaves c h.listening n m h.listening n' m' did before;
     }
 
 -- ---- what the counts say

@@ -11,6 +11,7 @@ mod Passing
 mod Sections
 mod Deeds
 mod Handles
+mod Registrations
 mod Joining
 mod Splitting
 mod Row

@@ -1,11 +1,11 @@
 -- What a deed changes of lists and counts, it changes of what lies with the seat of its party.
-use Rattle.std.proofs.Common.{◌≡◌, ℕ, ◌+◌, ◌-◌, ◌≤◌, ◌&&◌, Bool, true, false, List, [], ◌∷◌, if◌then◌else◌, refl, sym, ap, ◌∙◌, subst, true≢false, arith}
+use Rattle.std.proofs.Common.{◌≡◌, ℕ, ◌+◌, ◌-◌, ◌≤◌, ◌&&◌, Bool, true, false, List, ◌∷◌, if◌then◌else◌, refl, sym, ap, ◌∙◌, subst, true≢false, arith}
 use Rattle.std.proofs.lemmas.Bool.Decides.{nat_tests}
-use Rattle.std.specs.Prelude.{slice_set, Option, None, Some, Ok, Err}
+use Rattle.std.specs.Prelude.{slice_set, None, Some, Ok, Err}
 use Rattle.futures.specs.Pool.Weights.{total}
 use Rattle.futures.proofs.Pool.Sums.{total-set, term_le}
 use Rattle.concurrent_queue.specs.Contents.{Contents}
-use Rattle.event_listener.specs.Lists.{ListView, same_key, listened, registration, removed}
+use Rattle.event_listener.specs.Lists.{same_key}
 use Rattle.event_listener.specs.declared.key.Key.{Key}
 use Rattle.channel_calls.specs.Deeds.{Deed, stepped, inserted, registered, taken_off, told, counted, lowered, raised}
 use Rattle.channel_calls.specs.Effects.{Does}
@@ -18,9 +18,8 @@ use Rattle.channel_calls.specs.declared.stage.WaitList.TheVariants.{Sends, Recei
 use Rattle.channel_steps.specs.every_run.Bridge.{does, on_wait_lists}
 use Rattle.channel_steps.specs.every_run.Closed.{one_if}
 use Rattle.channel_history.specs.History.{is_line, is_side, count_of, is_handle, is_listener, listeners_of, handles_of, among, times, parts_of, LieWithSeats}
-use Rattle.channel_history.specs.Keeps.{IsAt, with_listener, Leaves}
+use Rattle.channel_history.specs.Keeps.{IsAt, LeavesHandles, LeavesListeners, Leaves}
 use Rattle.channel_history.specs.Says.{counted_on}
-use Rattle.channel_history.specs.declared.party.Belongings.{Belongings}
 use Rattle.channel_history.specs.declared.party.Standing.{Standing}
 use Rattle.channel_history.proofs.Counting.{by_deed}
 use Rattle.channel_history.proofs.Times.{same_is, told_same, listened_more, unlisted, removed_out, registered_out, registered_same}
@@ -54,6 +53,15 @@ itself Receives = refl
 itself Streams = refl
 itself Closings = refl
 
+abbrev listed_in : WaitList → Key → List ListenerRef → ℕ
+listed_in x k ls = total (is_listener x k) ls
+
+pub listed_at_head : (line : WaitList) (key : Key) (own rest : List ListenerRef) → own ≡ record { line = line; key = key } ∷ rest → 1 ≤ listed_in line key own
+listed_at_head line key own rest e =
+    let here = ap (λ (z : List ListenerRef). listed_in line key z) e ∙ ap (λ (c : Bool). one_if (c && same_key key key) + listed_in line key rest) (itself line)
+    ∙ ap (λ (c : Bool). one_if c + listed_in line key rest) (same_self key) in
+    omega (arith, here)
+
 module _ {W : Type 0} where
   on_list : (x line : WaitList) (l : Listeners W) (a : WaitLists W) → listeners x (with_listeners line l a) ≡ (if is_line x line then l else listeners x a)
   on_list Sends Sends l a = refl
@@ -85,18 +93,15 @@ module _ {W : Type 0} where
 
   -- ---- listeners
 
-  abbrev listed_in : WaitList → Key → Belongings W → ℕ
-  listed_in x k own = total (is_listener x k) own.listeners
-
   -- as many more of each key are on a list as lie with the seat, and still no two
-  abbrev pub Follows : Belongings W → Belongings W → WaitLists W → WaitLists W → Type 0
+  abbrev pub Follows : List ListenerRef → List ListenerRef → WaitLists W → WaitLists W → Type 0
   Follows own left a b =
       (x : WaitList) (k : Key) → (times k (listeners x b) + listed_in x k own ≡ times k (listeners x a) + listed_in x k left) × (times k (listeners x b) ≤ 1)
 
-  module _ (own left : Belongings W) (a b : WaitLists W) (once : (x : WaitList) (k : Key) → times k (listeners x a) ≤ 1) where
-    same_lists : left.listeners ≡ own.listeners → ((x : WaitList) → listeners x b ≡ listeners x a) → Follows own left a b
+  module _ (own left : List ListenerRef) (a b : WaitLists W) (once : (x : WaitList) (k : Key) → times k (listeners x a) ≤ 1) where
+    same_lists : left ≡ own → ((x : WaitList) → listeners x b ≡ listeners x a) → Follows own left a b
     same_lists e f x k =
-        let mine = ap (λ (l : List ListenerRef). total (is_listener x k) l) e in
+        let mine = ap (λ (l : List ListenerRef). listed_in x k l) e in
         let same = ap (λ (l : Listeners W). times k l) (f x) in
         let one = once x k in
         (omega (arith, mine, same), omega (arith, same, one))
@@ -109,15 +114,15 @@ module _ {W : Type 0} where
         by true e = subst (λ (z : WaitList). P z m) (sym (line_is x line e)) mine
         by false e = others x e
 
-      stays : left.listeners ≡ own.listeners → ((k : Key) → times k m ≡ times k (listeners line a)) → Follows own left a b
+      stays : left ≡ own → ((k : Key) → times k m ≡ times k (listeners line a)) → Follows own left a b
       stays e f x k = by_line (λ y l. (times k l + listed_in y k own ≡ times k (listeners y a) + listed_in y k left) × (times k l ≤ 1)) (so line m (f k)) (λ y other. so y (listeners y a) refl) x where
         so : (y : WaitList) (l : Listeners W) → times k l ≡ times k (listeners y a) → (times k l + listed_in y k own ≡ times k (listeners y a) + listed_in y k left) × (times k l ≤ 1)
-        so y l same = let mine = ap (λ (z : List ListenerRef). total (is_listener y k) z) e in let one = once y k in (omega (arith, mine, same), omega (arith, same, one))
+        so y l same = let mine = ap (λ (z : List ListenerRef). listed_in y k z) e in let one = once y k in (omega (arith, mine, same), omega (arith, same, one))
 
-      comes : (key : Key) → times key (listeners line a) ≡ 0 → left ≡ with_listener line key own → ((k : Key) → times k m ≡ times k (listeners line a) + one_if (same_key k key)) → Follows own left a b
+      comes : (key : Key) → times key (listeners line a) ≡ 0 → left ≡ record { line = line; key = key } ∷ own → ((k : Key) → times k m ≡ times k (listeners line a) + one_if (same_key k key)) → Follows own left a b
       comes key new e f x k = by_line (λ y l. (times k l + listed_in y k own ≡ times k (listeners y a) + listed_in y k left) × (times k l ≤ 1)) (here, few (same_key k key) refl) elsewhere x where
         mine : (y : WaitList) → listed_in y k left ≡ one_if (is_line y line && same_key k key) + listed_in y k own
-        mine y = ap (λ (o : Belongings W). listed_in y k o) e
+        mine y = ap (λ (z : List ListenerRef). listed_in y k z) e
 
         here : times k m + listed_in line k own ≡ times k (listeners line a) + listed_in line k left
         here = let add = f k in let more = mine line ∙ ap (λ (c : Bool). one_if (c && same_key k key) + listed_in line k own) (itself line) in omega (arith, add, more)
@@ -132,10 +137,10 @@ module _ {W : Type 0} where
             → (times k (listeners y a) + listed_in y k own ≡ times k (listeners y a) + listed_in y k left) × (times k (listeners y a) ≤ 1)
         elsewhere y other = let more = mine y ∙ ap (λ (c : Bool). one_if (c && same_key k key) + listed_in y k own) other in (omega (arith, more), once y k)
 
-      goes : (key : Key) → own ≡ with_listener line key left → ((k : Key) → times k m + one_if (same_key k key) ≡ times k (listeners line a)) → Follows own left a b
+      goes : (key : Key) → own ≡ record { line = line; key = key } ∷ left → ((k : Key) → times k m + one_if (same_key k key) ≡ times k (listeners line a)) → Follows own left a b
       goes key e f x k = by_line (λ y l. (times k l + listed_in y k own ≡ times k (listeners y a) + listed_in y k left) × (times k l ≤ 1)) here elsewhere x where
         mine : (y : WaitList) → listed_in y k own ≡ one_if (is_line y line && same_key k key) + listed_in y k left
-        mine y = ap (λ (o : Belongings W). listed_in y k o) e
+        mine y = ap (λ (z : List ListenerRef). listed_in y k z) e
 
         here : (times k m + listed_in line k own ≡ times k (listeners line a) + listed_in line k left) × (times k m ≤ 1)
         here =
@@ -147,38 +152,34 @@ module _ {W : Type 0} where
         elsewhere y other = let less = mine y ∙ ap (λ (c : Bool). one_if (c && same_key k key) + listed_in y k left) other in (omega (arith, less), once y k)
 
   -- whoever has a listener finds it on its list
-  found_there : (own : Belongings W) (a : WaitLists W) → ((x : WaitList) (k : Key) → listed_in x k own ≤ times k (listeners x a)) → (line : WaitList) (key : Key) (rest : Belongings W)
-      → own ≡ with_listener line key rest → 1 ≤ times key (listeners line a)
-  found_there own a fits line key rest e =
-      let here = ap (λ (o : Belongings W). listed_in line key o) e ∙ ap (λ (c : Bool). one_if (c && same_key key key) + listed_in line key rest) (itself line)
-      ∙ ap (λ (c : Bool). one_if c + listed_in line key rest) (same_self key) in
-      let fit = fits line key in
-      omega (arith, here, fit)
+  found_there : (own : List ListenerRef) (a : WaitLists W) → ((x : WaitList) (k : Key) → listed_in x k own ≤ times k (listeners x a)) → (line : WaitList) (key : Key) (rest : List ListenerRef)
+      → own ≡ record { line = line; key = key } ∷ rest → 1 ≤ times key (listeners line a)
+  found_there own a fits line key rest e = let here = listed_at_head line key own rest e in let fit = fits line key in omega (arith, here, fit)
 
 module _ {T W : Type 0} where
   -- ---- a deed
 
-  module _ (own left : Belongings W) (p q : Parts T W) (once : (x : WaitList) (k : Key) → times k (listeners x p.wait_lists) ≤ 1)
+  module _ (own left : List ListenerRef) (p q : Parts T W) (once : (x : WaitList) (k : Key) → times k (listeners x p.wait_lists) ≤ 1)
       (fits : (x : WaitList) (k : Key) → listed_in x k own ≤ times k (listeners x p.wait_lists)) where
     abbrev Now : Type 0
     Now = Follows own left p.wait_lists q.wait_lists
 
     as_before : left ≡ own → ((x : WaitList) → listeners x q.wait_lists ≡ listeners x p.wait_lists) → Now
-    as_before e f = same_lists own left p.wait_lists q.wait_lists once (ap (λ (o : Belongings W). o.listeners) e) f
+    as_before e f = same_lists own left p.wait_lists q.wait_lists once e f
 
     beside : (a : WaitLists W) → q ≡ with_wait_lists a p → q.wait_lists ≡ a
     beside a e = ap (λ (x : Parts T W). x.wait_lists) e
 
-    there : (line : WaitList) (key : Key) (rest : Belongings W) → own ≡ with_listener line key rest → 1 ≤ times key (listeners line p.wait_lists)
+    there : (line : WaitList) (key : Key) (rest : List ListenerRef) → own ≡ record { line = line; key = key } ∷ rest → 1 ≤ times key (listeners line p.wait_lists)
     there line key rest e = found_there own p.wait_lists fits line key rest e
 
-    pub follows : (o : Deed T W) → Leaves o own left → Does o p q → Now
+    pub follows : (o : Deed T W) → LeavesListeners o own left → Does o p q → Now
     follows (stepped call after r) e h = as_before e (λ x. ap (λ (a : WaitLists W). listeners x a) h.1)
     follows (inserted line (Ok key)) e h =
         comes own left p.wait_lists q.wait_lists once line _ (beside _ h.1) key (unlisted key (listeners line p.wait_lists) h.0) e (λ k. listened_more k key (listeners line p.wait_lists))
     follows (inserted line (Err x)) e h = as_before e (λ x. ap (λ (y : Parts T W). listeners x y.wait_lists) h)
     follows (registered line key task None) (e, rest, has) h =
-        stays own left p.wait_lists q.wait_lists once line _ (beside _ h.1) (ap (λ (o : Belongings W). o.listeners) e)
+        stays own left p.wait_lists q.wait_lists once line _ (beside _ h.1) e
         (λ k. registered_same k key (listeners line p.wait_lists) (there line key rest has) (once line key) task h.0)
     follows (registered line key task (Some back)) e h =
         goes own left p.wait_lists q.wait_lists once line _ (beside _ h.1) key e
@@ -187,12 +188,12 @@ module _ {T W : Type 0} where
         goes own left p.wait_lists q.wait_lists once line _ (beside _ h.1) key e
         (λ k. removed_out k key (listeners line p.wait_lists) (there line key left e) (once line key))
     follows (told line telling names) e h =
-        stays own left p.wait_lists q.wait_lists once line _ (beside _ h.1) (ap (λ (o : Belongings W). o.listeners) e) (λ k. told_same k telling (listeners line p.wait_lists))
+        stays own left p.wait_lists q.wait_lists once line _ (beside _ h.1) e (λ k. told_same k telling (listeners line p.wait_lists))
     follows (counted side n) e h = as_before e (λ x. ap (λ (y : Parts T W). listeners x y.wait_lists) h.1)
     follows (lowered side n) e h =
-        same_lists own left p.wait_lists q.wait_lists once (sym (ap (λ (o : Belongings W). o.listeners) e)) (λ x. ap (λ (a : WaitLists W). listeners x a) (beside _ h.1) ∙ on_count x side (n - 1) p.wait_lists)
+        same_lists own left p.wait_lists q.wait_lists once e (λ x. ap (λ (a : WaitLists W). listeners x a) (beside _ h.1) ∙ on_count x side (n - 1) p.wait_lists)
     follows (raised side n true) e h =
-        same_lists own left p.wait_lists q.wait_lists once (ap (λ (o : Belongings W). o.listeners) e) (λ x. ap (λ (a : WaitLists W). listeners x a) (beside _ h.1) ∙ on_count x side (n + 1) p.wait_lists)
+        same_lists own left p.wait_lists q.wait_lists once e (λ x. ap (λ (a : WaitLists W). listeners x a) (beside _ h.1) ∙ on_count x side (n + 1) p.wait_lists)
     follows (raised side n false) e h = as_before e (λ x. ap (λ (y : Parts T W). listeners x y.wait_lists) h.1)
 
 -- ---- handles
@@ -208,37 +209,21 @@ one_less false n t t' k e is = omega (arith, e, is)
 still : (n t t' k k' : ℕ) → t' + k ≡ t + k' → t ≡ n → k' ≡ k → t' ≡ n
 still n t t' k k' sum is e = omega (arith, sum, is, e)
 
-module _ {W : Type 0} where
-  abbrev number : Side → Belongings W → ℕ
-  number side own = total (is_handle side) own.handles
+abbrev number : Side → List Side → ℕ
+number side handles = total (is_handle side) handles
 
 module _ {T W : Type 0} where
-  pub lists_stay : (o : Deed T W) (own left : Belongings W) → Leaves o own left → left.lists ≡ own.lists
-  lists_stay (raised side n true) own left e = ap (λ (x : Belongings W). x.lists) e
-  lists_stay (raised side n false) own left e = ap (λ (x : Belongings W). x.lists) e
-  lists_stay (lowered side n) own left e = sym (ap (λ (x : Belongings W). x.lists) e)
-  lists_stay (stepped call after r) own left e = ap (λ (x : Belongings W). x.lists) e
-  lists_stay (inserted line (Ok key)) own left e = ap (λ (x : Belongings W). x.lists) e
-  lists_stay (inserted line (Err r)) own left e = ap (λ (x : Belongings W). x.lists) e
-  lists_stay (registered line key task None) own left e = ap (λ (x : Belongings W). x.lists) e.0
-  lists_stay (registered line key task (Some back)) own left e = sym (ap (λ (x : Belongings W). x.lists) e)
-  lists_stay (taken_off line key names) own left e = sym (ap (λ (x : Belongings W). x.lists) e)
-  lists_stay (told line telling names) own left e = ap (λ (x : Belongings W). x.lists) e
-  lists_stay (counted side n) own left e = ap (λ (x : Belongings W). x.lists) e
-
-  module _ (side : Side) (own left : Belongings W) (n t t' : ℕ) (sum : t' + number side own ≡ t + number side left) (is : t ≡ n) where
-    follow : (o : Deed T W) → Leaves o own left → t' ≡ counted_on side (does (on_wait_lists o)) n
-    follow (raised x k true) e = one_more (is_side side x) n t t' (number side own) (sum ∙ ap (λ (b : Belongings W). t + number side b) e) is
-    follow (lowered x k) e = one_less (is_side side x) n t t' (number side left) (ap (λ (b : Belongings W). t' + number side b) (sym e) ∙ sum) is
-    follow (raised x k false) e = still n t t' (number side own) (number side left) sum is (ap (λ (b : Belongings W). number side b) e)
-    follow (stepped call after r) e = still n t t' (number side own) (number side left) sum is (ap (λ (b : Belongings W). number side b) e)
-    follow (inserted line (Ok key)) e = still n t t' (number side own) (number side left) sum is (ap (λ (b : Belongings W). number side b) e)
-    follow (inserted line (Err r)) e = still n t t' (number side own) (number side left) sum is (ap (λ (b : Belongings W). number side b) e)
-    follow (registered line key task None) e = still n t t' (number side own) (number side left) sum is (ap (λ (b : Belongings W). number side b) e.0)
-    follow (registered line key task (Some back)) e = still n t t' (number side own) (number side left) sum is (sym (ap (λ (b : Belongings W). number side b) e))
-    follow (taken_off line key names) e = still n t t' (number side own) (number side left) sum is (sym (ap (λ (b : Belongings W). number side b) e))
-    follow (told line telling names) e = still n t t' (number side own) (number side left) sum is (ap (λ (b : Belongings W). number side b) e)
-    follow (counted x k) e = still n t t' (number side own) (number side left) sum is (ap (λ (b : Belongings W). number side b) e)
+  module _ (side : Side) (own left : List Side) (n t t' : ℕ) (sum : t' + number side own ≡ t + number side left) (is : t ≡ n) where
+    follow : (o : Deed T W) → LeavesHandles o own left → t' ≡ counted_on side (does (on_wait_lists o)) n
+    follow (raised x k true) e = one_more (is_side side x) n t t' (number side own) (sum ∙ ap (λ (l : List Side). t + number side l) e) is
+    follow (lowered x k) e = one_less (is_side side x) n t t' (number side left) (ap (λ (l : List Side). t' + number side l) (sym e) ∙ sum) is
+    follow (raised x k false) e = still n t t' (number side own) (number side left) sum is (ap (λ (l : List Side). number side l) e)
+    follow (stepped call after r) e = still n t t' (number side own) (number side left) sum is (ap (λ (l : List Side). number side l) e)
+    follow (inserted line r) e = still n t t' (number side own) (number side left) sum is (ap (λ (l : List Side). number side l) e)
+    follow (registered line key task r) e = still n t t' (number side own) (number side left) sum is (ap (λ (l : List Side). number side l) e)
+    follow (taken_off line key names) e = still n t t' (number side own) (number side left) sum is (ap (λ (l : List Side). number side l) e)
+    follow (told line telling names) e = still n t t' (number side own) (number side left) sum is (ap (λ (l : List Side). number side l) e)
+    follow (counted x k) e = still n t t' (number side own) (number side left) sum is (ap (λ (l : List Side). number side l) e)
 
   -- ---- all seats
 
@@ -251,8 +236,7 @@ module _ {T W : Type 0} where
   found Streams c f n m = refl
   found Closings c f n m = refl
 
-  module _ (views : List (Standing T W)) (p : ℕ) (v w : Standing T W) (there : IsAt views p v) (o : Deed T W) (left : Belongings W) (mine : Leaves o v.own left)
-      (its_listeners : w.own.listeners ≡ left.listeners) (its_handles : w.own.handles ≡ left.handles) (c : Contents T) (f : WaitList → Listeners W) (n m : ℕ) (f' : WaitList → Listeners W) (n' m' : ℕ)
+  module _ (views : List (Standing T W)) (p : ℕ) (v w : Standing T W) (there : IsAt views p v) (o : Deed T W) (leaves : Leaves o v w) (c : Contents T) (f : WaitList → Listeners W) (n m : ℕ) (f' : WaitList → Listeners W) (n' m' : ℕ)
       (did : Does o (parts_of c f n m) (parts_of c f' n' m')) (h : LieWithSeats views f n m) where
     counted_so : (side : Side) → count_of side n' m' ≡ counted_on side (does (on_wait_lists o)) (count_of side n m)
     counted_so Senders = by_deed Senders o (parts_of c f n m) (parts_of c f' n' m') did
@@ -260,33 +244,31 @@ module _ {T W : Type 0} where
 
     pub handles_now : (side : Side) → among handles_of (is_handle side) (slice_set views p w) ≡ count_of side n' m'
     handles_now side =
-        let set = total-set (λ (s : Standing T W). number side s.own) views p v w there in
-        let its = ap (λ (l : List Side). total (is_handle side) l) its_handles in
-        follow side v.own left (count_of side n m) (among handles_of (is_handle side) views) (among handles_of (is_handle side) (slice_set views p w))
-        (omega (arith, set, its)) (h.handles side) o mine ∙ sym (counted_so side)
+        let set = total-set (λ (s : Standing T W). number side s.own.handles) views p v w there in
+        follow side v.own.handles w.own.handles (count_of side n m) (among handles_of (is_handle side) views) (among handles_of (is_handle side) (slice_set views p w))
+        set (h.handles side) o leaves.0 ∙ sym (counted_so side)
 
     once_before : (x : WaitList) (k : Key) → times k (listeners x (Beside c f n m)) ≤ 1
     once_before x k = subst (λ (l : Listeners W). times k l ≤ 1) (sym (found x c f n m)) (h.once x k)
 
-    fits : (x : WaitList) (k : Key) → listed_in x k v.own ≤ times k (listeners x (Beside c f n m))
+    fits : (x : WaitList) (k : Key) → listed_in x k v.own.listeners ≤ times k (listeners x (Beside c f n m))
     fits x k =
         let all = h.listed x k in
         let at = ap (λ (l : Listeners W). times k l) (found x c f n m) in
-        let least = term_le (λ (s : Standing T W). listed_in x k s.own) views p v there in
+        let least = term_le (λ (s : Standing T W). listed_in x k s.own.listeners) views p v there in
         omega (arith, all, at, least)
 
-    tally : Follows v.own left (Beside c f n m) (Beside c f' n' m')
-    tally = follows v.own left (parts_of c f n m) (parts_of c f' n' m') once_before fits o mine did
+    tally : Follows v.own.listeners w.own.listeners (Beside c f n m) (Beside c f' n' m')
+    tally = follows v.own.listeners w.own.listeners (parts_of c f n m) (parts_of c f' n' m') once_before fits o leaves.1 did
 
     pub listed_now : (x : WaitList) (k : Key) → among listeners_of (is_listener x k) (slice_set views p w) ≡ times k (f' x)
     listed_now x k =
-        let set = total-set (λ (s : Standing T W). listed_in x k s.own) views p v w there in
-        let its = ap (λ (l : List ListenerRef). total (is_listener x k) l) its_listeners in
+        let set = total-set (λ (s : Standing T W). listed_in x k s.own.listeners) views p v w there in
         let all = h.listed x k in
         let before = ap (λ (l : Listeners W). times k l) (found x c f n m) in
         let after = ap (λ (l : Listeners W). times k l) (found x c f' n' m') in
         let sum = (tally x k).0 in
-        omega (arith, set, its, all, before, after, sum)
+        omega (arith, set, all, before, after, sum)
 
     pub once_now : (x : WaitList) (k : Key) → times k (f' x) ≤ 1
     once_now x k = subst (λ (l : Listeners W). times k l ≤ 1) (found x c f' n' m') ((tally x k).1)

@@ -40,4 +40,4 @@ one_sender_is_counted T W form l none =
     let deeds : DeedsDo T W = deeds_do T W in
     count_operations_keep T W form (opening l ++ Asks form ∷ []) (new_cells form) 1 1 1 1 1 (Asks form) has_counted (counted Senders 1)
     (arrivals_keep T W form (opening l) (new_cells form) 1 1 (Asks form) (HandleCount Senders) (opens_well T W form l none) (begun form) refl)
-    refl (loaded form) refl ((deeds.reads 1 1).0)
+    refl (loaded form) refl (refl, refl) ((deeds.reads 1 1).0)

@@ -9,14 +9,13 @@ use Rattle.concurrent_queue.specs.machine.Places.{Each}
 use Rattle.event_listener.specs.Lists.{ListView}
 use Rattle.channel_calls.specs.Deeds.{Deed, woken_by}
 use Rattle.channel_calls.specs.Effects.{Does}
-use Rattle.channel_calls.specs.Parts.{Parts, Listeners, listeners, with_listeners, with_wait_lists}
+use Rattle.channel_calls.specs.Parts.{Parts, Listeners, with_listeners, with_wait_lists}
 use Rattle.channel_calls.specs.declared.stage.WaitList.{WaitList}
 use Rattle.channel_calls.specs.declared.stage.WaitList.TheVariants.{Sends, Receives, Streams, Closings}
 use Rattle.channel_steps.specs.every_run.Bridge.{does, on_wait_lists}
 use Rattle.channel_steps.specs.every_run.Closed.{one_if}
-use Rattle.channel_history.specs.History.{is_line, is_handle, is_list, IsTrue, parts_of, LieWithSeats, IsChannelHistory}
-use Rattle.channel_history.specs.Keeps.{IsAt, with_list, ChangesList, Leaves, SectionsKeep}
-use Rattle.channel_history.specs.declared.party.Belongings.{Belongings}
+use Rattle.channel_history.specs.History.{is_line, is_list, IsTrue, parts_of, LieWithSeats, IsChannelHistory}
+use Rattle.channel_history.specs.Keeps.{IsAt, ChangesList, Leaves, SectionsKeep}
 use Rattle.channel_history.specs.declared.party.Standing.{Standing}
 use Rattle.channel_history.proofs.Goes.{all_woken, order_last, goes_on}
 use Rattle.channel_history.proofs.Keeping.{leads_now, others_now}
@@ -40,16 +39,13 @@ not_one false e = refl
 not_one true e = absurd (omega (arith, e))
 
 module _ {T W : Type 0} (form : QueueForm) (views : List (Standing T W)) (c : Contents T) (n m : ℕ) (h : IsChannelHistory form views c n m) (p : ℕ) (v w : Standing T W) (there : IsAt views p v)
-    (line : WaitList) (l k : ListView Unit W) (o : Deed T W) (left : Belongings W) (has : v.own.lists ≡ (line, l) ∷ []) (leaves : Leaves o v.own left) (now : w.own ≡ with_list line k left)
+    (line : WaitList) (l k : ListView Unit W) (o : Deed T W) (has : v.own.lists ≡ (line, l) ∷ []) (left : w.own.lists ≡ (line, k) ∷ []) (leaves : Leaves o v w)
     (changes : ChangesList line o l.lists k.lists) where
   abbrev Here : (WaitList → Listeners W) → Standing T W → Type 0
   Here f s = Each (IsTrue f) s.own.lists
 
   abbrev Put : WaitList → Listeners W
   Put = put line k.lists h.listening
-
-  left_lists : w.own.lists ≡ (line, k) ∷ []
-  left_lists = ap (λ (b : Belongings W). b.lists) now
 
   held : h.listening line ≡ l.lists
   held =
@@ -62,7 +58,7 @@ module _ {T W : Type 0} (form : QueueForm) (views : List (Standing T W)) (c : Co
 
   mine_now : Here Put w
   mine_now =
-      subst (λ (ls : List (WaitList × ListView Unit W)). Each (IsTrue Put) ls) (sym left_lists)
+      subst (λ (ls : List (WaitList × ListView Unit W)). Each (IsTrue Put) ls) (sym left)
       (sym (ap (λ (b : Bool). if b then k.lists else h.listening line) (itself line)), tt)
 
   one_here : total (is_list line) v.own.lists ≡ 1
@@ -78,21 +74,21 @@ module _ {T W : Type 0} (form : QueueForm) (views : List (Standing T W)) (c : Co
     lists = λ x.
         let set = total-set (λ (s : Standing T W). total (is_list x) s.own.lists) views p v w there in
         let was = ap (λ (ls : List (WaitList × ListView Unit W)). total (is_list x) ls) has in
-        let is = ap (λ (ls : List (WaitList × ListView Unit W)). total (is_list x) ls) left_lists in
+        let is = ap (λ (ls : List (WaitList × ListView Unit W)). total (is_list x) ls) left in
         let one = lie.lists x in
         omega (arith, set, was, is, one);
     true_lists = let one = lie.lists line in
         others_keep (λ (s : Standing T W). total (is_list line) s.own.lists) (Here h.listening) (Here Put)
         (λ s none all. all_keep (is_list line) (IsTrue h.listening) (IsTrue Put) elsewhere s.own.lists none all)
         views p v w there (omega (arith, one_here)) (omega (arith, one)) lie.true_lists mine_now;
-    handles = handles_now views p v w there o left leaves (ap (λ (b : Belongings W). b.listeners) now) (ap (λ (b : Belongings W). b.handles) now) c h.listening n m Put n m did lie;
-    listed = listed_now views p v w there o left leaves (ap (λ (b : Belongings W). b.listeners) now) (ap (λ (b : Belongings W). b.handles) now) c h.listening n m Put n m did lie;
-    once = once_now views p v w there o left leaves (ap (λ (b : Belongings W). b.listeners) now) (ap (λ (b : Belongings W). b.handles) now) c h.listening n m Put n m did lie;
+    handles = handles_now views p v w there o leaves c h.listening n m Put n m did lie;
+    listed = listed_now views p v w there o leaves c h.listening n m Put n m did lie;
+    once = once_now views p v w there o leaves c h.listening n m Put n m did lie;
   }
 
 pub sections_keep : (T W : Type 0) → SectionsKeep T W
-sections_keep T W form views c n m p v w line l k o left h there (os, quiet, leads) has leaves now changes =
+sections_keep T W form views c n m p v w line l k o h there (os, quiet, leads) has left leaves changes =
     goes_on form views (slice_set views p w) c c n m n m h p (map does (os ++ on_wait_lists o ∷ [])) (put line k.lists h.listening) (h.woken ++ woken_by o)
     (order_last p os (on_wait_lists o) (parts_of c h.listening n m, h.woken) (parts_of c (put line k.lists h.listening) n m, h.woken ++ woken_by o) quiet
-    (did form views c n m h p v w there line l k o left has leaves now changes, all_woken h.woken (woken_by o)))
-    (leads_now form views c n m h p v w there _ leads) (others_now form views c n m h p v w there) (lie_after form views c n m h p v w there line l k o left has leaves now changes)
+    (did form views c n m h p v w there line l k o has left leaves changes, all_woken h.woken (woken_by o)))
+    (leads_now form views c n m h p v w there _ leads) (others_now form views c n m h p v w there) (lie_after form views c n m h p v w there line l k o has left leaves changes)

@@ -1,5 +1,5 @@
 -- How often a list has a listener under a key after each thing that is done to the list.
-use Rattle.std.proofs.Common.{◌≡◌, ℕ, zero, suc, ◌+◌, ◌≤◌, Bool, true, false, cond, List, [], ◌∷◌, ◌++◌, length, take, drop, map, is_some, if◌then◌else◌, refl, sym, ap, ◌∙◌, true≢false, arith}
+use Rattle.std.proofs.Common.{◌≡◌, ℕ, zero, suc, ◌+◌, ◌≤◌, Bool, true, false, cond, List, [], ◌∷◌, length, take, drop, map, is_some, if◌then◌else◌, refl, sym, ap, ◌∙◌, true≢false, arith}
 use Rattle.std.proofs.lemmas.Bool.Decides.{nat_tests}
 use Rattle.std.specs.Prelude.{not, Option, None, Some}
 use Rattle.std.specs.Map.{lookup, remove_entry, set_value}
@@ -7,7 +7,7 @@ use Rattle.futures.specs.Pool.Weights.{total}
 use Rattle.futures.proofs.Pool.Sums.{total-append}
 use Rattle.event_listener.specs.Lists.{Notice, same_key, told_as, waits_as, kind_of, listened, without, with_task, told_with, moved, notified, passed, registration, removed}
 use Rattle.event_listener.specs.declared.key.Key.{Key}
-use Rattle.channel_calls.specs.Parts.{Listeners, told_all, told_as as told_by_telling, told_more, told_one, Registers}
+use Rattle.channel_calls.specs.Parts.{Listeners, told_as as told_by_telling, told_more, told_one, Registers}
 use Rattle.channel_calls.specs.declared.stage.Telling.{Telling}
 use Rattle.channel_calls.specs.declared.stage.Telling.TheVariants.{One, More, All}
 use Rattle.channel_steps.specs.every_run.Closed.{one_if}

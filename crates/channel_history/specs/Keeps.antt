@@ -14,6 +14,7 @@ use Rattle.channel_calls.specs.Deeds.{Deed, inserted, registered, taken_off, tol
 use Rattle.channel_calls.specs.Effects.{Does}
 use Rattle.channel_calls.specs.Parts.{Parts, Listeners, listeners, with_listeners, with_wait_lists, nobody_listens, Registers, told_as, told_as_wakes}
 use Rattle.channel_calls.specs.declared.ask.ChannelAsk.{ChannelAsk}
+use Rattle.channel_calls.specs.declared.stage.ListenerRef.{ListenerRef}
 use Rattle.channel_calls.specs.declared.stage.Side.{Side}
 use Rattle.channel_calls.specs.declared.stage.Side.TheVariants.{Senders, Receivers}
 use Rattle.channel_calls.specs.declared.stage.Telling.{Telling}
@@ -24,16 +25,6 @@ use Rattle.channel_history.specs.History.{IsChannelHistory}
 use Rattle.channel_history.specs.Party.{nothing, both, fresh, with_own, Begins, Makes, Ends}
 use Rattle.channel_history.specs.declared.party.Belongings.{Belongings}
 use Rattle.channel_history.specs.declared.party.Standing.{Standing}
-
-module _ {W : Type 0} where
-  abbrev pub with_handle : Side → Belongings W → Belongings W
-  with_handle side own = record own { handles = side ∷ own.handles }
-
-  abbrev pub with_listener : WaitList → Key → Belongings W → Belongings W
-  with_listener line key own = record own { listeners = record { line = line; key = key } ∷ own.listeners }
-
-  abbrev pub with_list : WaitList → ListView Unit W → Belongings W → Belongings W
-  with_list line l own = record own { lists = (line, l) ∷ [] }
 
 module _ {T W : Type 0} where
   -- the party of this number stands so
@@ -51,16 +42,22 @@ module _ {T W : Type 0} where
       (parts : Parts T W) → parts.wait_lists.senders ≡ senders → parts.wait_lists.receivers ≡ receivers
       → Does d parts (with_wait_lists (record parts.wait_lists { senders = senders'; receivers = receivers' }) parts)
 
-  -- what a deed leaves with the seat of its party. A raise adds a handle, and an insertion a listener; only one that has the handle may
-  -- lower, and only one that has the listener may take it off or ask for it, which takes it off where it was told
-  abbrev pub Leaves : Deed T W → Belongings W → Belongings W → Type 0
-  Leaves (raised side n true) own left = left ≡ with_handle side own
-  Leaves (lowered side n) own left = own ≡ with_handle side left
-  Leaves (inserted line (Ok key)) own left = left ≡ with_listener line key own
-  Leaves (registered line key task None) own left = (left ≡ own) × (rest : Belongings W) × (own ≡ with_listener line key rest)
-  Leaves (registered line key task (Some back)) own left = own ≡ with_listener line key left
-  Leaves (taken_off line key names) own left = own ≡ with_listener line key left
-  Leaves d own left = left ≡ own
+  -- which handles a deed leaves with the seat of its party: a raise adds one, and only who has one may lower
+  abbrev pub LeavesHandles : Deed T W → List Side → List Side → Type 0
+  LeavesHandles (raised side n true) has left = left ≡ side ∷ has
+  LeavesHandles (lowered side n) has left = has ≡ side ∷ left
+  LeavesHandles d has left = left ≡ has
+
+  -- and which listeners: an insertion adds one, and only who has it may take it off, or ask for it, which takes it off where it was told
+  abbrev pub LeavesListeners : Deed T W → List ListenerRef → List ListenerRef → Type 0
+  LeavesListeners (inserted line (Ok key)) has left = left ≡ record { line = line; key = key } ∷ has
+  LeavesListeners (registered line key task None) has left = (left ≡ has) × (others : List ListenerRef) × (has ≡ record { line = line; key = key } ∷ others)
+  LeavesListeners (registered line key task (Some back)) has left = has ≡ record { line = line; key = key } ∷ left
+  LeavesListeners (taken_off line key names) has left = has ≡ record { line = line; key = key } ∷ left
+  LeavesListeners d has left = left ≡ has
+
+  abbrev pub Leaves : Deed T W → Standing T W → Standing T W → Type 0
+  Leaves d v w = LeavesHandles d v.own.handles w.own.handles × LeavesListeners d v.own.listeners w.own.listeners
 
   -- the four lists of a new channel, on which nobody listens, and its two handles lie with the first seat
   abbrev pub opening : ListView Unit W → List (Standing T W)
@@ -83,16 +80,16 @@ module _ (T W : Type 0) where
   -- a section is made on the list that lies with the party's seat
   abbrev pub SectionsKeep : Type 0
   SectionsKeep =
-      (form : QueueForm) (views : List (Standing T W)) (c : Contents T) (n m p : ℕ) (v w : Standing T W) (line : WaitList) (l k : ListView Unit W) (o : Deed T W) (left : Belongings W)
-      → IsChannelHistory form views c n m → IsAt views p v → Makes form v (on_wait_lists o) w → v.own.lists ≡ (line, l) ∷ [] → Leaves o v.own left
-      → w.own ≡ with_list line k left → ChangesList line o l.lists k.lists
+      (form : QueueForm) (views : List (Standing T W)) (c : Contents T) (n m p : ℕ) (v w : Standing T W) (line : WaitList) (l k : ListView Unit W) (o : Deed T W)
+      → IsChannelHistory form views c n m → IsAt views p v → Makes form v (on_wait_lists o) w → v.own.lists ≡ (line, l) ∷ [] → w.own.lists ≡ (line, k) ∷ []
+      → Leaves o v w → ChangesList line o l.lists k.lists
       → IsChannelHistory form (slice_set views p w) c n m
 
   -- a count is operated on
   abbrev pub CountOperationsKeep : Type 0
   CountOperationsKeep =
       (form : QueueForm) (views : List (Standing T W)) (c : Contents T) (n m n' m' p : ℕ) (v w : Standing T W) (o : Deed T W)
-      → IsChannelHistory form views c n m → IsAt views p v → Makes form v (on_wait_lists o) w → Leaves o v.own w.own → ChangesCounts o n m n' m'
+      → IsChannelHistory form views c n m → IsAt views p v → Makes form v (on_wait_lists o) w → w.own.lists ≡ v.own.lists → Leaves o v w → ChangesCounts o n m n' m'
       → IsChannelHistory form (slice_set views p w) c n' m'
 
   -- a call begins, of a party that has come or of a new one; and a call ends

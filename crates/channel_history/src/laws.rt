@@ -3,6 +3,7 @@
 ghost use Rattle.channel_history.specs.Accounts.{HistoriesAreAccounted};
 ghost use Rattle.channel_history.specs.Handles.{HandlesAreCounted};
 ghost use Rattle.channel_history.specs.Keeps.{DeedsDo, OpensWell, QueueOperationsKeep, SectionsKeep, CountOperationsKeep, BeginningsKeep, ArrivalsKeep, EndingsKeep, JoinsKeep, SplitsKeep};
+ghost use Rattle.channel_history.specs.Registrations.{RegistrationsAreLive};
 ghost use Rattle.channel_history.specs.Row.{OneSenderIsCounted};
 ghost use Rattle.channel_history.specs.Says.{EachMomentIsSaid, HistoriesAreRuns, NobodyIsMissedAtRest};
 ghost use Rattle.channel_history.specs.Steps.{PartiesGoOn};
@@ -21,7 +22,7 @@ pub fn a_new_channel_has_a_history<T, W>()
 
 /// What the machine of a party does next keeps the history, where it does to the channel what it answers: an operation on a cell of
 /// the queue, a section on the list that lies with the party's seat, an operation on a count. A count that was raised leaves a handle
-/// with the seat, and a lowering takes one away. Each may be preceded by steps of its call that touch nothing.
+/// with the seat, and a lowering takes one away; so do an insertion, and a removal, with a listener. Each may be preceded by steps of its call that touch nothing.
 pub fn operations_keep_the_history<T, W>()
     ensures queue { QueueOperationsKeep T W }
     ensures list { SectionsKeep T W }
@@ -40,8 +41,9 @@ pub fn calls_keep_the_history<T, W>()
     ensures ends { EndingsKeep T W }
 {}
 
-/// And so it is where lists and handles go from one seat to another: a list into that of a call before a section, and to a seat of its
-/// own after it; a handle that was made to a seat of its own, and one that is dropped to that of the call.
+/// And so it is where lists, handles and listeners go from one seat to another: a list into that of a call before a section, and to a
+/// seat of its own after it; a handle that was made to a seat of its own, and one that is dropped to that of the call; the listener of an
+/// operation to that of its poll, and back.
 pub fn what_lies_with_seats_passes<T, W>()
     ensures joins { JoinsKeep T W }
     ensures splits { SplitsKeep T W }
@@ -84,4 +86,10 @@ pub fn histories_are_accounted<T, W>()
 /// one too many for the word.
 pub fn handles_are_counted<T, W>()
     ensures counted { HandlesAreCounted T W }
+{}
+
+/// Each listener that lies with a seat is on its list: it was told, or it waits. Each that is on a list lies with one seat, and no other
+/// has it.
+pub fn registrations_are_live<T, W>()
+    ensures live { RegistrationsAreLive T W }
 {}
