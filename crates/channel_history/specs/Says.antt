@@ -19,6 +19,7 @@ use Rattle.channel_calls.specs.declared.stage.WaitList.{WaitList}
 use Rattle.channel_calls.specs.declared.stage.WaitList.TheVariants.{Sends, Receives, Streams}
 use Rattle.channel_steps.specs.Configuration.{ActiveCall, Configuration}
 use Rattle.channel_steps.specs.Configuration.{does as goes_on}
+use Rattle.channel_steps.specs.Moments.{Spent}
 use Rattle.channel_steps.specs.declared.party.Entry.{Entry}
 use Rattle.channel_steps.specs.declared.run.Step.{Step}
 use Rattle.channel_steps.specs.declared.run.Step.TheVariants as step
@@ -27,7 +28,7 @@ use Rattle.channel_steps.specs.every_run.Bridge.{Event, does, on_wait_lists, Hap
 use Rattle.channel_steps.specs.every_run.BridgeHeadline.{KeepsTheHeadline}
 use Rattle.channel_steps.specs.every_run.Closings.{PendingIsOwedTheClosing}
 use Rattle.channel_steps.specs.every_run.EndSays.{EndSays}
-use Rattle.channel_steps.specs.every_run.Ends.{Each}
+use Rattle.channel_steps.specs.every_run.Ends.{Each, SaysTheEnd}
 use Rattle.channel_steps.specs.every_run.Receives.{PendingReceivesAreOwed}
 use Rattle.channel_steps.specs.every_run.Sends.{HasPlaces, PendingSendsAreOwed}
 use Rattle.channel_steps.specs.every_run.Streams.{PendingStreamsAreOwed}
@@ -120,6 +121,9 @@ module _ {T W : Type 0} (form : QueueForm) (views : List (Standing T W)) (cells 
     pub sends : PendingSendsAreOwed (configuration_of says)
     pub streams : PendingStreamsAreOwed (configuration_of says)
     pub closing : PendingIsOwedTheClosing (configuration_of says)
+    -- once a party was given a reply that no message will come any more, the channel is closed, with nothing there and nothing on its way
+    pub over : (p : ℕ) (earlier later : List (Completed T)) (c : Completed T) → (standing_of views p).given ≡ earlier ++ c ∷ later → SaysTheEnd c.reply
+        → Spent (configuration_of says).now
 
   -- ---- at rest: no party has a call under way
 

@@ -63,7 +63,8 @@ pub fn histories_are_runs<T, W>()
 
 /// Of this moment: what left the channel, followed by what it holds, is what came into it, in order. Beside one who is pending and was
 /// not told there is no message, no free place and no closing but such as a told one or a call under way answers for. These calls, with
-/// what they ask, and the lists are those that the views say; the counts are those of the words, and what raises and lowerings made.
+/// what they ask, and the lists are those that the views say; the counts are those of the words, and what raises and lowerings made. Once
+/// a party was given a reply that no message will come any more, none is there and none will come.
 pub fn each_moment_is_said<T, W>()
     ensures said { EachMomentIsSaid T W }
 {}
