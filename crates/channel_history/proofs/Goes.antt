@@ -8,9 +8,8 @@ use Rattle.event_listener.specs.Notices.{Woken}
 use Rattle.channel_calls.specs.Parts.{Parts, Listeners}
 use Rattle.channel_calls.specs.declared.stage.WaitList.{WaitList}
 use Rattle.channel_steps.specs.every_run.Bridge.{Act, on_queue, on_wait_lists, on_nothing, Event, does, Happening, own, Changes, InOneOrder}
-use Rattle.channel_history.specs.History.{appends, LiesWithOne, parts_of, IsChannelHistory}
-use Rattle.channel_history.specs.Keeps.{with_lists}
-use Rattle.channel_history.specs.Party.{fresh, standing_of, Leads, TouchesNothing, TouchNothing}
+use Rattle.channel_history.specs.History.{appends, parts_of, LieWithSeats, IsChannelHistory}
+use Rattle.channel_history.specs.Party.{nothing, fresh, with_own, standing_of, Leads, TouchesNothing, TouchNothing}
 use Rattle.channel_history.specs.declared.party.Standing.{Standing}
 use Rattle.channel_history.proofs.PartyFacts.{leads_on, leads_same}
 
@@ -74,7 +73,7 @@ module _ {T W : Type 0} where
     Stands q xs = Leads form fresh xs (standing_of views' q)
 
     each_now : Leads form (standing_of views p) es (standing_of views' p)
-        → ((q : ℕ) → q ≢ p → with_lists [] (standing_of views' q) ≡ with_lists [] (standing_of views q))
+        → ((q : ℕ) → q ≢ p → with_own nothing (standing_of views' q) ≡ with_own nothing (standing_of views q))
         → (q : ℕ) → Dec (q ≡ p) → Stands q (own q (h.events ++ all_by p es))
     each_now mine others q (yes is) =
         subst (λ (k : ℕ). Stands k (own k (h.events ++ all_by p es))) (sym is)
@@ -88,27 +87,27 @@ module _ {T W : Type 0} where
     -- the party makes these events, and nobody else stands elsewhere
     pub goes_on : InOneOrder appends (all_by p es) (parts_of c h.listening n m, h.woken) (parts_of c' listening n' m', woken)
         → Leads form (standing_of views p) es (standing_of views' p)
-        → ((q : ℕ) → q ≢ p → with_lists [] (standing_of views' q) ≡ with_lists [] (standing_of views q))
-        → ((line : WaitList) → LiesWithOne views' line (listening line))
+        → ((q : ℕ) → q ≢ p → with_own nothing (standing_of views' q) ≡ with_own nothing (standing_of views q))
+        → LieWithSeats views' listening n' m'
         → IsChannelHistory form views' c' n' m'
-    goes_on order mine others lies = record {
+    goes_on order mine others lie = record {
       events = h.events ++ all_by p es;
       listening = listening;
       woken = woken;
       order = order_on h.events (all_by p es) _ _ _ h.order order;
       each = λ q. each_now mine others q (ℕ_discrete q p);
-      lies = lies;
+      lie = lie;
     }
 
 module _ {T W : Type 0} (form : QueueForm) (views views' : List (Standing T W)) (c : Contents T) (n m : ℕ) (h : IsChannelHistory form views c n m) where
   -- nobody stands elsewhere
-  pub moved : ((q : ℕ) → with_lists [] (standing_of views' q) ≡ with_lists [] (standing_of views q)) → ((line : WaitList) → LiesWithOne views' line (h.listening line))
+  pub moved : ((q : ℕ) → with_own nothing (standing_of views' q) ≡ with_own nothing (standing_of views q)) → LieWithSeats views' h.listening n m
       → IsChannelHistory form views' c n m
-  moved bare lies = record {
+  moved bare lie = record {
     events = h.events;
     listening = h.listening;
     woken = h.woken;
     order = h.order;
     each = λ q. leads_same form _ (standing_of views q) (standing_of views' q) (bare q) (h.each q);
-    lies = lies;
+    lie = lie;
   }

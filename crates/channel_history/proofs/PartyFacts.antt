@@ -7,8 +7,7 @@ use Rattle.channel_calls.specs.declared.ask.ChannelAsk.{ChannelAsk}
 use Rattle.channel_calls.specs.declared.stage.Stage.{Stage}
 use Rattle.channel_calls.specs.declared.whole.Completed.{Completed}
 use Rattle.channel_steps.specs.every_run.Bridge.{Event, begins, does, ActsTo}
-use Rattle.channel_history.specs.Party.{fresh, asks_of, Leads}
-use Rattle.channel_history.specs.Keeps.{with_lists}
+use Rattle.channel_history.specs.Party.{nothing, fresh, with_own, asks_of, Leads}
 use Rattle.channel_history.specs.declared.party.Standing.{Standing}
 
 module _ {T W : Type 0} where
@@ -41,9 +40,9 @@ module _ {T W : Type 0} where
     pub leads_nowhere : Leads {T = T} {W = W} form fresh [] fresh
     leads_nowhere = record { more = []; acts = (refl, refl); given = refl; asked = refl }
 
-    -- two that stand alike, whatever lists lie with them
-    pub leads_same : (xs : List (Event T W)) (s t : Standing T W) → with_lists [] t ≡ with_lists [] s → Leads form fresh xs s → Leads form fresh xs t
+    -- two that stand alike, whatever lies with them
+    pub leads_same : (xs : List (Event T W)) (s t : Standing T W) → with_own nothing t ≡ with_own nothing s → Leads form fresh xs s → Leads form fresh xs t
     leads_same xs s t e h =
-        let bare : Leads form fresh xs (with_lists [] s) = record { more = h.more; acts = h.acts; given = h.given; asked = h.asked } in
-        let other : Leads form fresh xs (with_lists [] t) = subst (λ (u : Standing T W). Leads form fresh xs u) (sym e) bare in
+        let bare : Leads form fresh xs (with_own nothing s) = record { more = h.more; acts = h.acts; given = h.given; asked = h.asked } in
+        let other : Leads form fresh xs (with_own nothing t) = subst (λ (u : Standing T W). Leads form fresh xs u) (sym e) bare in
         record { more = other.more; acts = other.acts; given = other.given; asked = other.asked }

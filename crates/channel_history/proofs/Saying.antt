@@ -1,5 +1,5 @@
 -- What the last moment of a history says, and what is left of it where no call is under way.
-use Rattle.std.proofs.Common.{◌≡◌, ℕ, ◌+◌, ◌≤◌, Bool, true, false, List, [], ◌∷◌, ◌++◌, length, map, if◌then◌else◌, ⊎_elim, refl, sym, ap, ◌∙◌, subst, eq-eqb, true≢false, add-zero, arith}
+use Rattle.std.proofs.Common.{◌≡◌, ℕ, ◌+◌, ◌≤◌, Bool, true, false, List, [], ◌∷◌, ◌++◌, length, map, if◌then◌else◌, inl, inr, ⊎_elim, refl, sym, ap, ◌∙◌, subst, eq-eqb, true≢false, add-zero, arith}
 use Rattle.std.specs.Prelude.{Option, None, Some}
 use Rattle.concurrent_queue.specs.Capacity.{capacity_of}
 use Rattle.concurrent_queue.specs.Contents.{Contents}
@@ -10,12 +10,15 @@ use Rattle.event_listener.specs.declared.key.Key.{Key}
 use Rattle.channel_calls.specs.Moves.{Channel}
 use Rattle.channel_calls.specs.Parts.{Parts, Listeners, WaitLists, count, listeners}
 use Rattle.channel_calls.specs.declared.ask.ChannelAsk.{ChannelAsk}
+use Rattle.channel_calls.specs.declared.reply.Reply.{Reply}
 use Rattle.channel_calls.specs.declared.stage.Side.{Side}
 use Rattle.channel_calls.specs.declared.stage.Side.TheVariants.{Senders, Receivers}
 use Rattle.channel_calls.specs.declared.stage.Stage.{Stage}
 use Rattle.channel_calls.specs.declared.stage.WaitList.{WaitList}
 use Rattle.channel_calls.specs.declared.stage.WaitList.TheVariants.{Sends, Receives, Streams, Closings}
 use Rattle.channel_steps.specs.Configuration.{ActiveCall, ActiveCallWitness, Configuration, Represents, active_call_of}
+use Rattle.channel_calls.specs.declared.whole.Completed.{Completed}
+use Rattle.channel_steps.specs.Moments.{Spent}
 use Rattle.channel_steps.specs.Run.{EachStep, NextConfiguration, end_of, new_configuration}
 use Rattle.channel_steps.specs.declared.party.Entry.{Entry}
 use Rattle.channel_steps.specs.declared.party.Party.{Party}
@@ -25,14 +28,14 @@ use Rattle.channel_steps.specs.every_run.BridgeHeadline.{MergeMomentSays, MergeS
 use Rattle.channel_steps.specs.every_run.Receives.{counts_for_receives}
 use Rattle.channel_steps.specs.every_run.Sends.{HasPlaces, counts_for_sends}
 use Rattle.channel_steps.specs.every_run.Amounts.{total}
-use Rattle.channel_steps.specs.every_run.Ends.{Each}
+use Rattle.channel_steps.specs.every_run.Ends.{Each, Replies, SaysTheEnd}
 use Rattle.channel_steps.specs.every_run.Waits.{Any, IsIn, Waits}
 use Rattle.channel_steps.proofs.Interface.{run_keeps}
 use Rattle.channel_steps.proofs.every_run.Bounds.{capacity_next}
 use Rattle.channel_history.specs.Accounts.{Accounts, asked_in, asks_in, of_call}
 use Rattle.channel_history.specs.History.{appends, parts_of, IsChannelHistory}
 use Rattle.channel_history.specs.Party.{standing_of}
-use Rattle.channel_history.specs.Says.{IsAtStage, StandsByView, counted_by, IsHeadlineRun, HistorySays, MomentSays, AtRest, RestSays, EachMomentIsSaid, NobodyIsMissedAtRest}
+use Rattle.channel_history.specs.Says.{IsAtStage, StandsByView, counted_by, HasEnded, HaveEnded, IsHeadlineRun, HistorySays, MomentSays, AtRest, RestSays, EachMomentIsSaid, NobodyIsMissedAtRest}
 use Rattle.channel_history.specs.declared.party.Standing.{Standing}
 use Rattle.channel_history.proofs.Accounts.{histories_are_accounted, each_asks}
 use Rattle.channel_history.proofs.ByViews.{AllDiffer, StandsIn, differ_last, all_stand, all_there}
@@ -46,7 +49,30 @@ module _ {T W S : Type 0} (wakes : S → W → S → Type 0) where
   last_says m (x ∷ xs) (e ∷ es) (n ∷ ns) now h = let first = h.0 in last_says n xs es ns first.after h.1
   last_says m x y ns now h = absurd h
 
+  -- what is over is so at the last
+  over_last : (m : MergeMoment T W S) (xs : List (Step T W)) (es : List (Entry T)) (ns : List (MergeMoment T W S)) → Spent m.configuration.now → EachStep (MergeStepSays wakes) m xs es ns
+      → Spent (end_of m ns).configuration.now
+  over_last m [] [] [] now h = now
+  over_last m (x ∷ xs) (e ∷ es) (n ∷ ns) now h = let first = h.0 in over_last n xs es ns ((first.over now).0) h.1
+  over_last m x y ns now h = absurd h
+
 module _ {T W : Type 0} where
+  -- a reply that says so was right
+  ended_over : (p : ℕ) (c : Completed T) (m : MergeMoment T W (List W)) (xs : List (Step T W)) (es : List (Entry T)) (ns : List (MergeMoment T W (List W))) → EachStep (MergeStepSays appends) m xs es ns
+      → HasEnded p c m xs es ns → SaysTheEnd c.reply → Spent (end_of m ns).configuration.now
+  ended_over p c m (x ∷ xs) (e ∷ es) (n ∷ ns) h (inl ends) says =
+      let first = h.0 in
+      over_last appends n xs es ns (first.the_end (subst (λ (r : Option (Reply T)). Replies SaysTheEnd r) (sym ends.reply) says)) h.1
+  ended_over p c m (x ∷ xs) (e ∷ es) (n ∷ ns) h (inr later) says = ended_over p c n xs es ns h.1 later says
+  ended_over p c m [] es ns h ended says = absurd ended
+  ended_over p c m (x ∷ xs) [] ns h ended says = absurd ended
+  ended_over p c m (x ∷ xs) (e ∷ es) [] h ended says = absurd ended
+
+  one_ended : (p : ℕ) (earlier later : List (Completed T)) (c : Completed T) (m : MergeMoment T W (List W)) (xs : List (Step T W)) (es : List (Entry T)) (ns : List (MergeMoment T W (List W)))
+      → HaveEnded p (earlier ++ c ∷ later) m xs es ns → HasEnded p c m xs es ns
+  one_ended p [] later c m xs es ns h = h.0
+  one_ended p (x ∷ earlier) later c m xs es ns h = one_ended p earlier later c m xs es ns h.1
+
   no_none : (x : Stage (QueueCall T) T W) → Some x ≡ None → ⊥
   no_none x e = absurd (cc)
 
@@ -133,6 +159,12 @@ module _ {T W : Type 0} (form : QueueForm) (views : List (Standing T W)) (cells 
         sends = m.sends;
         streams = m.streams;
         closing = m.closing;
+        over = λ p earlier later c given the_end.
+            let r = run.run in
+            subst (λ (n : MergeMoment T W (List W)). Spent n.configuration.now) r.ends
+            (ended_over p c (just_opened form []) (steps_of h.events) run.trace r.moments keeps.each
+            (one_ended p earlier later c (just_opened form []) (steps_of h.events) run.trace r.moments
+            (subst (λ (cs : List (Completed T)). HaveEnded p cs (just_opened form []) (steps_of h.events) run.trace r.moments) given (says.replies p))) the_end);
       }
     where
       one : (side : Side) → count side (let parts : Parts T W = opened_parts form in parts.wait_lists) ≡ 1

@@ -1,13 +1,8 @@
--- Where parties stand after a seat's view has changed or a seat has come, and with whom a list lies then.
-use Rattle.std.proofs.Common.{◌≡◌, ◌≢◌, ℕ, zero, suc, Bool, true, false, List, [], ◌∷◌, ◌++◌, length, if◌then◌else◌, refl, sym, ap, ◌∙◌, subst}
+-- Where parties stand after a seat's view has changed or a seat has come.
+use Rattle.std.proofs.Common.{◌≡◌, ◌≢◌, ℕ, zero, suc, List, [], ◌∷◌, ◌++◌, length, refl, sym, ap, ◌∙◌}
 use Rattle.std.specs.Prelude.{slice_set}
 use mathlib.Core.Option.{Option, none, some, some-ne-none}
-use native.Mathlib.Decide.{ℕ_discrete}
 use lib.ListN.{get_elem?}
-use Rattle.event_listener.specs.Lists.{ListView}
-use Rattle.channel_calls.specs.Parts.{Listeners}
-use Rattle.channel_calls.specs.declared.stage.WaitList.{WaitList}
-use Rattle.channel_history.specs.History.{is_line, of_kind, LiesWithOne}
 use Rattle.channel_history.specs.Party.{fresh, standing_in, standing_of}
 use Rattle.channel_history.specs.declared.party.Standing.{Standing}
 
@@ -45,22 +40,6 @@ module _ {V : Type 0} where
   last_else (x ∷ xs) zero w n = refl
   last_else (x ∷ xs) (suc q) w n = last_else xs q w (λ e. n (ap suc e))
 
-module _ {W : Type 0} where
-  pub kinds_on : (line : WaitList) (xs ys : List (WaitList × ListView Unit W)) → of_kind line (xs ++ ys) ≡ of_kind line xs ++ of_kind line ys
-  kinds_on line [] ys = refl
-  kinds_on line (x ∷ xs) ys = by (is_line line x.0) (kinds_on line xs ys) where
-    by : (b : Bool) → of_kind line (xs ++ ys) ≡ of_kind line xs ++ of_kind line ys
-        → (if b then x.1.lists ∷ of_kind line (xs ++ ys) else of_kind line (xs ++ ys)) ≡ (if b then x.1.lists ∷ of_kind line xs else of_kind line xs) ++ of_kind line ys
-    by true e = ap (λ (ls : List (Listeners W)). x.1.lists ∷ ls) e
-    by false e = e
-
-  none_one : (k : Listeners W) → [] ≡ k ∷ [] → ⊥
-  none_one k e = absurd (cc)
-
-  abbrev first_or : Listeners W → List (Listeners W) → Listeners W
-  first_or l [] = l
-  first_or l (y ∷ ys) = y
-
 module _ {T W : Type 0} where
   abbrev In : Option (Standing T W) → Standing T W
   In o = standing_in o
@@ -82,30 +61,3 @@ module _ {T W : Type 0} where
 
   pub stands_before : (views : List (Standing T W)) (q : ℕ) (w : Standing T W) → q ≢ length views → standing_of (views ++ w ∷ []) q ≡ standing_of views q
   stands_before views q w n = ap In (last_else views q w n)
-
-  -- ---- with whom a list lies
-
-  abbrev pub With : List (Standing T W) → WaitList → ℕ → List (Listeners W)
-  With views line q = of_kind line (standing_of views q).lists
-
-  -- nobody has another list than before
-  pub lies_same : (views views' : List (Standing T W)) (line : WaitList) (l : Listeners W) → ((q : ℕ) → With views' line q ≡ With views line q)
-      → LiesWithOne views line l → LiesWithOne views' line l
-  lies_same views views' line l e (p, has, none_else) = (p, e p ∙ has, (λ q n. e q ∙ none_else q n))
-
-  pub same_lists : (views : List (Standing T W)) (p : ℕ) (v w : Standing T W) → get_elem? views p ≡ some v → w.lists ≡ v.lists
-      → (q : ℕ) → (standing_of (slice_set views p w) q).lists ≡ (standing_of views q).lists
-  same_lists views p v w at e q = by (ℕ_discrete q p) where
-    by : Dec (q ≡ p) → (standing_of (slice_set views p w) q).lists ≡ (standing_of views q).lists
-    by (yes is) =
-        subst (λ (k : ℕ). (standing_of (slice_set views p w) k).lists ≡ (standing_of views k).lists) (sym is)
-        (ap (λ (s : Standing T W). s.lists) (stands_set views p v w at) ∙ e ∙ sym (ap (λ (s : Standing T W). s.lists) (stands_at views p v at)))
-    by (no n) = ap (λ (s : Standing T W). s.lists) (stands_else views p q w n)
-
-  -- it lies with this seat, if anything of its kind does
-  pub lies_here : (views : List (Standing T W)) (line : WaitList) (l k : Listeners W) (p : ℕ) → With views line p ≡ k ∷ [] → LiesWithOne views line l
-      → (l ≡ k) × ((q : ℕ) → q ≢ p → With views line q ≡ [])
-  lies_here views line l k p mine (x, has, none_else) = by (ℕ_discrete p x) where
-    by : Dec (p ≡ x) → (l ≡ k) × ((q : ℕ) → q ≢ p → With views line q ≡ [])
-    by (yes is) = (ap (first_or l) (sym has ∙ subst (λ (y : ℕ). With views line y ≡ k ∷ []) is mine), λ q n. none_else q (λ e. n (e ∙ sym is)))
-    by (no n) = absurd (none_one k (sym (none_else p n) ∙ mine))

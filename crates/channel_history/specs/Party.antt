@@ -6,12 +6,24 @@ use Rattle.concurrent_queue.specs.declared.cells.QueueForm.{QueueForm}
 use Rattle.channel_calls.specs.declared.ask.ChannelAsk.{ChannelAsk}
 use Rattle.channel_calls.specs.declared.whole.Completed.{Completed}
 use Rattle.channel_steps.specs.every_run.Bridge.{Act, on_queue, on_nothing, Event, begins, does, ActsTo}
+use Rattle.channel_history.specs.declared.party.Belongings.{Belongings}
 use Rattle.channel_history.specs.declared.party.Standing.{Standing}
+
+module _ {W : Type 0} where
+  abbrev pub nothing : Belongings W
+  nothing = record { lists = []; handles = []; listeners = [] }
+
+  -- what lay with two seats, together
+  abbrev pub both : Belongings W → Belongings W → Belongings W
+  both a b = record { lists = a.lists ++ b.lists; handles = a.handles ++ b.handles; listeners = a.listeners ++ b.listeners }
 
 module _ {T W : Type 0} where
   -- a party that has done nothing
   abbrev pub fresh : Standing T W
-  fresh = record { asked = []; stage = None; given = []; lists = [] }
+  fresh = record { asked = []; stage = None; given = []; own = nothing }
+
+  abbrev pub with_own : Belongings W → Standing T W → Standing T W
+  with_own own s = record s { own = own }
 
   -- where each party stands, by its seat's view; one that hasn't come yet has done nothing
   abbrev pub standing_in : home.Option (Standing T W) → Standing T W

@@ -11,11 +11,12 @@ use Rattle.channel_calls.specs.declared.reply.Reply.TheVariants.{Count}
 use Rattle.channel_calls.specs.declared.stage.Side.TheVariants.{Senders}
 use Rattle.channel_history.specs.History.{IsChannelHistory}
 use Rattle.channel_history.specs.Keeps.{opening}
+use Rattle.channel_history.specs.Party.{nothing}
 use Rattle.channel_history.specs.declared.party.Standing.{Standing}
 
 module _ {T W : Type 0} where
   abbrev pub has_counted : Standing T W
-  has_counted = record { asked = HandleCount Senders ∷ []; stage = None; given = record { reply = Count 1; kept = nothing_kept } ∷ []; lists = [] }
+  has_counted = record { asked = HandleCount Senders ∷ []; stage = None; given = record { reply = Count 1; kept = nothing_kept } ∷ []; own = nothing }
 
 abbrev pub OneSenderIsCounted : Type 0 → Type 0 → Type 0
 OneSenderIsCounted T W =

@@ -1,5 +1,5 @@
 -- What a history of a channel says at its moment: it is a run of the channel, in which each party stands where its view says.
-use Rattle.std.specs.Prelude.{◌≡◌, ℕ, ◌+◌, ◌-◌, ◌≤◌, Bool, true, false, List, [], ◌∷◌, ◌++◌, ◌⊎◌, length, if◌then◌else◌, None, Some}
+use Rattle.std.specs.Prelude.{◌≡◌, ℕ, ◌+◌, ◌-◌, ◌≤◌, true, false, List, [], ◌∷◌, ◌++◌, ◌⊎◌, length, if◌then◌else◌, None, Some}
 use Rattle.concurrent_queue.specs.Bridge.{HasCells}
 use Rattle.concurrent_queue.specs.Capacity.{capacity_of}
 use Rattle.concurrent_queue.specs.Contents.{Contents}
@@ -13,13 +13,13 @@ use Rattle.channel_calls.specs.Moves.{phase}
 use Rattle.channel_calls.specs.Parts.{count}
 use Rattle.channel_calls.specs.declared.ask.ChannelAsk.{ChannelAsk}
 use Rattle.channel_calls.specs.declared.stage.Side.{Side}
-use Rattle.channel_calls.specs.declared.stage.Side.TheVariants.{Senders, Receivers}
 use Rattle.channel_calls.specs.declared.whole.Completed.{Completed}
 use Rattle.channel_calls.specs.declared.stage.Stage.{Stage}
 use Rattle.channel_calls.specs.declared.stage.WaitList.{WaitList}
 use Rattle.channel_calls.specs.declared.stage.WaitList.TheVariants.{Sends, Receives, Streams}
 use Rattle.channel_steps.specs.Configuration.{ActiveCall, Configuration}
 use Rattle.channel_steps.specs.Configuration.{does as goes_on}
+use Rattle.channel_steps.specs.Moments.{Spent}
 use Rattle.channel_steps.specs.declared.party.Entry.{Entry}
 use Rattle.channel_steps.specs.declared.run.Step.{Step}
 use Rattle.channel_steps.specs.declared.run.Step.TheVariants as step
@@ -28,20 +28,15 @@ use Rattle.channel_steps.specs.every_run.Bridge.{Event, does, on_wait_lists, Hap
 use Rattle.channel_steps.specs.every_run.BridgeHeadline.{KeepsTheHeadline}
 use Rattle.channel_steps.specs.every_run.Closings.{PendingIsOwedTheClosing}
 use Rattle.channel_steps.specs.every_run.EndSays.{EndSays}
-use Rattle.channel_steps.specs.every_run.Ends.{Each}
+use Rattle.channel_steps.specs.every_run.Ends.{Each, SaysTheEnd}
 use Rattle.channel_steps.specs.every_run.Receives.{PendingReceivesAreOwed}
 use Rattle.channel_steps.specs.every_run.Sends.{HasPlaces, PendingSendsAreOwed}
 use Rattle.channel_steps.specs.every_run.Streams.{PendingStreamsAreOwed}
 use Rattle.channel_steps.specs.every_run.Waits.{Any, IsIn}
 use Rattle.channel_steps.specs.every_run.Words.{WordsSay}
-use Rattle.channel_history.specs.History.{appends, parts_of, IsChannelHistory}
+use Rattle.channel_history.specs.History.{appends, is_side, parts_of, IsChannelHistory}
 use Rattle.channel_history.specs.Party.{standing_of}
 use Rattle.channel_history.specs.declared.party.Standing.{Standing}
-
-abbrev pub is_side : Side → Side → Bool
-is_side Senders Senders = true
-is_side Receivers Receivers = true
-is_side x y = false
 
 module _ {T W : Type 0} where
   -- how many handles of a kind are counted after these events, of so many before them: each raise is one more, each lowering one less
@@ -126,6 +121,9 @@ module _ {T W : Type 0} (form : QueueForm) (views : List (Standing T W)) (cells 
     pub sends : PendingSendsAreOwed (configuration_of says)
     pub streams : PendingStreamsAreOwed (configuration_of says)
     pub closing : PendingIsOwedTheClosing (configuration_of says)
+    -- once a party was given a reply that no message will come any more, the channel is closed, with nothing there and nothing on its way
+    pub over : (p : ℕ) (earlier later : List (Completed T)) (c : Completed T) → (standing_of views p).given ≡ earlier ++ c ∷ later → SaysTheEnd c.reply
+        → Spent (configuration_of says).now
 
   -- ---- at rest: no party has a call under way
 

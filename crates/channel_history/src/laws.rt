@@ -1,7 +1,9 @@
 //! Laws of every history of a channel's cells. Each is the contract of a function that does nothing.
 
 ghost use Rattle.channel_history.specs.Accounts.{HistoriesAreAccounted};
+ghost use Rattle.channel_history.specs.Handles.{HandlesAreCounted};
 ghost use Rattle.channel_history.specs.Keeps.{DeedsDo, OpensWell, QueueOperationsKeep, SectionsKeep, CountOperationsKeep, BeginningsKeep, ArrivalsKeep, EndingsKeep, JoinsKeep, SplitsKeep};
+ghost use Rattle.channel_history.specs.Registrations.{RegistrationsAreLive};
 ghost use Rattle.channel_history.specs.Row.{OneSenderIsCounted};
 ghost use Rattle.channel_history.specs.Says.{EachMomentIsSaid, HistoriesAreRuns, NobodyIsMissedAtRest};
 ghost use Rattle.channel_history.specs.Steps.{PartiesGoOn};
@@ -12,14 +14,15 @@ pub fn parties_go_on<T, W>()
     ensures goes_on { PartiesGoOn T W }
 {}
 
-/// A channel that was just opened has a history, in which nothing has happened and the four lists lie with the first seat.
+/// A channel that was just opened has a history, in which nothing has happened; the four lists, a sender and a receiver lie with the
+/// first seat.
 pub fn a_new_channel_has_a_history<T, W>()
     ensures opens { OpensWell T W }
 {}
 
 /// What the machine of a party does next keeps the history, where it does to the channel what it answers: an operation on a cell of
-/// the queue, a section on the list that lies with the party's seat, an operation on a count. Each may be preceded by steps of its
-/// call that touch nothing.
+/// the queue, a section on the list that lies with the party's seat, an operation on a count. A count that was raised leaves a handle
+/// with the seat, and a lowering takes one away; so do an insertion, and a removal, with a listener. Each may be preceded by steps of its call that touch nothing.
 pub fn operations_keep_the_history<T, W>()
     ensures queue { QueueOperationsKeep T W }
     ensures list { SectionsKeep T W }
@@ -38,8 +41,10 @@ pub fn calls_keep_the_history<T, W>()
     ensures ends { EndingsKeep T W }
 {}
 
-/// And so it is where lists go from one seat to another: into that of a call before a section, and to a seat of their own after it.
-pub fn lists_pass_from_seat_to_seat<T, W>()
+/// And so it is where lists, handles and listeners go from one seat to another: a list into that of a call before a section, and to a
+/// seat of its own after it; a handle that was made to a seat of its own, and one that is dropped to that of the call; the listener of an
+/// operation to that of its poll, and back.
+pub fn what_lies_with_seats_passes<T, W>()
     ensures joins { JoinsKeep T W }
     ensures splits { SplitsKeep T W }
 {}
@@ -58,7 +63,8 @@ pub fn histories_are_runs<T, W>()
 
 /// Of this moment: what left the channel, followed by what it holds, is what came into it, in order. Beside one who is pending and was
 /// not told there is no message, no free place and no closing but such as a told one or a call under way answers for. These calls, with
-/// what they ask, and the lists are those that the views say; the counts are those of the words, and what raises and lowerings made.
+/// what they ask, and the lists are those that the views say; the counts are those of the words, and what raises and lowerings made. Once
+/// a party was given a reply that no message will come any more, none is there and none will come.
 pub fn each_moment_is_said<T, W>()
     ensures said { EachMomentIsSaid T W }
 {}
@@ -75,4 +81,16 @@ pub fn nobody_is_missed_at_rest<T, W>()
 /// brought in or taken out by its marks.
 pub fn histories_are_accounted<T, W>()
     ensures accounted { HistoriesAreAccounted T W }
+{}
+
+/// Each count is the number of handles of its kind that lie with seats, so that none is 0 that a handle's drop lowers; and no raise was
+/// one too many for the word.
+pub fn handles_are_counted<T, W>()
+    ensures counted { HandlesAreCounted T W }
+{}
+
+/// Each listener that lies with a seat is on its list: it was told, or it waits. Each that is on a list lies with one seat, and no other
+/// has it.
+pub fn registrations_are_live<T, W>()
+    ensures live { RegistrationsAreLive T W }
 {}

@@ -1,11 +1,21 @@
 //! What the view of a seat says of its party. These types are for the proofs alone: no value of them is made.
 
 use channel_calls::ask::ChannelAsk;
-use channel_calls::stage::{Stage, WaitList};
+use channel_calls::stage::{ListenerRef, Side, Stage, WaitList};
 use channel_calls::whole::Completed;
 use concurrent_queue::QueueCall;
 use event_listener::List;
 use std::collections::LinkedList;
+
+/// What lies with a seat, and goes from seat to seat.
+pub struct Belongings<W> {
+    /// Lists of listeners. A call's seat has one within a section, and no other.
+    pub lists: LinkedList<(WaitList, List<(), W>)>,
+    /// Strong handles: a count was raised for each, or it is one of the first two, and it wasn't lowered yet for any.
+    pub handles: LinkedList<Side>,
+    /// Listeners that are on the lists: a call's, and those of operations that are pending.
+    pub listeners: LinkedList<ListenerRef>,
+}
 
 /// Where a party stands. A party is whoever has one seat, and makes calls one after another; or its seat lies with a list of listeners
 /// behind the list's lock, and it makes none.
@@ -16,6 +26,6 @@ pub struct Standing<T, W> {
     pub stage: Option<Stage<QueueCall<T>, T, W>>,
     /// What its calls answered and left, in order.
     pub given: LinkedList<Completed<T>>,
-    /// The lists of listeners that lie with its seat. A call's seat has one within a section, and no other.
-    pub lists: LinkedList<(WaitList, List<(), W>)>,
+    /// What lies with its seat.
+    pub own: Belongings<W>,
 }

@@ -1,0 +1,28 @@
+-- The listeners that are on a channel's lists are those of the operations that are pending, and of the calls that poll them.
+use Rattle.std.specs.Prelude.{◌≡◌, ℕ, ◌≤◌, ◌⊎◌, true, List, ◌∷◌, Some}
+use Rattle.concurrent_queue.specs.Contents.{Contents}
+use Rattle.concurrent_queue.specs.declared.cells.QueueForm.{QueueForm}
+use Rattle.event_listener.specs.Lists.{kind_of}
+use Rattle.event_listener.specs.declared.key.Key.{Key}
+use Rattle.channel_calls.specs.Parts.{Listeners}
+use Rattle.channel_calls.specs.declared.stage.ListenerRef.{ListenerRef}
+use Rattle.channel_calls.specs.declared.stage.WaitList.{WaitList}
+use Rattle.channel_steps.specs.every_run.Waits.{IsIn}
+use Rattle.channel_history.specs.History.{is_listener, listeners_of, among, times, IsChannelHistory}
+use Rattle.channel_history.specs.Keeps.{IsAt}
+use Rattle.channel_history.specs.declared.party.Standing.{Standing}
+
+module _ {T W : Type 0} where
+  -- of this list, by its key
+  pub record ListenerSays (views : List (Standing T W)) (line : WaitList) (key : Key) (l : Listeners W) : Type 0 where
+    -- it lies with a seat as often as it is on the list, and this is once at most: no two seats have it
+    pub is : among listeners_of (is_listener line key) views ≡ times key l
+    pub once : times key l ≤ 1
+    -- so whoever has it was told, or waits
+    pub live : (p : ℕ) (v : Standing T W) (others : List ListenerRef) → IsAt views p v → v.own.listeners ≡ record { line = line; key = key } ∷ others
+        → (kind_of l key ≡ Some true) ⊎ IsIn key l.waiting
+
+abbrev pub RegistrationsAreLive : Type 0 → Type 0 → Type 0
+RegistrationsAreLive T W =
+    (form : QueueForm) (views : List (Standing T W)) (cells : Contents T) (senders receivers : ℕ) (h : IsChannelHistory form views cells senders receivers)
+    (line : WaitList) (key : Key) → ListenerSays views line key (h.listening line)
