@@ -7,5 +7,6 @@ pub mod Keeps
 pub mod Says
 pub mod Handles
 pub mod Registrations
+pub mod InHand
 pub mod Accounts
 pub mod Row

@@ -2,6 +2,7 @@
 
 ghost use Rattle.channel_history.specs.Accounts.{HistoriesAreAccounted};
 ghost use Rattle.channel_history.specs.Handles.{HandlesAreCounted};
+ghost use Rattle.channel_history.specs.InHand.{CallsHoldListeners};
 ghost use Rattle.channel_history.specs.Keeps.{DeedsDo, OpensWell, QueueOperationsKeep, SectionsKeep, CountOperationsKeep, BeginningsKeep, ArrivalsKeep, EndingsKeep, JoinsKeep, SplitsKeep};
 ghost use Rattle.channel_history.specs.Registrations.{RegistrationsAreLive};
 ghost use Rattle.channel_history.specs.Row.{OneSenderIsCounted};
@@ -93,4 +94,10 @@ pub fn handles_are_counted<T, W>()
 /// has it.
 pub fn registrations_are_live<T, W>()
     ensures live { RegistrationsAreLive T W }
+{}
+
+/// A call has in hand the listener that lies with its seat, at each stage: what its operation lent it, what it inserted, and at the end
+/// what the operation keeps whose poll is pending.
+pub fn calls_hold_their_listeners<T, W>()
+    ensures holds { CallsHoldListeners T W }
 {}
