@@ -5,7 +5,7 @@ ghost use Rattle.channel_history.specs.Handles.{HandlesAreCounted};
 ghost use Rattle.channel_history.specs.InHand.{CallsHoldListeners};
 ghost use Rattle.channel_history.specs.Keeps.{DeedsDo, OpensWell, QueueOperationsKeep, SectionsKeep, CountOperationsKeep, BeginningsKeep, ArrivalsKeep, EndingsKeep, JoinsKeep, SplitsKeep};
 ghost use Rattle.channel_history.specs.Registrations.{RegistrationsAreLive};
-ghost use Rattle.channel_history.specs.Row.{OneSenderIsCounted};
+ghost use Rattle.channel_history.specs.Row.{ASenderIsClonedAndDropped, OneSenderIsCounted};
 ghost use Rattle.channel_history.specs.Says.{EachMomentIsSaid, HistoriesAreRuns, NobodyIsMissedAtRest};
 ghost use Rattle.channel_history.specs.Steps.{PartiesGoOn};
 
@@ -53,6 +53,11 @@ pub fn what_lies_with_seats_passes<T, W>()
 /// There are such histories with calls in them: a new party asks how many senders there are, and is told one.
 pub fn one_sender_is_counted<T, W>()
     ensures counted { OneSenderIsCounted T W }
+{}
+
+/// And one who clones a sender, and drops it: there are two, and then one again.
+pub fn a_sender_is_cloned_and_dropped<T, W>()
+    ensures cloned { ASenderIsClonedAndDropped T W }
 {}
 
 /// At every moment such a history is a run of the channel, of which the whole headline holds, as long as positions last: of any length
