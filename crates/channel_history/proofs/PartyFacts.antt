@@ -6,9 +6,8 @@ use Rattle.concurrent_queue.specs.declared.queue_call.QueueCall.{QueueCall}
 use Rattle.channel_calls.specs.declared.ask.ChannelAsk.{ChannelAsk}
 use Rattle.channel_calls.specs.declared.stage.Stage.{Stage}
 use Rattle.channel_calls.specs.declared.whole.Completed.{Completed}
-use Rattle.channel_steps.specs.every_run.Bridge.{Act, Event, begins, does, ActsTo}
-use Rattle.channel_history.specs.Party.{nothing, fresh, with_own, asks_of, Leads, Makes}
-use Rattle.channel_history.specs.declared.party.Belongings.{Belongings}
+use Rattle.channel_steps.specs.every_run.Bridge.{Event, begins, does, ActsTo}
+use Rattle.channel_history.specs.Party.{nothing, fresh, with_own, asks_of, Leads}
 use Rattle.channel_history.specs.declared.party.Standing.{Standing}
 
 module _ {T W : Type 0} where
@@ -47,7 +46,3 @@ module _ {T W : Type 0} where
         let bare : Leads form fresh xs (with_own nothing s) = record { more = h.more; acts = h.acts; given = h.given; asked = h.asked } in
         let other : Leads form fresh xs (with_own nothing t) = subst (λ (u : Standing T W). Leads form fresh xs u) (sym e) bare in
         record { more = other.more; acts = other.acts; given = other.given; asked = other.asked }
-
-    -- nor does what it does next
-    pub makes_with : (s t : Standing T W) (o : Act T W) (own : Belongings W) → Makes form s o t → Makes form s o (with_own own t)
-    makes_with s t o own (os, still, l) = (os, still, record { more = l.more; acts = l.acts; given = l.given; asked = l.asked })

@@ -26,7 +26,6 @@ use Rattle.channel_history.proofs.Deeds.{deeds_do}
 use Rattle.channel_history.proofs.Steps.{parties_go_on}
 use Rattle.channel_history.proofs.Handles.{count_operations_keep}
 use Rattle.channel_history.proofs.Keeping.{opens_well, arrivals_keep, beginnings_keep}
-use Rattle.channel_history.proofs.PartyFacts.{makes_with}
 
 module _ {T W : Type 0} (form : QueueForm) where
   abbrev Asks : Standing T W
@@ -73,10 +72,9 @@ module _ {T W : Type 0} (form : QueueForm) where
       on.makes form (Clones (Load Senders Clone)) (Clones (Raise Senders 1 Clone)) (on_wait_lists (counted Senders 1))
       (Working (Load Senders Clone), Nothing, Working (Raise Senders 1 Clone), None, refl, (1, refl, (refl, (refl, refl))), refl)
 
-  -- what is left with its seat is no part of what the machine does
   has_raised : Makes form (Clones (Raise Senders 1 Clone)) (on_wait_lists (raised Senders 1 true)) has_cloned
   has_raised =
-      makes_with form (Clones (Raise Senders 1 Clone)) (record has_cloned { own = nothing }) (on_wait_lists (raised Senders 1 true)) (record nothing { handles = Senders ∷ [] })
+      on.leaves form (Clones (Raise Senders 1 Clone)) (record has_cloned { own = nothing }) (on_wait_lists (raised Senders 1 true)) (record nothing { handles = Senders ∷ [] })
       (on.makes form (Clones (Raise Senders 1 Clone)) (record has_cloned { own = nothing }) (on_wait_lists (raised Senders 1 true))
       (Working (Raise Senders 1 Clone), SenderUp, Finished nothing_kept, Some reply.Made, refl, (true, refl, (refl, (refl, refl))), refl))
 
@@ -85,7 +83,7 @@ module _ {T W : Type 0} (form : QueueForm) where
 
   has_lowered : Makes form Drops (on_wait_lists (lowered Senders 2)) has_dropped
   has_lowered =
-      makes_with form Drops (record has_dropped { own = record nothing { handles = Senders ∷ [] } }) (on_wait_lists (lowered Senders 2)) nothing
+      on.leaves form Drops (record has_dropped { own = record nothing { handles = Senders ∷ [] } }) (on_wait_lists (lowered Senders 2)) nothing
       (on.makes form Drops (record has_dropped { own = record nothing { handles = Senders ∷ [] } }) (on_wait_lists (lowered Senders 2))
       (Working (Lower Senders None), SenderDown, Finished nothing_kept, Some reply.Unit, refl, (2, refl, (refl, (refl, refl))), refl))
 

@@ -84,7 +84,8 @@ pub fn nobody_is_missed_at_rest<T, W>()
 
 /// Each message that came into the channel or left it is a party's, by its view. What a party has brought in and taken out is what its
 /// calls that have ended brought in and took out, by what they asked and gave, in their order, and then what its call under way has
-/// brought in or taken out by its marks.
+/// brought in or taken out by its marks. Each of these calls was answered as the row of its reply says, to what it asked; one that is
+/// pending left its operation a listener.
 pub fn histories_are_accounted<T, W>()
     ensures accounted { HistoriesAreAccounted T W }
 {}
