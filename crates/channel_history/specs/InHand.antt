@@ -1,6 +1,7 @@
--- The listener that a call has in hand at each of its stages is the one that lies with its seat: an operation lends it to its poll, and
--- keeps it where the poll is pending.
-use Rattle.std.specs.Prelude.{◌≡◌, ◌≢◌, ◌⊎◌, List, [], Option, None, Some, option_to_list}
+-- What a call has in hand at each of its stages lies with its seat. An operation lends its listener to its poll, and keeps it where the
+-- poll is pending; a handle that is dropped is lent to the call that lowers its count, and one that is made comes of the call that raised
+-- it.
+use Rattle.std.specs.Prelude.{◌≡◌, ◌≢◌, ◌⊎◌, List, [], ◌∷◌, Option, None, Some, option_to_list}
 use Rattle.concurrent_queue.specs.declared.cells.QueueForm.{QueueForm}
 use Rattle.concurrent_queue.specs.declared.queue_call.QueueCall.{QueueCall}
 use Rattle.event_listener.specs.declared.key.Key.{Key}
@@ -9,7 +10,7 @@ use Rattle.channel_calls.specs.Asks.{first, kept_by}
 use Rattle.channel_calls.specs.Turns.{held_on, line_of, dropper}
 use Rattle.channel_calls.specs.Walks.{Takes, ChannelMakes}
 use Rattle.channel_calls.specs.declared.ask.ChannelAsk.{ChannelAsk}
-use Rattle.channel_calls.specs.declared.ask.ChannelAsk.TheVariants.{PollSend, PollRecv, PollClosed, PollNext, RefusePoll, GiveUp, DropReceiver}
+use Rattle.channel_calls.specs.declared.ask.ChannelAsk.TheVariants.{PollSend, PollRecv, PollClosed, PollNext, RefusePoll, GiveUp, DropSender, DropReceiver}
 use Rattle.channel_calls.specs.declared.mark.Mark.{Mark}
 use Rattle.channel_calls.specs.declared.reply.Reply.{Reply}
 use Rattle.channel_calls.specs.declared.reply.Reply.TheVariants as reply
@@ -20,12 +21,14 @@ use Rattle.channel_calls.specs.declared.stage.ListStep.{ListStep}
 use Rattle.channel_calls.specs.declared.stage.ListStep.TheVariants as work
 use Rattle.channel_calls.specs.declared.stage.Purpose.{Purpose}
 use Rattle.channel_calls.specs.declared.stage.Purpose.TheVariants as purpose
+use Rattle.channel_calls.specs.declared.stage.Side.{Side}
+use Rattle.channel_calls.specs.declared.stage.Side.TheVariants.{Senders, Receivers}
 use Rattle.channel_calls.specs.declared.stage.Stage.{Stage}
 use Rattle.channel_calls.specs.declared.stage.Stage.TheVariants.{Trying, Working, Finished}
 use Rattle.channel_calls.specs.declared.stage.WaitList.{WaitList}
 use Rattle.channel_calls.specs.declared.stage.WaitList.TheVariants.{Sends, Receives, Streams, Closings}
 use Rattle.channel_steps.specs.every_run.Bridge.{Act, on_wait_lists, on_nothing, Notes}
-use Rattle.channel_history.specs.Keeps.{LeavesListeners}
+use Rattle.channel_history.specs.Keeps.{LeavesHandles, LeavesListeners}
 
 abbrev pub listed_on : WaitList → Option Key → List ListenerRef
 listed_on line key = option_to_list (held_on line key)
@@ -92,8 +95,36 @@ module _ {T W : Type 0} where
   IsLost (Trying call p) answer = (answer ≡ Some reply.Unit) × (by_purpose p ≢ [])
   IsLost at answer = ⊥
 
-pub record CallsHoldListeners (T W : Type 0) : Type 0 where
-  -- a call begins with what it is lent, and each of its steps leaves with its seat what it then has in hand
-  pub begins : (ask : ChannelAsk T W) (at : Stage (QueueCall T) T W) → Takes (first ask) at None → in_hand at ≡ lent_by ask
+  -- ---- handles: one is lent to a call that drops it, until its count is lowered; and one is made by a count that was raised
+
+  abbrev pub handles_lent : ChannelAsk T W → List Side
+  handles_lent DropSender = Senders ∷ []
+  handles_lent (DropReceiver key) = Receivers ∷ []
+  handles_lent ask = []
+
+  abbrev pub handles_at : Stage (QueueCall T) T W → List Side
+  handles_at (Working (work.Lower side key)) = side ∷ []
+  handles_at at = []
+
+  abbrev pub handles_next : Stage (QueueCall T) T W → Option (Reply T) → List Side
+  handles_next next None = handles_at next
+  handles_next next (Some r) = []
+
+  abbrev pub handles_made : Side → Stage (QueueCall T) T W → Option (Reply T) → List Side
+  handles_made side next (Some reply.Made) = side ∷ []
+  handles_made side next answer = handles_next next answer
+
+  -- after a step of a call that stood there
+  abbrev pub handles_after : Stage (QueueCall T) T W → Stage (QueueCall T) T W → Option (Reply T) → List Side
+  handles_after (Working (work.Raise side n making)) next answer = handles_made side next answer
+  handles_after at next answer = handles_next next answer
+
+  abbrev pub ActLeavesHandles : Act T W → List Side → List Side → Type 0
+  ActLeavesHandles (on_wait_lists d) has left = LeavesHandles d has left
+  ActLeavesHandles o has left = left ≡ has
+
+-- a call begins with what it is lent, and each of its steps leaves with its seat what the call then has in hand
+pub record CallsHoldTheirOwn (T W : Type 0) : Type 0 where
+  pub begins : (ask : ChannelAsk T W) (at : Stage (QueueCall T) T W) → Takes (first ask) at None → (in_hand at ≡ lent_by ask) × (handles_at at ≡ handles_lent ask)
   pub steps : (form : QueueForm) (at : Stage (QueueCall T) T W) (o : Act T W) (m : Mark) (next : Stage (QueueCall T) T W) (answer : Option (Reply T)) → ChannelMakes (Notes form) at on_nothing o m next answer
-      → ActLeaves o (in_hand at) (in_hand_after next answer) ⊎ IsLost at answer
+      → (ActLeaves o (in_hand at) (in_hand_after next answer) ⊎ IsLost at answer) × ActLeavesHandles o (handles_at at) (handles_after at next answer)

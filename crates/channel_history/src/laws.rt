@@ -2,7 +2,7 @@
 
 ghost use Rattle.channel_history.specs.Accounts.{HistoriesAreAccounted};
 ghost use Rattle.channel_history.specs.Handles.{HandlesAreCounted};
-ghost use Rattle.channel_history.specs.InHand.{CallsHoldListeners};
+ghost use Rattle.channel_history.specs.InHand.{CallsHoldTheirOwn};
 ghost use Rattle.channel_history.specs.Keeps.{DeedsDo, OpensWell, QueueOperationsKeep, SectionsKeep, CountOperationsKeep, BeginningsKeep, ArrivalsKeep, EndingsKeep, JoinsKeep, SplitsKeep};
 ghost use Rattle.channel_history.specs.Registrations.{RegistrationsAreLive};
 ghost use Rattle.channel_history.specs.Row.{ASenderIsClonedAndDropped, OneSenderIsCounted};
@@ -102,8 +102,9 @@ pub fn registrations_are_live<T, W>()
     ensures live { RegistrationsAreLive T W }
 {}
 
-/// A call has in hand the listener that lies with its seat, at each stage: what its operation lent it, what it inserted, and at the end
-/// what the operation keeps whose poll is pending.
-pub fn calls_hold_their_listeners<T, W>()
-    ensures holds { CallsHoldListeners T W }
+/// What lies with the seat of a call is what it has in hand, at each stage: the listener that its operation lent it or that it inserted,
+/// and at the end what the operation keeps whose poll is pending; the handle that it drops, until it lowers the count, and the one that
+/// it makes.
+pub fn calls_hold_their_own<T, W>()
+    ensures holds { CallsHoldTheirOwn T W }
 {}
