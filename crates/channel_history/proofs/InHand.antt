@@ -44,7 +44,7 @@ use Rattle.channel_calls.specs.declared.stage.WaitList.TheVariants.{Sends, Recei
 use Rattle.channel_calls.specs.declared.stage.Waiting.{Waiting}
 use Rattle.channel_calls.specs.declared.stage.Waiting.TheVariants as waiting
 use Rattle.channel_steps.specs.every_run.Bridge.{Act, on_wait_lists, on_nothing, Notes}
-use Rattle.channel_history.specs.InHand.{listed_on, by_closer, kept_on, lent_by, by_purpose, by_work, in_hand, in_hand_after, ActLeaves, IsLost, handles_lent, handles_at, handles_next, handles_made, handles_after, ActLeavesHandles, CallsHoldTheirOwn}
+use Rattle.channel_history.specs.InHand.{listed_on, by_closer, kept_on, lent_by, by_purpose, by_work, in_hand, in_hand_after, ActLeaves, IsOfKind, IsLost, handles_lent, handles_at, handles_next, handles_made, handles_after, ActLeavesHandles, CallsHoldTheirOwn}
 use Rattle.channel_history.specs.Keeps.{LeavesHandles, LeavesListeners}
 
 some_listener : (ls : List ListenerRef) → (ls ≡ []) ⊎ (ls ≢ [])
@@ -102,58 +102,58 @@ module _ (T W : Type 0) where
   short_none (v ∷ vs) e = refl
 
   abbrev Heeds : Purpose T W → QueueReply T → Type 0
-  Heeds p x = (own_turn (answered_next p x) ≡ (by_purpose p, [])) ⊎ (answered_next p x ≡ lost)
+  Heeds p x = (own_turn (answered_next p x) ≡ (by_purpose p, [])) ⊎ ((answered_next p x ≡ lost) × (IsOfKind p x → ⊥))
 
   polled : (line : WaitList) (key : Option Key) (task : W) (x : QueueReply T) → Heeds (purpose.Poll line key task) x
   polled Sends key task (Push (Ok u)) = inl refl
   polled Sends key task (Push (Err (push_error.Full m))) = inl (refused_hold (waiting.Send m) key task)
   polled Sends key task (Push (Err (push_error.Closed m))) = inl (ends_hold _)
   polled Sends key task (Push (Err (push_error.NoMemory m))) = inl (ends_hold _)
-  polled Sends key task x = inr refl
+  polled Sends key task x = inr (refl, λ k. k)
   polled Receives key task (Pop (Ok m)) = inl refl
   polled Receives key task (Pop (Err pop_error.Empty)) = inl (refused_hold waiting.Receive key task)
   polled Receives key task (Pop (Err pop_error.Closed)) = inl (ends_hold _)
-  polled Receives key task x = inr refl
+  polled Receives key task x = inr (refl, λ k. k)
   polled Streams key task (Pop (Ok m)) = inl refl
   polled Streams key task (Pop (Err pop_error.Empty)) = inl (refused_hold waiting.Stream key task)
   polled Streams key task (Pop (Err pop_error.Closed)) = inl (ends_hold _)
-  polled Streams key task x = inr refl
+  polled Streams key task x = inr (refl, λ k. k)
   polled Closings key task (Flag true) = inl (ends_hold _)
   polled Closings key task (Flag false) = inl (refused_hold waiting.Closing key task)
-  polled Closings key task x = inr refl
+  polled Closings key task x = inr (refl, λ k. k)
 
   heeds : (p : Purpose T W) (x : QueueReply T) → Heeds p x
   heeds purpose.TrySend (Push (Ok u)) = inl refl
   heeds purpose.TrySend (Push (Err (push_error.Full m))) = inl refl
   heeds purpose.TrySend (Push (Err (push_error.Closed m))) = inl refl
   heeds purpose.TrySend (Push (Err (push_error.NoMemory m))) = inl refl
-  heeds purpose.TrySend x = inr refl
+  heeds purpose.TrySend x = inl refl
   heeds purpose.ForceSend (Force (Ok d)) = inl refl
   heeds purpose.ForceSend (Force (Err (force_error.Closed m))) = inl refl
   heeds purpose.ForceSend (Force (Err (force_error.NoMemory m))) = inl refl
-  heeds purpose.ForceSend x = inr refl
+  heeds purpose.ForceSend x = inl refl
   heeds purpose.TryRecv (Pop (Ok m)) = inl refl
   heeds purpose.TryRecv (Pop (Err pop_error.Empty)) = inl refl
   heeds purpose.TryRecv (Pop (Err pop_error.Closed)) = inl refl
-  heeds purpose.TryRecv x = inr refl
+  heeds purpose.TryRecv x = inl refl
   heeds (purpose.RecvMany g) (Pop (Ok m)) = inl (gathers_none (with_one g m))
   heeds (purpose.RecvMany g) (Pop (Err pop_error.Empty)) = inl (short_none g.taken _)
   heeds (purpose.RecvMany g) (Pop (Err pop_error.Closed)) = inl (short_none g.taken _)
-  heeds (purpose.RecvMany g) x = inr refl
+  heeds (purpose.RecvMany g) x = inl refl
   heeds (purpose.Poll line key task) x = polled line key task x
   heeds (purpose.Close c) (Close true) = inl refl
   heeds (purpose.Close c) (Close false) = inl (closing_ends c false)
-  heeds (purpose.Close c) x = inr refl
+  heeds (purpose.Close c) x = inr (refl, λ k. k)
   heeds purpose.Ask (Flag b) = inl refl
   heeds purpose.Ask (Count n) = inl refl
   heeds purpose.Ask (Cap c) = inl refl
-  heeds purpose.Ask x = inr refl
+  heeds purpose.Ask x = inl refl
   heeds purpose.IsTerminated (Flag true) = inl refl
   heeds purpose.IsTerminated (Flag false) = inl refl
-  heeds purpose.IsTerminated x = inr refl
+  heeds purpose.IsTerminated x = inl refl
   heeds (purpose.Upgrade side) (Flag true) = inl refl
   heeds (purpose.Upgrade side) (Flag false) = inl refl
-  heeds (purpose.Upgrade side) x = inr refl
+  heeds (purpose.Upgrade side) x = inl refl
 
   abbrev HearsSo : Purpose T W → QueueCall T → Stage (QueueCall T) T W → Option (Reply T) → Type 0
   HearsSo p call next answer = ((in_hand_after next answer ≡ by_purpose p) ⊎ IsLost (Trying call p) answer) × (handles_next next answer ≡ [])
@@ -163,7 +163,7 @@ module _ (T W : Type 0) where
       let e = ap (λ (r : Option (Reply T)). own_after next r) h.1 ∙ ap (λ (s : Stage (QueueCall T) T W). own_after s None) h.0 in
       (inl (ap (λ (x : Own). x.0) e), ap (λ (x : Own). x.1) e)
   heard p call after (Some x) next answer h =
-      ⊎_elim (λ e. so (taken (answered_next p x) next answer h ∙ e)) (λ e. gone e (some_listener (by_purpose p))) (heeds p x)
+      ⊎_elim (λ e. so (taken (answered_next p x) next answer h ∙ e)) (λ e. gone e.0 (some_listener (by_purpose p))) (heeds p x)
     where
       so : own_after next answer ≡ (by_purpose p, []) → HearsSo p call next answer
       so e = (inl (ap (λ (y : Own). y.0) e), ap (λ (y : Own). y.1) e)
@@ -176,6 +176,10 @@ module _ (T W : Type 0) where
         by : (by_purpose p ≡ []) ⊎ (by_purpose p ≢ []) → (in_hand_after next answer ≡ by_purpose p) ⊎ IsLost (Trying call p) answer
         by (inl none) = inl (ap (λ (y : Own). y.0) left ∙ sym none)
         by (inr some) = inr ((subst (λ (t : NextStep T W). Takes t next answer) e h).0, some)
+
+  of_kind : (p : Purpose T W) (x : QueueReply T) (next : Stage (QueueCall T) T W) (answer : Option (Reply T)) → Takes (answered_next p x) next answer → IsOfKind p x → in_hand_after next answer ≡ by_purpose p
+  of_kind p x next answer takes kind =
+      ap (λ (y : Own). y.0) (taken (answered_next p x) next answer takes) ∙ ⊎_elim (λ e. ap (λ (y : Own). y.0) e) (λ e. absurd (e.1 kind)) (heeds p x)
 
   -- ---- a step on a list or a count
 
@@ -321,4 +325,5 @@ calls_hold_their_own T W = record {
       let e = taken T W (first a) at None takes ∙ first_holds T W a in
       (ap (λ (x : List ListenerRef × List Side). x.0) e, ap (λ (x : List ListenerRef × List Side). x.1) e);
   steps = steps_hold T W;
+  answers = of_kind T W;
 }

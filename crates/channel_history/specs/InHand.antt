@@ -2,10 +2,13 @@
 -- poll is pending; a handle that is dropped is lent to the call that lowers its count, and one that is made comes of the call that raised
 -- it.
 use Rattle.std.specs.Prelude.{◌≡◌, ◌≢◌, ◌⊎◌, List, [], ◌∷◌, Option, None, Some, option_to_list}
+use Rattle.concurrent_queue.specs.declared.call.QueueReply.{QueueReply}
+use Rattle.concurrent_queue.specs.declared.call.QueueReply.TheVariants.{Push, Pop, Close, Flag}
 use Rattle.concurrent_queue.specs.declared.cells.QueueForm.{QueueForm}
 use Rattle.concurrent_queue.specs.declared.queue_call.QueueCall.{QueueCall}
 use Rattle.event_listener.specs.declared.key.Key.{Key}
 use Rattle.futures.specs.declared.task.Poll.TheVariants.{Pending}
+use Rattle.channel_calls.specs.Answered.{answered_next}
 use Rattle.channel_calls.specs.Asks.{first, kept_by}
 use Rattle.channel_calls.specs.Turns.{held_on, line_of, dropper}
 use Rattle.channel_calls.specs.Walks.{Takes, ChannelMakes}
@@ -90,7 +93,18 @@ module _ {T W : Type 0} where
   ActLeaves (on_wait_lists d) has left = LeavesListeners d has left
   ActLeaves o has left = left ≡ has
 
-  -- its call of the queue answered in another kind than it was asked in, which none does, and ended this call
+  -- a call of the queue that is made for this answers so, where this call has a listener in hand
+  abbrev pub IsOfKind : Purpose T W → QueueReply T → Type 0
+  IsOfKind (purpose.Poll Sends key task) (Push r) = Unit {0}
+  IsOfKind (purpose.Poll Receives key task) (Pop r) = Unit {0}
+  IsOfKind (purpose.Poll Streams key task) (Pop r) = Unit {0}
+  IsOfKind (purpose.Poll Closings key task) (Flag b) = Unit {0}
+  IsOfKind (purpose.Poll line key task) x = ⊥
+  IsOfKind (purpose.Close c) (Close b) = Unit {0}
+  IsOfKind (purpose.Close c) x = ⊥
+  IsOfKind p x = Unit {0}
+
+  -- its call of the queue answered in another kind, which none does, and ended this call
   abbrev pub IsLost : Stage (QueueCall T) T W → Option (Reply T) → Type 0
   IsLost (Trying call p) answer = (answer ≡ Some reply.Unit) × (by_purpose p ≢ [])
   IsLost at answer = ⊥
@@ -128,3 +142,5 @@ pub record CallsHoldTheirOwn (T W : Type 0) : Type 0 where
   pub begins : (ask : ChannelAsk T W) (at : Stage (QueueCall T) T W) → Takes (first ask) at None → (in_hand at ≡ lent_by ask) × (handles_at at ≡ handles_lent ask)
   pub steps : (form : QueueForm) (at : Stage (QueueCall T) T W) (o : Act T W) (m : Mark) (next : Stage (QueueCall T) T W) (answer : Option (Reply T)) → ChannelMakes (Notes form) at on_nothing o m next answer
       → (ActLeaves o (in_hand at) (in_hand_after next answer) ⊎ IsLost at answer) × ActLeavesHandles o (handles_at at) (handles_after at next answer)
+  -- an answer of the queue that is of its kind loses nothing
+  pub answers : (p : Purpose T W) (x : QueueReply T) (next : Stage (QueueCall T) T W) (answer : Option (Reply T)) → Takes (answered_next p x) next answer → IsOfKind p x → in_hand_after next answer ≡ by_purpose p
