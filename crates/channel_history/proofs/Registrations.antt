@@ -1,18 +1,17 @@
 -- Whoever has a listener was told, or waits.
 use Rattle.std.proofs.Common.{◌≡◌, ◌≤◌, ◌⊎◌, inl, inr, Bool, true, false, List, [], ◌∷◌, if◌then◌else◌, is_some, refl, sym, ap, arith}
 use Rattle.std.specs.Prelude.{Option, None, Some}
-use Rattle.futures.specs.Pool.Weights.{total}
-use Rattle.futures.proofs.Pool.Sums.{term_le}
 use Rattle.event_listener.specs.Lists.{same_key, told_as, waits_as, kind_of}
 use Rattle.event_listener.specs.declared.key.Key.{Key}
 use Rattle.channel_calls.specs.Parts.{Listeners}
 use Rattle.channel_steps.specs.every_run.Closed.{one_if}
 use Rattle.channel_steps.specs.every_run.Waits.{IsIn}
-use Rattle.channel_history.specs.History.{is_listener, is_key, times}
+use Rattle.channel_history.specs.History.{total, is_listener, is_key, times}
 use Rattle.channel_history.specs.Registrations.{RegistrationsAreLive}
 use Rattle.channel_history.specs.declared.party.Standing.{Standing}
 use Rattle.channel_history.proofs.Passing.{listed_at_head}
 use Rattle.channel_history.proofs.Times.{same_is, absent}
+use Rattle.channel_history.proofs.Together.{total_has}
 
 module _ {W : Type 0} where
   is_in : (key : Key) (es : List (Key × Option W)) → 1 ≤ total (is_key key) es → IsIn key es
@@ -35,7 +34,7 @@ registrations_are_live T W form views cells senders receivers h line key =
       is = lie.listed line key;
       once = lie.once line key;
       live = λ p v others there has.
-          let least = term_le (λ (s : Standing T W). total (is_listener line key) s.own.listeners) views p v there in
+          let least = total_has (λ (s : Standing T W). total (is_listener line key) s.own.listeners) views p v there in
           let here = listed_at_head line key v.own.listeners others has in
           let all = lie.listed line key in
           told_or_waits key (h.listening line) (omega (arith, least, here, all));

@@ -23,7 +23,8 @@ pub fn a_new_channel_has_a_history<T, W>()
 
 /// What the machine of a party does next keeps the history, where it does to the channel what it answers: an operation on a cell of
 /// the queue, a section on the list that lies with the party's seat, an operation on a count. A count that was raised leaves a handle
-/// with the seat, and a lowering takes one away; so do an insertion, and a removal, with a listener. Each may be preceded by steps of its call that touch nothing.
+/// with the seat, and a lowering takes one away; an insertion leaves a listener with it, and a removal takes one away. Each may be
+/// preceded by steps of its call that touch nothing.
 pub fn operations_keep_the_history<T, W>()
     ensures queue { QueueOperationsKeep T W }
     ensures list { SectionsKeep T W }
