@@ -4,7 +4,7 @@ ghost use Rattle.channel_history.specs.Accounts.{HistoriesAreAccounted};
 ghost use Rattle.channel_history.specs.Handles.{HandlesAreCounted};
 ghost use Rattle.channel_history.specs.InHand.{CallsHoldTheirOwn};
 ghost use Rattle.channel_history.specs.Keeps.{DeedsDo, OpensWell, QueueOperationsKeep, SectionsKeep, CountOperationsKeep, BeginningsKeep, ArrivalsKeep, EndingsKeep, JoinsKeep, SplitsKeep};
-ghost use Rattle.channel_history.specs.Registrations.{RegistrationsAreLive};
+ghost use Rattle.channel_history.specs.Registrations.{PendingWaitRightly, RegistrationsAreLive};
 ghost use Rattle.channel_history.specs.Row.{ASenderIsClonedAndDropped, OneSenderIsCounted};
 ghost use Rattle.channel_history.specs.Says.{EachMomentIsSaid, HistoriesAreRuns, NobodyIsMissedAtRest};
 ghost use Rattle.channel_history.specs.Steps.{PartiesGoOn};
@@ -98,9 +98,11 @@ pub fn handles_are_counted<T, W>()
 {}
 
 /// Each listener that lies with a seat is on its list: it was told, or it waits. Each that is on a list lies with one seat, and no other
-/// has it.
+/// has it. So where no call is under way whoever is pending was told, or waits in an open channel for a free place or a message that is
+/// not there.
 pub fn registrations_are_live<T, W>()
     ensures live { RegistrationsAreLive T W }
+    ensures rest { PendingWaitRightly T W }
 {}
 
 /// What lies with the seat of a call is what it has in hand, at each stage: the listener that its operation lent it or that it inserted,
