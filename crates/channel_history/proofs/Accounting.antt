@@ -7,8 +7,9 @@ use Rattle.channel_calls.specs.declared.reply.Reply.{Reply}
 use Rattle.channel_calls.specs.declared.whole.Completed.{Completed}
 use Rattle.channel_steps.specs.Configuration.{ActiveCall, sees, unless_ended}
 use Rattle.channel_steps.specs.every_run.Ends.{Each}
-use Rattle.channel_history.specs.Accounts.{accepted_of, taken_of, messages, of_party, all_accepted, all_taken, asked_in, given_in, of_call, asks_in, brings_in, takes_out, PartyAccount}
+use Rattle.channel_history.specs.Accounts.{accepted_of, taken_of, messages, of_party, all_accepted, all_taken, asked_in, given_in, of_call, asks_in, brings_in, takes_out, IsAnswered, PartyAccount}
 use Rattle.channel_history.proofs.ByViews.{AllDiffer}
+use Rattle.channel_history.proofs.Together.{each_on}
 
 -- ---- messages with their parties
 
@@ -125,6 +126,7 @@ module _ {T W : Type 0} (p : ℕ) where
     calls = a.calls;
     asked_so = e ∙ a.asked_so ∙ ap (λ (vs : List (ActiveCall T W)). asked_in a.calls ++ of_call asks_in p vs) (sym i);
     given_so = f ∙ a.given_so;
+    answered = a.answered;
     accepted_so = g ∙ a.accepted_so ∙ ap (λ (vs : List (ActiveCall T W)). all_accepted a.calls ++ of_call brings_in p vs) (sym i);
     taken_so = h ∙ a.taken_so ∙ ap (λ (vs : List (ActiveCall T W)). all_taken a.calls ++ of_call takes_out p vs) (sym i);
   }
@@ -137,6 +139,7 @@ module _ {T W : Type 0} (p : ℕ) where
     calls = a.calls;
     asked_so = a.asked_so ∙ ap (λ (l : List (ChannelAsk T W)). asked_in a.calls ++ l) (sym e);
     given_so = a.given_so;
+    answered = a.answered;
     accepted_so = a.accepted_so ∙ ap (λ (l : List T). all_accepted a.calls ++ l) (sym f);
     taken_so = a.taken_so ∙ ap (λ (l : List T). all_taken a.calls ++ l) (sym g);
   }
@@ -150,6 +153,7 @@ module _ {T W : Type 0} (p : ℕ) where
     asked_so = ap (λ (l : List (ChannelAsk T W)). l ++ u.ask ∷ []) (a.asked_so ∙ ap (λ (l : List (ChannelAsk T W)). asked_in a.calls ++ l) (of_none asks_in p us none) ∙ append-nil (asked_in a.calls))
         ∙ ap (λ (l : List (ChannelAsk T W)). asked_in a.calls ++ l) (sym (of_behind asks_in p us (u ∷ []) none ∙ of_first asks_in p u [] mine));
     given_so = a.given_so;
+    answered = a.answered;
     accepted_so = a.accepted_so
         ∙ ap (λ (l : List T). all_accepted a.calls ++ l) (of_none brings_in p us none ∙ sym no_in ∙ sym (of_behind brings_in p us (u ∷ []) none ∙ of_first brings_in p u [] mine));
     taken_so = a.taken_so
@@ -191,17 +195,19 @@ module _ {T W : Type 0} (p : ℕ) where
         asked_so = a.asked_so
             ∙ ap (λ (l : List (ChannelAsk T W)). asked_in a.calls ++ l) (was asks_in ∙ ap (λ (x : ChannelAsk T W). x ∷ []) (sym same) ∙ sym (goes asks_in));
         given_so = a.given_so;
+        answered = a.answered;
         accepted_so = acc_now ∙ ap (λ (l : List T). all_accepted a.calls ++ l) (sym (goes brings_in));
         taken_so = tak_now ∙ ap (λ (l : List T). all_taken a.calls ++ l) (sym (goes takes_out));
       }
 
-      pub has_ended : (x : Completed T) → brings_in v ≡ accepted_of u.ask x.reply → takes_out v ≡ taken_of x.reply
+      pub has_ended : (x : Completed T) → IsAnswered u.ask x → brings_in v ≡ accepted_of u.ask x.reply → takes_out v ≡ taken_of x.reply
           → PartyAccount p asked (given ++ x ∷ []) (acc ++ ins) (tak ++ outs) (map (sees c) before ++ map (sees c) behind)
-      has_ended x row_brings row_takes = record {
+      has_ended x is row_brings row_takes = record {
         calls = a.calls ++ (u.ask, x) ∷ [];
         asked_so = a.asked_so ∙ ap (λ (l : List (ChannelAsk T W)). asked_in a.calls ++ l) (was asks_in) ∙ sym (asked_in_more a.calls (u.ask, x))
             ∙ sym (append-nil (asked_in (a.calls ++ (u.ask, x) ∷ []))) ∙ ap (λ (l : List (ChannelAsk T W)). asked_in (a.calls ++ (u.ask, x) ∷ []) ++ l) (sym (ended asks_in));
         given_so = ap (λ (l : List (Completed T)). l ++ x ∷ []) a.given_so ∙ sym (given_in_more a.calls (u.ask, x));
+        answered = each_on (λ (c : ChannelAsk T W × Completed T). IsAnswered c.0 c.1) a.calls ((u.ask, x) ∷ []) a.answered (is, tt);
         accepted_so = acc_now ∙ ap (λ (l : List T). all_accepted a.calls ++ l) row_brings ∙ sym (accepted_more a.calls (u.ask, x))
             ∙ sym (append-nil (all_accepted (a.calls ++ (u.ask, x) ∷ []))) ∙ ap (λ (l : List T). all_accepted (a.calls ++ (u.ask, x) ∷ []) ++ l) (sym (ended brings_in));
         taken_so = tak_now ∙ ap (λ (l : List T). all_taken a.calls ++ l) row_takes ∙ sym (taken_more a.calls (u.ask, x))

@@ -15,7 +15,7 @@ use Rattle.channel_steps.specs.every_run.BridgeHeadline.{MergeStepSays, MergeWor
 use Rattle.channel_steps.specs.every_run.EndSays.{EndSays}
 use Rattle.channel_steps.specs.every_run.Ends.{Each}
 use Rattle.channel_steps.specs.every_run.Marked.{brought_by}
-use Rattle.channel_history.specs.Accounts.{accepted_of, of_party, of_call, asks_in, brings_in, takes_out, PartyAccount, Accounts, HistoriesAreAccounted}
+use Rattle.channel_history.specs.Accounts.{accepted_of, of_party, of_call, asks_in, brings_in, takes_out, IsAnswered, PartyAccount, Accounts, HistoriesAreAccounted}
 use Rattle.channel_history.specs.History.{appends}
 use Rattle.channel_history.specs.Party.{asks_of, standing_of}
 use Rattle.channel_history.proofs.Accounting.{tagged, messages_more, party_mine, party_other, of_first, of_begun, of_stepped, restate, other_calls, begins_one, goes_on, has_ended}
@@ -134,6 +134,7 @@ module _ {T W : Type 0} where
         (ap (λ (k : Option (Returned T)). given q ++ given_by (Some r) k) end.leaves) refl refl refl
         (has_ended q n.configuration.now w.before w.call w.after w.behind (subst (λ (us : List (ActiveCall T W)). AllDiffer us) w.under_way differ) w.party same_party
         (asked q) (given q) (of_party q acc.accepted) (of_party q acc.taken) Ins Outs same_ask brings takes (there q) x
+        (subst (λ (a : ChannelAsk T W). IsAnswered a x) same_ask (w.after.marks, w.after.seen, met, end.keeps))
         (row_in w.after.ask w.after.marks met.1 r met.3 ∙ ap (λ (a : ChannelAsk T W). accepted_of a r) same_ask)
         (row_out w.after.ask w.after.marks met.1 r met.3))
 
@@ -191,7 +192,7 @@ module _ {T W : Type 0} where
     taken = [];
     all_came = refl;
     all_left = refl;
-    each = λ p. record { calls = []; asked_so = refl; given_so = refl; accepted_so = refl; taken_so = refl };
+    each = λ p. record { calls = []; asked_so = refl; given_so = refl; answered = tt; accepted_so = refl; taken_so = refl };
   }
 
 pub histories_are_accounted : (T W : Type 0) → HistoriesAreAccounted T W

@@ -1,8 +1,6 @@
 -- An operation on a count keeps a history, with the handles; and what the counts say.
 use Rattle.std.proofs.Common.{◌≡◌, ◌≢◌, ℕ, ◌≤◌, ◌<◌, ◌^◌, List, [], ◌∷◌, ◌++◌, map, refl, sym, ap, subst, arith}
 use Rattle.std.specs.Prelude.{slice_set}
-use Rattle.futures.specs.Pool.Weights.{total}
-use Rattle.futures.proofs.Pool.Sums.{total-set, term_le}
 use Rattle.concurrent_queue.specs.machine.Places.{Each}
 use Rattle.event_listener.specs.Lists.{ListView}
 use Rattle.channel_calls.specs.Deeds.{woken_by}
@@ -11,14 +9,14 @@ use Rattle.channel_calls.specs.declared.stage.Side.TheVariants.{Senders, Receive
 use Rattle.channel_calls.specs.declared.stage.WaitList.{WaitList}
 use Rattle.channel_steps.specs.every_run.Bridge.{does, on_wait_lists}
 use Rattle.channel_history.specs.Handles.{HandlesAreCounted}
-use Rattle.channel_history.specs.History.{count_of, is_handle, handles_of, is_list, IsTrue, among, parts_of, LieWithSeats}
+use Rattle.channel_history.specs.History.{total, count_of, is_handle, handles_of, is_list, IsTrue, among, parts_of, LieWithSeats}
 use Rattle.channel_history.specs.Keeps.{IsAt, CountOperationsKeep}
 use Rattle.channel_history.specs.declared.party.Standing.{Standing}
 use Rattle.channel_history.proofs.Counting.{counts_fit}
 use Rattle.channel_history.proofs.Goes.{all_woken, order_last, goes_on}
 use Rattle.channel_history.proofs.Keeping.{leads_now, others_now}
 use Rattle.channel_history.proofs.Passing.{handles_now, listed_now, once_now}
-use Rattle.channel_history.proofs.Together.{each_at, each_set}
+use Rattle.channel_history.proofs.Together.{total_set, total_has, each_at, each_set}
 
 pub count_operations_keep : (T W : Type 0) → CountOperationsKeep T W
 count_operations_keep T W form views c n m n' m' p v w o h there (os, quiet, l) same leaves changes =
@@ -30,7 +28,7 @@ count_operations_keep T W form views c n m n' m' p v w o h there (os, quiet, l) 
     lie : LieWithSeats (slice_set views p w) h.listening n' m'
     lie = let before = h.lie in let did = changes (parts_of c h.listening n m) refl refl in record {
       lists = λ line.
-          let set = total-set (λ (s : Standing T W). total (is_list line) s.own.lists) views p v w there in
+          let set = total_set (λ (s : Standing T W). total (is_list line) s.own.lists) views p v w there in
           let e = ap (λ (l : List (WaitList × ListView Unit W)). total (is_list line) l) same in
           let one = before.lists line in
           omega (arith, set, e, one);
@@ -54,7 +52,7 @@ module _ {T W : Type 0} where
   at_least_one views side n p v others is there has none =
       let here = one_here side others in
       let e = ap (λ (l : List Side). total (is_handle side) l) has in
-      let least = term_le (λ (s : Standing T W). total (is_handle side) s.own.handles) views p v there in
+      let least = total_has (λ (s : Standing T W). total (is_handle side) s.own.handles) views p v there in
       absurd (omega (arith, here, e, least, is, none))
 
 pub handles_are_counted : (T W : Type 0) → HandlesAreCounted T W

@@ -12,6 +12,7 @@ mod Sections
 mod Deeds
 mod Handles
 mod Registrations
+mod InHand
 mod Joining
 mod Splitting
 mod Row

@@ -1,18 +1,16 @@
 -- What lies with the seats together stays what it was where one seat's view says of it what it said, and where it goes from seat to seat.
 use Rattle.std.proofs.Common.{◌≡◌, ◌≢◌, ℕ, List, [], ◌∷◌, ◌++◌, refl, sym, ap, ◌∙◌, subst, arith}
 use Rattle.std.specs.Prelude.{slice_set}
-use Rattle.futures.specs.Pool.Weights.{total}
-use Rattle.futures.proofs.Pool.Sums.{total-append, total-set}
 use Rattle.concurrent_queue.specs.machine.Places.{Each}
 use Rattle.channel_calls.specs.Parts.{Listeners}
 use Rattle.channel_calls.specs.declared.stage.WaitList.{WaitList}
-use Rattle.channel_history.specs.History.{lists_of, handles_of, listeners_of, among, AllAre, LieWithSeats}
+use Rattle.channel_history.specs.History.{total, lists_of, handles_of, listeners_of, among, AllAre, LieWithSeats}
 use Rattle.channel_history.specs.Keeps.{IsAt}
 use Rattle.channel_history.specs.Party.{nothing, both, fresh, with_own}
 use Rattle.channel_history.specs.declared.party.Belongings.{Belongings}
 use Rattle.channel_history.specs.declared.party.Standing.{Standing}
 use Rattle.channel_history.proofs.Seats.{set_else}
-use Rattle.channel_history.proofs.Together.{each_at, each_set, each_on, each_before, each_behind}
+use Rattle.channel_history.proofs.Together.{total_on, total_set, each_at, each_set, each_on, each_before, each_behind}
 
 -- of two together it is what it is of each
 abbrev pub Adds : {W X : Type 0} → (Belongings W → List X) → Type 0
@@ -47,7 +45,7 @@ module _ {T W : Type 0} where
       → LieWithSeats (slice_set views p w) f n m
   lie_kept views p v w there same =
       lie_still views (slice_set views p w)
-      (λ X of adds weigh. let set = total-set (weight of weigh) views p v w there in let e = ap (λ (o : Belongings W). total weigh (of o)) same in omega (arith, set, e))
+      (λ X of adds weigh. let set = total_set (weight of weigh) views p v w there in let e = ap (λ (o : Belongings W). total weigh (of o)) same in omega (arith, set, e))
       (λ X of adds P h. each_set (AllOf of P) views p w h (subst (λ (o : Belongings W). Each P (of o)) (sym same) (each_at (AllOf of P) views p v there h)))
 
   -- a seat comes with nothing
@@ -55,7 +53,7 @@ module _ {T W : Type 0} where
   lie_with_new views w none =
       lie_still views (views ++ w ∷ [])
       (λ X of adds weigh.
-      let on = total-append (weight of weigh) views (w ∷ []) in
+      let on = total_on (weight of weigh) views (w ∷ []) in
       let e = ap (λ (o : Belongings W). total weigh (of o)) none ∙ ap (λ (l : List X). total weigh l) adds.1 in omega (arith, on, e))
       (λ X of adds P h. each_on (AllOf of P) views (w ∷ []) h (subst (λ (o : Belongings W). Each P (of o)) (sym none) (subst (λ (l : List X). Each P l) (sym adds.1) tt), tt))
 
@@ -74,9 +72,9 @@ module _ {T W : Type 0} where
     lie_joined =
         lie_still views (slice_set First q Spent)
         (λ X of adds weigh.
-        let first = total-set (weight of weigh) views p v Both at_p in
-        let last = total-set (weight of weigh) First q w Spent (set_else views p q Both apart ∙ at_q) in
-        let sum = ap (λ (l : List X). total weigh l) (adds.0 v.own w.own) ∙ total-append weigh (of v.own) (of w.own) in
+        let first = total_set (weight of weigh) views p v Both at_p in
+        let last = total_set (weight of weigh) First q w Spent (set_else views p q Both apart ∙ at_q) in
+        let sum = ap (λ (l : List X). total weigh l) (adds.0 v.own w.own) ∙ total_on weigh (of v.own) (of w.own) in
         let none = ap (λ (l : List X). total weigh l) adds.1 in
         omega (arith, first, last, sum, none))
         (λ X of adds P h.
@@ -97,9 +95,9 @@ module _ {T W : Type 0} where
     lie_split =
         lie_still views (Left ++ Gone ∷ [])
         (λ X of adds weigh.
-        let first = total-set (weight of weigh) views p v (with_own stays v) at_p in
-        let last = total-append (weight of weigh) Left (Gone ∷ []) in
-        let sum = ap (λ (o : Belongings W). total weigh (of o)) cut ∙ ap (λ (l : List X). total weigh l) (adds.0 stays goes) ∙ total-append weigh (of stays) (of goes) in
+        let first = total_set (weight of weigh) views p v (with_own stays v) at_p in
+        let last = total_on (weight of weigh) Left (Gone ∷ []) in
+        let sum = ap (λ (o : Belongings W). total weigh (of o)) cut ∙ ap (λ (l : List X). total weigh l) (adds.0 stays goes) ∙ total_on weigh (of stays) (of goes) in
         omega (arith, first, last, sum))
         (λ X of adds P h.
         let had : Each P (of stays ++ of goes) =

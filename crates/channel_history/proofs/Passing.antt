@@ -2,8 +2,6 @@
 use Rattle.std.proofs.Common.{◌≡◌, ℕ, ◌+◌, ◌-◌, ◌≤◌, ◌&&◌, Bool, true, false, List, ◌∷◌, if◌then◌else◌, refl, sym, ap, ◌∙◌, subst, true≢false, arith}
 use Rattle.std.proofs.lemmas.Bool.Decides.{nat_tests}
 use Rattle.std.specs.Prelude.{slice_set, None, Some, Ok, Err}
-use Rattle.futures.specs.Pool.Weights.{total}
-use Rattle.futures.proofs.Pool.Sums.{total-set, term_le}
 use Rattle.concurrent_queue.specs.Contents.{Contents}
 use Rattle.event_listener.specs.Lists.{same_key}
 use Rattle.event_listener.specs.declared.key.Key.{Key}
@@ -17,12 +15,13 @@ use Rattle.channel_calls.specs.declared.stage.WaitList.{WaitList}
 use Rattle.channel_calls.specs.declared.stage.WaitList.TheVariants.{Sends, Receives, Streams, Closings}
 use Rattle.channel_steps.specs.every_run.Bridge.{does, on_wait_lists}
 use Rattle.channel_steps.specs.every_run.Closed.{one_if}
-use Rattle.channel_history.specs.History.{is_line, is_side, count_of, is_handle, is_listener, listeners_of, handles_of, among, times, parts_of, LieWithSeats}
+use Rattle.channel_history.specs.History.{total, is_line, is_side, count_of, is_handle, is_listener, listeners_of, handles_of, among, times, parts_of, LieWithSeats}
 use Rattle.channel_history.specs.Keeps.{IsAt, LeavesHandles, LeavesListeners, Leaves}
 use Rattle.channel_history.specs.Says.{counted_on}
 use Rattle.channel_history.specs.declared.party.Standing.{Standing}
 use Rattle.channel_history.proofs.Counting.{by_deed}
 use Rattle.channel_history.proofs.Times.{same_is, told_same, listened_more, unlisted, removed_out, registered_out, registered_same}
+use Rattle.channel_history.proofs.Together.{total_set, total_has}
 
 -- ---- lists and keys
 
@@ -244,7 +243,7 @@ module _ {T W : Type 0} where
 
     pub handles_now : (side : Side) → among handles_of (is_handle side) (slice_set views p w) ≡ count_of side n' m'
     handles_now side =
-        let set = total-set (λ (s : Standing T W). number side s.own.handles) views p v w there in
+        let set = total_set (λ (s : Standing T W). number side s.own.handles) views p v w there in
         follow side v.own.handles w.own.handles (count_of side n m) (among handles_of (is_handle side) views) (among handles_of (is_handle side) (slice_set views p w))
         set (h.handles side) o leaves.0 ∙ sym (counted_so side)
 
@@ -255,7 +254,7 @@ module _ {T W : Type 0} where
     fits x k =
         let all = h.listed x k in
         let at = ap (λ (l : Listeners W). times k l) (found x c f n m) in
-        let least = term_le (λ (s : Standing T W). listed_in x k s.own.listeners) views p v there in
+        let least = total_has (λ (s : Standing T W). listed_in x k s.own.listeners) views p v there in
         omega (arith, all, at, least)
 
     tally : Follows v.own.listeners w.own.listeners (Beside c f n m) (Beside c f' n' m')
@@ -263,7 +262,7 @@ module _ {T W : Type 0} where
 
     pub listed_now : (x : WaitList) (k : Key) → among listeners_of (is_listener x k) (slice_set views p w) ≡ times k (f' x)
     listed_now x k =
-        let set = total-set (λ (s : Standing T W). listed_in x k s.own.listeners) views p v w there in
+        let set = total_set (λ (s : Standing T W). listed_in x k s.own.listeners) views p v w there in
         let all = h.listed x k in
         let before = ap (λ (l : Listeners W). times k l) (found x c f n m) in
         let after = ap (λ (l : Listeners W). times k l) (found x c f' n' m') in

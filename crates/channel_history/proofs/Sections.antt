@@ -1,8 +1,6 @@
 -- A section on a list that lies with the party's seat keeps a history.
 use Rattle.std.proofs.Common.{◌≡◌, ℕ, ◌+◌, Bool, true, false, List, [], ◌∷◌, ◌++◌, map, if◌then◌else◌, refl, sym, ap, ◌∙◌, subst, arith}
 use Rattle.std.specs.Prelude.{slice_set}
-use Rattle.futures.specs.Pool.Weights.{total}
-use Rattle.futures.proofs.Pool.Sums.{total-set}
 use Rattle.concurrent_queue.specs.Contents.{Contents}
 use Rattle.concurrent_queue.specs.declared.cells.QueueForm.{QueueForm}
 use Rattle.concurrent_queue.specs.machine.Places.{Each}
@@ -14,13 +12,13 @@ use Rattle.channel_calls.specs.declared.stage.WaitList.{WaitList}
 use Rattle.channel_calls.specs.declared.stage.WaitList.TheVariants.{Sends, Receives, Streams, Closings}
 use Rattle.channel_steps.specs.every_run.Bridge.{does, on_wait_lists}
 use Rattle.channel_steps.specs.every_run.Closed.{one_if}
-use Rattle.channel_history.specs.History.{is_line, is_list, IsTrue, parts_of, LieWithSeats, IsChannelHistory}
+use Rattle.channel_history.specs.History.{total, is_line, is_list, IsTrue, parts_of, LieWithSeats, IsChannelHistory}
 use Rattle.channel_history.specs.Keeps.{IsAt, ChangesList, Leaves, SectionsKeep}
 use Rattle.channel_history.specs.declared.party.Standing.{Standing}
 use Rattle.channel_history.proofs.Goes.{all_woken, order_last, goes_on}
 use Rattle.channel_history.proofs.Keeping.{leads_now, others_now}
 use Rattle.channel_history.proofs.Passing.{itself, found, handles_now, listed_now, once_now}
-use Rattle.channel_history.proofs.Together.{each_at, all_keep, others_keep}
+use Rattle.channel_history.proofs.Together.{total_set, each_at, all_keep, others_keep}
 
 module _ {W : Type 0} where
   abbrev put : WaitList → Listeners W → (WaitList → Listeners W) → WaitList → Listeners W
@@ -72,7 +70,7 @@ module _ {T W : Type 0} (form : QueueForm) (views : List (Standing T W)) (c : Co
   pub lie_after : LieWithSeats (slice_set views p w) Put n m
   lie_after = let lie = h.lie in record {
     lists = λ x.
-        let set = total-set (λ (s : Standing T W). total (is_list x) s.own.lists) views p v w there in
+        let set = total_set (λ (s : Standing T W). total (is_list x) s.own.lists) views p v w there in
         let was = ap (λ (ls : List (WaitList × ListView Unit W)). total (is_list x) ls) has in
         let is = ap (λ (ls : List (WaitList × ListView Unit W)). total (is_list x) ls) left in
         let one = lie.lists x in

@@ -53,6 +53,7 @@ parties_go_on T W = record {
   begins = λ form s ask at idle takes. begins_so form s ask at idle takes;
   makes = λ form s t o step. ([], tt, by_step form s t o step);
   later = λ form s t u q o still step next. (q ∷ next.0, (still, next.1), leads_on form s t u (does q ∷ []) (map does (next.0 ++ o ∷ [])) (by_step form s t q step) next.2);
+  leaves = λ form s t o own (os, still, l). (os, still, record { more = l.more; acts = l.acts; given = l.given; asked = l.asked });
   ended = λ form s idle. ([], tt, nowhere form s, idle);
   ends = λ form s t u q still step next. (q ∷ next.0, (still, next.1), leads_on form s t u (does q ∷ []) (map does next.0) (by_step form s t q step) next.2, next.3);
 }

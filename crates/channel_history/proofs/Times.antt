@@ -3,15 +3,14 @@ use Rattle.std.proofs.Common.{◌≡◌, ℕ, zero, suc, ◌+◌, ◌≤◌, Boo
 use Rattle.std.proofs.lemmas.Bool.Decides.{nat_tests}
 use Rattle.std.specs.Prelude.{not, Option, None, Some}
 use Rattle.std.specs.Map.{lookup, remove_entry, set_value}
-use Rattle.futures.specs.Pool.Weights.{total}
-use Rattle.futures.proofs.Pool.Sums.{total-append}
 use Rattle.event_listener.specs.Lists.{Notice, same_key, told_as, waits_as, kind_of, listened, without, with_task, told_with, moved, notified, passed, registration, removed}
 use Rattle.event_listener.specs.declared.key.Key.{Key}
 use Rattle.channel_calls.specs.Parts.{Listeners, told_as as told_by_telling, told_more, told_one, Registers}
 use Rattle.channel_calls.specs.declared.stage.Telling.{Telling}
 use Rattle.channel_calls.specs.declared.stage.Telling.TheVariants.{One, More, All}
 use Rattle.channel_steps.specs.every_run.Closed.{one_if}
-use Rattle.channel_history.specs.History.{is_key, times}
+use Rattle.channel_history.specs.History.{total, is_key, times}
+use Rattle.channel_history.proofs.Together.{total_on}
 
 pub same_is : (a b : Key) → same_key a b ≡ true → a ≡ b
 same_is a b e =
@@ -76,7 +75,7 @@ module _ {W : Type 0} (k : Key) where
 
   notified_same : (a : Bool) (tags : List Unit) (l : Listeners W) → times k (notified a tags l) ≡ times k l
   notified_same a tags l =
-      let on = total-append (is_key k) l.told (told_with a (take (length tags) l.waiting) tags) in
+      let on = total_on (is_key k) l.told (told_with a (take (length tags) l.waiting) tags) in
       let over = told_over a l.waiting tags in
       omega (arith, on, over)
 
@@ -91,12 +90,12 @@ module _ {W : Type 0} (k : Key) where
   told_same One l = passed_same (record { additional = true; tag = tt }) l
   told_same (More n) l = more_same n l
   told_same All l =
-      let on = total-append (is_key k) l.told (told_with false l.waiting (map (λ w. tt {0}) l.waiting)) in
+      let on = total_on (is_key k) l.told (told_with false l.waiting (map (λ w. tt {0}) l.waiting)) in
       let over = all_over l.waiting in
       omega (arith, on, over)
 
   pub listened_more : (key : Key) (l : Listeners W) → times k (listened key l) ≡ times k l + one_if (same_key k key)
-  listened_more key l = let on = total-append (is_key k) l.waiting ((key, None) ∷ []) in omega (arith, on)
+  listened_more key l = let on = total_on (is_key k) l.waiting ((key, None) ∷ []) in omega (arith, on)
 
 module _ {W : Type 0} (key : Key) (l : Listeners W) where
   abbrev kind : Bool → Bool → Option Bool

@@ -1,13 +1,27 @@
 -- Numbers over all of a list, and what holds of each of it, after one of it has changed or one has come.
-use Rattle.std.proofs.Common.{◌≡◌, ℕ, zero, suc, ◌≤◌, List, [], ◌∷◌, ◌++◌, sym, ap, subst, arith}
+use Rattle.std.proofs.Common.{◌≡◌, ℕ, zero, suc, ◌+◌, ◌≤◌, List, [], ◌∷◌, ◌++◌, sym, ap, subst, arith}
 use Rattle.std.specs.Prelude.{slice_set}
 use mathlib.Core.Option.{some, some-ne-none, some-injective}
 use lib.ListN.{get_elem?}
-use Rattle.futures.specs.Pool.Weights.{total}
-use Rattle.futures.proofs.Pool.Sums.{term_le}
 use Rattle.concurrent_queue.specs.machine.Places.{Each}
+use Rattle.channel_history.specs.History.{total}
 
 module _ {V : Type 0} where
+  module _ (f : V → ℕ) where
+    pub total_on : (l m : List V) → total f (l ++ m) ≡ total f l + total f m
+    total_on [] m = omega arith
+    total_on (x ∷ xs) m = let rest = total_on xs m in omega (arith, rest)
+
+    pub total_set : (l : List V) (p : ℕ) (v w : V) → get_elem? l p ≡ some v → total f (slice_set l p w) + f v ≡ total f l + f w
+    total_set [] p v w e = absurd (some-ne-none v (sym e))
+    total_set (x ∷ xs) zero v w e = let same = ap f (some-injective x v e) in omega (arith, same)
+    total_set (x ∷ xs) (suc p) v w e = let rest = total_set xs p v w e in omega (arith, rest)
+
+    pub total_has : (l : List V) (p : ℕ) (v : V) → get_elem? l p ≡ some v → f v ≤ total f l
+    total_has [] p v e = absurd (some-ne-none v (sym e))
+    total_has (x ∷ xs) zero v e = let same = ap f (some-injective x v e) in omega (arith, same)
+    total_has (x ∷ xs) (suc p) v e = let rest = total_has xs p v e in omega (arith, rest)
+
   module _ (P : V → Type 0) where
     pub each_at : (l : List V) (p : ℕ) (v : V) → get_elem? l p ≡ some v → Each P l → P v
     each_at [] p v e h = absurd (some-ne-none v (sym e))
@@ -41,5 +55,5 @@ module _ {V : Type 0} where
     others_keep [] p v w e one few h k = absurd (some-ne-none v (sym e))
     others_keep (x ∷ xs) zero v w e one few h k = let same = ap f (some-injective x v e) in (k, all_keep xs (omega (arith, same, one, few)) h.1)
     others_keep (x ∷ xs) (suc p) v w e one few h k =
-        let least = term_le f xs p v e in
+        let least = total_has f xs p v e in
         (keeps x (omega (arith, one, few, least)) h.0, others_keep xs p v w e one (omega (arith, few)) h.1 k)

@@ -2,12 +2,15 @@
 use Rattle.std.specs.Prelude.{◌≡◌, ℕ, ◌==◌, List, [], ◌∷◌, ◌++◌, if◌then◌else◌, Some, Ok}
 use Rattle.concurrent_queue.specs.Contents.{Contents}
 use Rattle.concurrent_queue.specs.declared.cells.QueueForm.{QueueForm}
+use Rattle.concurrent_queue.specs.machine.Places.{Each}
 use Rattle.futures.specs.declared.task.Poll.TheVariants.{Ready}
 use Rattle.channel_calls.specs.declared.ask.ChannelAsk.{ChannelAsk}
 use Rattle.channel_calls.specs.declared.ask.ChannelAsk.TheVariants as ask
 use Rattle.channel_calls.specs.declared.reply.Reply.{Reply}
 use Rattle.channel_calls.specs.declared.reply.Reply.TheVariants as reply
 use Rattle.channel_calls.specs.declared.whole.Completed.{Completed}
+use Rattle.channel_calls.specs.Moves.{Channel}
+use Rattle.channel_steps.specs.Answers.{Keeps, Met}
 use Rattle.channel_steps.specs.Configuration.{ActiveCall, Configuration, brought, gone_by}
 use Rattle.channel_steps.specs.Moments.{MarkedMoment}
 use Rattle.channel_steps.specs.every_run.Marked.{brought_by}
@@ -83,12 +86,18 @@ module _ {T W : Type 0} where
   abbrev pub takes_out : ActiveCall T W → List T
   takes_out u = marked_out u.marks
 
+  -- a call that asked this was answered so: its marks and moments are what the row of this reply says, and it left its operation what
+  -- it says. A pending one left a listener
+  abbrev pub IsAnswered : ChannelAsk T W → Completed T → Type 0
+  IsAnswered a c = (ds : List (MarkedMoment T W)) × (seen : List (Channel T W)) × Met a ds seen c.reply × Keeps a c.reply c.kept
+
   -- a party has asked and been given this, and has brought these in and taken those out: by its calls that have ended, one after
   -- another, and by its call under way as far as it has come
   pub record PartyAccount (p : ℕ) (asked : List (ChannelAsk T W)) (given : List (Completed T)) (accepted taken : List T) (us : List (ActiveCall T W)) : Type 0 where
     pub calls : List (ChannelAsk T W × Completed T)
     pub asked_so : asked ≡ asked_in calls ++ of_call asks_in p us
     pub given_so : given ≡ given_in calls
+    pub answered : Each (λ (c : ChannelAsk T W × Completed T). IsAnswered c.0 c.1) calls
     pub accepted_so : accepted ≡ all_accepted calls ++ of_call brings_in p us
     pub taken_so : taken ≡ all_taken calls ++ of_call takes_out p us
 

@@ -1,6 +1,5 @@
 -- One history of a channel that threads share, as the views of their seats tell it. It speaks of no table and of no lock.
 use Rattle.std.specs.Prelude.{◌≡◌, ℕ, ◌+◌, ◌≤◌, ◌&&◌, Bool, true, false, List, [], ◌∷◌, ◌++◌}
-use Rattle.futures.specs.Pool.Weights.{total}
 use Rattle.concurrent_queue.specs.Contents.{Contents}
 use Rattle.concurrent_queue.specs.declared.cells.QueueForm.{QueueForm}
 use Rattle.concurrent_queue.specs.machine.Places.{Each}
@@ -39,10 +38,15 @@ abbrev pub count_of : Side → ℕ → ℕ → ℕ
 count_of Senders senders receivers = senders
 count_of Receivers senders receivers = receivers
 
--- how often a list has a listener under this key, told or waiting
+-- what these come to together, each of which is weighed so
+abbrev pub total : {X : Type 0} → (X → ℕ) → List X → ℕ
+total weigh [] = 0
+total weigh (x ∷ xs) = weigh x + total weigh xs
+
 abbrev pub is_key : {X : Type 0} → Key → Key × X → ℕ
 is_key key e = one_if (same_key key e.0)
 
+-- how often a list has a listener under this key, told or waiting
 abbrev pub times : {W : Type 0} → Key → Listeners W → ℕ
 times key l = total (is_key key) l.told + total (is_key key) l.waiting
 

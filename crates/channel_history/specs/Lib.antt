@@ -1,5 +1,6 @@
 -- `Party` says what a party's machine does, and `Steps` how it goes on; `History` what a history is, and `Keeps` what keeps it. `Says` is
--- what follows of it, `Handles` what its counts are, `Registrations` what its lists hold, and `Accounts` whose its messages are. `Row` is a history with a call in it.
+-- what follows of it, `Accounts` whose its messages are, `Handles` what its counts are, and `Registrations` who listens on its lists;
+-- `InHand` says what a call has in hand at each of its steps. `Row` are histories with calls in them.
 pub mod Party
 pub mod Steps
 pub mod History
@@ -7,5 +8,6 @@ pub mod Keeps
 pub mod Says
 pub mod Handles
 pub mod Registrations
+pub mod InHand
 pub mod Accounts
 pub mod Row

@@ -9,7 +9,8 @@ use Rattle.channel_calls.specs.declared.mark.Mark.{Mark}
 use Rattle.channel_calls.specs.declared.reply.Reply.{Reply}
 use Rattle.channel_calls.specs.declared.stage.Stage.{Stage}
 use Rattle.channel_steps.specs.every_run.Bridge.{Act, on_nothing, Notes}
-use Rattle.channel_history.specs.Party.{TouchesNothing, Begins, Makes, Ends}
+use Rattle.channel_history.specs.Party.{with_own, TouchesNothing, Begins, Makes, Ends}
+use Rattle.channel_history.specs.declared.party.Belongings.{Belongings}
 use Rattle.channel_history.specs.declared.party.Standing.{Standing}
 
 module _ {T W : Type 0} where
@@ -34,5 +35,7 @@ pub record PartiesGoOn (T W : Type 0) : Type 0 where
   pub begins : (form : QueueForm) (s : Standing T W) (ask : ChannelAsk T W) (at : Stage (QueueCall T) T W) → s.stage ≡ None → Takes (first ask) at None → Begins form s ask (begun s ask at)
   pub makes : (form : QueueForm) (s t : Standing T W) (o : Act T W) → Steps form s o t → Makes form s o t
   pub later : (form : QueueForm) (s t u : Standing T W) (q o : Act T W) → TouchesNothing q → Steps form s q t → Makes form t o u → Makes form s o u
+  -- what is left with its seat is no part of it
+  pub leaves : (form : QueueForm) (s t : Standing T W) (o : Act T W) (own : Belongings W) → Makes form s o t → Makes form s o (with_own own t)
   pub ended : (form : QueueForm) (s : Standing T W) → s.stage ≡ None → Ends form s s
   pub ends : (form : QueueForm) (s t u : Standing T W) (q : Act T W) → TouchesNothing q → Steps form s q t → Ends form t u → Ends form s u

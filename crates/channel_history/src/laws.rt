@@ -2,9 +2,10 @@
 
 ghost use Rattle.channel_history.specs.Accounts.{HistoriesAreAccounted};
 ghost use Rattle.channel_history.specs.Handles.{HandlesAreCounted};
+ghost use Rattle.channel_history.specs.InHand.{CallsHoldTheirOwn};
 ghost use Rattle.channel_history.specs.Keeps.{DeedsDo, OpensWell, QueueOperationsKeep, SectionsKeep, CountOperationsKeep, BeginningsKeep, ArrivalsKeep, EndingsKeep, JoinsKeep, SplitsKeep};
-ghost use Rattle.channel_history.specs.Registrations.{RegistrationsAreLive};
-ghost use Rattle.channel_history.specs.Row.{OneSenderIsCounted};
+ghost use Rattle.channel_history.specs.Registrations.{PendingWaitRightly, RegistrationsAreLive};
+ghost use Rattle.channel_history.specs.Row.{ASenderIsClonedAndDropped, OneSenderIsCounted};
 ghost use Rattle.channel_history.specs.Says.{EachMomentIsSaid, HistoriesAreRuns, NobodyIsMissedAtRest};
 ghost use Rattle.channel_history.specs.Steps.{PartiesGoOn};
 
@@ -22,7 +23,8 @@ pub fn a_new_channel_has_a_history<T, W>()
 
 /// What the machine of a party does next keeps the history, where it does to the channel what it answers: an operation on a cell of
 /// the queue, a section on the list that lies with the party's seat, an operation on a count. A count that was raised leaves a handle
-/// with the seat, and a lowering takes one away; so do an insertion, and a removal, with a listener. Each may be preceded by steps of its call that touch nothing.
+/// with the seat, and a lowering takes one away; an insertion leaves a listener with it, and a removal takes one away. Each may be
+/// preceded by steps of its call that touch nothing.
 pub fn operations_keep_the_history<T, W>()
     ensures queue { QueueOperationsKeep T W }
     ensures list { SectionsKeep T W }
@@ -54,6 +56,11 @@ pub fn one_sender_is_counted<T, W>()
     ensures counted { OneSenderIsCounted T W }
 {}
 
+/// And one who clones a sender, and drops it: there are two, and then one again.
+pub fn a_sender_is_cloned_and_dropped<T, W>()
+    ensures cloned { ASenderIsClonedAndDropped T W }
+{}
+
 /// At every moment such a history is a run of the channel, of which the whole headline holds, as long as positions last: of any length
 /// over one slot, and else of fewer than 2^61 events. Each party has been given what its view says, each reply as its row says, and
 /// stands where its view says.
@@ -78,7 +85,8 @@ pub fn nobody_is_missed_at_rest<T, W>()
 
 /// Each message that came into the channel or left it is a party's, by its view. What a party has brought in and taken out is what its
 /// calls that have ended brought in and took out, by what they asked and gave, in their order, and then what its call under way has
-/// brought in or taken out by its marks.
+/// brought in or taken out by its marks. Each of these calls was answered as the row of its reply says, to what it asked; one that is
+/// pending left its operation a listener.
 pub fn histories_are_accounted<T, W>()
     ensures accounted { HistoriesAreAccounted T W }
 {}
@@ -90,7 +98,16 @@ pub fn handles_are_counted<T, W>()
 {}
 
 /// Each listener that lies with a seat is on its list: it was told, or it waits. Each that is on a list lies with one seat, and no other
-/// has it.
+/// has it. So where no call is under way whoever is pending was told, or waits in an open channel for a free place or a message that is
+/// not there.
 pub fn registrations_are_live<T, W>()
     ensures live { RegistrationsAreLive T W }
+    ensures rest { PendingWaitRightly T W }
+{}
+
+/// What lies with the seat of a call is what it has in hand, at each stage: the listener that its operation lent it or that it inserted,
+/// and at the end what the operation keeps whose poll is pending; the handle that it drops, until it lowers the count, and the one that
+/// it makes.
+pub fn calls_hold_their_own<T, W>()
+    ensures holds { CallsHoldTheirOwn T W }
 {}

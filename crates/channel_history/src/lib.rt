@@ -1,6 +1,7 @@
 //! One history of the cells of a channel that threads share, as the views of their seats tell it: what all parties did, in one order,
-//! which part of it each party has made, and which lists of listeners lie with whom. Laws say that what a party does next keeps
-//! such a history, and that at every moment it is a run of the channel, of which the whole headline holds.
+//! which part of it each party has made, and which lists, handles and listeners lie with whom. Laws say that what a party does next
+//! keeps such a history, that at every moment it is a run of the channel, of which the whole headline holds, that its counts are the
+//! numbers of handles, and that who is pending has a listener on a list.
 //!
 //! No channel runs on it yet: it is what the rule of the table will say over which the handles of a channel run.
 #![tactic(auto)]

@@ -18,7 +18,7 @@ pub struct Belongings<W> {
 }
 
 /// Where a party stands. A party is whoever has one seat, and makes calls one after another; or its seat lies with a list of listeners
-/// behind the list's lock, and it makes none.
+/// behind the list's lock, with a handle or with an operation, and it makes none.
 pub struct Standing<T, W> {
     /// What its calls asked, in order.
     pub asked: LinkedList<ChannelAsk<T, W>>,
