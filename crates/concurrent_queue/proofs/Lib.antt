@@ -78,7 +78,6 @@ mod ReplyFacts
 pub mod HistoryRuns
 pub mod HistoryOpening
 pub mod Guarding
-pub mod Histories
 pub mod HistoryWords
 pub mod HistorySteps
 pub mod HistoryCallsEnd

@@ -8,4 +8,6 @@ pub mod Ends
 pub mod OnCells
 pub mod Calls
 pub mod Joined
+pub mod Keeps
+pub mod QueueKeeps
 pub mod Begun

@@ -2,9 +2,10 @@
 //! operations made of it, in which each party does what its machine does.
 
 pub mod cells;
+pub mod counts;
 pub mod foreign;
 pub mod laws;
 pub mod party;
 pub mod rule;
+pub mod seats;
 pub mod table;
-pub mod witness;

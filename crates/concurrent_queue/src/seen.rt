@@ -6,8 +6,8 @@ ghost use Rattle.concurrent_queue.specs.Shown.{Sees};
 
 use crate::cells::{Cells, QueueForm, Slot, Word};
 use crate::error::NoMemory;
-use crate::history::cells::HistoryCells;
 use crate::history::foreign::ForeignSeat;
+use crate::history::party::QueueCells;
 use crate::shared::cells::{SharedCells, WordCells};
 use std::marker::PhantomData;
 use std::sync::Wait;
@@ -173,9 +173,9 @@ pub(crate) fn see_cells<'a, T: Drop, R: Wait, S>(
 /// The cells of a call of a queue with a bound, seen by this trace.
 #[inline(always)]
 pub(crate) fn see_call<T: Drop, S>(
-    cells: HistoryCells<'_, T>,
+    cells: QueueCells<'_, T>,
     trace: S,
-) -> Seen<HistoryCells<'_, T>, S>
+) -> Seen<QueueCells<'_, T>, S>
     ensures cells { result.cells ≡ cells.entry }
     ensures trace { result.trace ≡ trace }
 {

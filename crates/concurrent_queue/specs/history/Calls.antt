@@ -1,12 +1,12 @@
--- Where a call stands whose party a view of the rule follows, and the laws that `Cells` asks of cells that go by it. They are proved here,
--- and not beside the other proofs, since the laws of an impl can cite no proof of their own crate.
+-- Where a call stands whose party a view of the rule follows, whatever its machine, and the laws that `Cells` asks of cells that go by it.
+-- They are proved here, and not beside the other proofs, since the laws of an impl can cite no proof of their own crate.
 use Rattle.std.specs.Prelude.{◌≡◌, ◌⊎◌, ℕ, ◌==◌, Bool, true, false, Option, None, Some, MatchOption, refl}
 use Rattle.std.proofs.Common.{inl, inr, sym, ap, ◌∙◌, subst, ⊎_elim}
-use Rattle.concurrent_queue.specs.Bridge.{does}
+use Rattle.concurrent_queue.specs.Bridge.{Event, does}
 use Rattle.concurrent_queue.specs.Deeds.{Deed, Notes}
 use Rattle.concurrent_queue.specs.Stands.{Next, MayGoOn, GoesOn}
 use Rattle.concurrent_queue.specs.Tracked as tracked
-use Rattle.concurrent_queue.specs.Walked.{first_of, standing, MakesBounded, MakesFirst, StateMakes}
+use Rattle.concurrent_queue.specs.Walked.{first_of, standing, MakesBounded, MakesFirst, StateMakes, CallMakes}
 use Rattle.concurrent_queue.specs.machine.Dispatch.{ring_cap, in_single, in_ring}
 use Rattle.concurrent_queue.specs.machine.RingWords.{cap_of, ring_mark, ring_start}
 use Rattle.concurrent_queue.specs.machine.Single.{start}
@@ -22,14 +22,8 @@ use Rattle.concurrent_queue.specs.declared.queue_call.CallState.TheVariants.{Ask
 use Rattle.concurrent_queue.specs.declared.queue_call.QueueCall.{QueueCall}
 use Rattle.concurrent_queue.specs.declared.single.SingleAction.TheVariants as single
 use Rattle.concurrent_queue.specs.history.Ends.{SingleEnds, RingEnds, single_ends, ring_ends}
-use Rattle.concurrent_queue.specs.history.Runs.{moves, after_step}
 use Rattle.concurrent_queue.specs.history.OnCells as cells
 use Rattle.concurrent_queue.specs.history.OnCells.{IsOnCell, IsRefused}
-use Rattle.concurrent_queue.specs.declared.history.party.Standing.{Standing}
-
--- a party with a call under way
-abbrev UnderWay : Type 0 → Type 0
-UnderWay T = (s : Standing T) × (call : QueueCall T) × (s.call ≡ Some call)
 
 module _ {T : Type 0} where
   -- an action of a call of one slot or of a ring
@@ -48,14 +42,6 @@ module _ {T : Type 0} where
   -- no operation is made from there
   abbrev pub Rests : QueueForm → CallState T → Type 0
   Rests form at = (d : Deed T) (r : CallStep T) → Next form at d r → ⊥
-
-  -- the party's call is under way at this action, or no operation is made from there, as where the call is over
-  abbrev pub StandsAt : QueueForm → Standing T → CallState T → Type 0
-  StandsAt form s at = HasNoBlocks at × (((call : QueueCall T) × (s.call ≡ Some call) × (standing form call.state ≡ at)) ⊎ Rests form at)
-
-  -- this operation with this answer is the party's next
-  abbrev pub Can : QueueForm → Standing T → Deed T → Type 0
-  Can form s d = (t : Standing T) × moves form s (does (Some d)) t
 
   -- ---- where a step has answered no operation follows
 
@@ -145,73 +131,85 @@ module _ {T : Type 0} where
     refused_stays (Blocks a) d r b turned n = absurd b
     refused_stays Finished d r b turned n = absurd (no_deed d n.0)
 
-    -- ---- a call under way
+-- ---- a machine whose parties make calls of a queue
 
-    moves_so : (u : UnderWay T) (d : Deed T) (next : QueueCall T) → tracked.Moves form u.1 d next → Can form u.0 d
-    moves_so (s, call, under) d next (reply, made) = (after_step s next reply, (call, next, reply, under, made, refl))
+module _ {T A : Type 0} (moves : QueueForm → A → Event T → A → Type 0) where
+  -- this operation with this answer is the party's next
+  abbrev pub Can : QueueForm → A → Deed T → Type 0
+  Can form a d = (b : A) × moves form a (does (Some d)) b
 
-    can_go : (at : CallState T) (s : Standing T) (d : Deed T) (r : CallStep T) (call : QueueCall T) → s.call ≡ Some call → standing form call.state ≡ at → Next form at d r → Can form s d
-    can_go at s d r call under e n =
-        tracked.tracked_may (λ (u : UnderWay T). form) (λ (u : UnderWay T). u.1) (λ (x : Deed T) (u : UnderWay T). Can form u.0 x) moves_so at (s, call, under) d r e n
+  module _ (calls : QueueForm → A → QueueCall T → Type 0) where
+    -- the party's call is under way at this action, or no operation is made from there, as where the call is over
+    abbrev pub StandsAt : QueueForm → A → CallState T → Type 0
+    StandsAt form a at = HasNoBlocks at × (((call : QueueCall T) × calls form a call × (standing form call.state ≡ at)) ⊎ Rests form at)
 
-    or_that : QueueCall T → Option (QueueCall T) → QueueCall T
-    or_that c (Some x) = x
-    or_that c None = c
+    -- a party that makes this call may make the call's next operation; and by an operation that it makes its call is led on
+    abbrev pub CallsMayMove : Type 0
+    CallsMayMove = (form : QueueForm) (a : A) (call next : QueueCall T) (d : Deed T) (reply : Option (QueueReply T)) → calls form a call → CallMakes Notes form None call (Some d) next reply → Can form a d
 
-    same_call : (x y : QueueCall T) → Some x ≡ Some y → x ≡ y
-    unfolding or_that
-    same_call x y e = ap (or_that x) e
-
-    -- where its operation leads it
-    led_on : (at : CallState T) (s t : Standing T) (d : Deed T) (r : CallStep T) (begun : QueueCall T) → HasNoBlocks at → s.call ≡ Some begun → standing form begun.state ≡ at → moves form s (does (Some d)) t → Next form at d r
-        → StandsAt form t r.action
-    led_on at s t d r begun b under e (call, next, reply, was, made, is) n =
-        let same : call ≡ begun = same_call call begun (sym was ∙ under) in
-        let so : tracked.Moves form begun d next = subst (λ (c : QueueCall T). tracked.Moves form c d next) same (reply, made) in
-        let on : standing form next.state ≡ r.action =
-        tracked.tracked_goes (λ (c : QueueCall T). form) (λ (c : QueueCall T). c) (λ (x : Deed T) (c f : QueueCall T). tracked.Moves form c x f) (λ c f x m. m) (λ c f x m. refl) at begun next d r e so n in (
-          still_none at d r b n,
-          subst (λ (z : Standing T). ((c : QueueCall T) × (z.call ≡ Some c) × (standing form c.state ≡ r.action)) ⊎ Rests form r.action) (sym is) (rests_after reply next (made_answers begun.state d _ (subst (λ (z : CallState T). HasNoBlocks z) (sym e) b) (subst (λ (c : QueueCall T). StateMakes Notes form None c.state (Some d) (record { action = next.state; mark = next.mark; reply = reply })) same made)) on),
-        )
-      where
-        rests_after : (reply : Option (QueueReply T)) (next : QueueCall T) → Answers next.state reply → standing form next.state ≡ r.action → ((c : QueueCall T) × ((after_step s next reply).call ≡ Some c) × (standing form c.state ≡ r.action)) ⊎ Rests form r.action
-        rests_after None next over on = inl (next, refl, on)
-        rests_after (Some x) next over on = inr (over_rests form r.action (subst (λ (z : CallState T). IsOver z) (sym (over_stands next.state over) ∙ on) over))
+    abbrev pub CallsAreLed : Type 0
+    CallsAreLed =
+        (form : QueueForm) (a b : A) (call : QueueCall T) (d : Deed T) → calls form a call → moves form a (does (Some d)) b
+        → (next : QueueCall T) × (reply : Option (QueueReply T)) × CallMakes Notes form None call (Some d) next reply × (reply ≡ None → calls form b next)
 
 -- ---- cells that go by a view. Of operations on other cells, which no such call makes, they ask nothing and say nothing
 
-module _ {T S : Type 0} (form_of : S → QueueForm) (of : S → Standing T) where
+module _ {T A S : Type 0} (moves : QueueForm → A → Event T → A → Type 0) (form_of : S → QueueForm) (of : S → A) where
   abbrev pub MayMake : Deed T → S → Type 0
-  MayMake d s = IsOnCell d → Can (form_of s) (of s) d
+  MayMake d s = IsOnCell d → Can moves (form_of s) (of s) d
 
-  abbrev pub Stands : CallState T → S → Type 0
-  Stands at s = StandsAt (form_of s) (of s) at
+  -- the operation was made, or a slot refused it and it is no event, by the same party on the same cells
+  abbrev pub HasMade : (S → S → Type 0) → Deed T → S → S → Type 0
+  HasMade Same d s t = (IsOnCell d → moves (form_of s) (of s) (does (Some d)) (of t) ⊎ (IsRefused d × (of t ≡ of s))) × (form_of t ≡ form_of s) × Same s t
 
-  may_go : (at : CallState T) (s : S) (d : Deed T) (r : CallStep T) → Stands at s → Next (form_of s) at d r → Can (form_of s) (of s) d
-  may_go at s d r st n =
-      ⊎_elim (λ (u : (call : QueueCall T) × ((of s).call ≡ Some call) × (standing (form_of s) call.state ≡ at)). can_go (form_of s) at (of s) d r u.0 u.1 u.2 n) (λ (rests : Rests (form_of s) at). absurd (rests d r n)) st.1
+  module _ (calls : QueueForm → A → QueueCall T → Type 0) where
+    abbrev pub Stands : CallState T → S → Type 0
+    Stands at s = StandsAt moves calls (form_of s) (of s) at
 
-  pub ready : MayGoOn Stands form_of MayMake
-  ready at s d r st n = λ _. may_go at s d r st n
+    abbrev Under : CallState T → S → Type 0
+    Under at s = (call : QueueCall T) × calls (form_of s) (of s) call × (standing (form_of s) call.state ≡ at)
 
-  module _ (Same : S → S → Type 0) where
-    -- the operation was made, or a slot refused it and it is no event, by the same party on the same cells
-    abbrev pub HasMade : Deed T → S → S → Type 0
-    HasMade d s t = (IsOnCell d → moves (form_of s) (of s) (does (Some d)) (of t) ⊎ (IsRefused d × (of t ≡ of s))) × (form_of t ≡ form_of s) × Same s t
+    may_go : CallsMayMove moves calls → (at : CallState T) (s : S) (d : Deed T) (r : CallStep T) → Stands at s → Next (form_of s) at d r → Can moves (form_of s) (of s) d
+    may_go may at s d r st n =
+        ⊎_elim (λ (u : Under at s).
+        let form : QueueForm = form_of s in
+        let so : (next : QueueCall T) × tracked.Moves form u.0 d next =
+        tracked.tracked_may (λ (c : QueueCall T). form) (λ (c : QueueCall T). c) (λ (x : Deed T) (c : QueueCall T). (next : QueueCall T) × tracked.Moves form c x next) (λ c x next m. (next, m)) at u.0 d r u.2 n in
+        may form (of s) u.0 so.0 d so.1.0 u.1 so.1.1) (λ (rests : Rests (form_of s) at). absurd (rests d r n)) st.1
 
-    leads_by : (at : CallState T) (s t : S) (d : Deed T) (r : CallStep T) → Stands at s → moves (form_of s) (of s) (does (Some d)) (of t) → form_of t ≡ form_of s → Next (form_of s) at d r → Stands r.action t
-    leads_by at s t d r st made same n =
-        subst (λ (f : QueueForm). StandsAt f (of t) r.action) (sym same)
-        (⊎_elim (λ (u : (call : QueueCall T) × ((of s).call ≡ Some call) × (standing (form_of s) call.state ≡ at)). led_on (form_of s) at (of s) (of t) d r u.0 st.0 u.1 u.2 made n) (λ (rests : Rests (form_of s) at). absurd (rests d r n)) st.1)
+    pub ready : CallsMayMove moves calls → MayGoOn Stands form_of MayMake
+    ready may at s d r st n = λ _. may_go may at s d r st n
 
-    stays_by : (at : CallState T) (s t : S) (d : Deed T) (r : CallStep T) → Stands at s → IsRefused d × (of t ≡ of s) → form_of t ≡ form_of s → Next (form_of s) at d r → Stands r.action t
-    stays_by at s t d r st (turned, kept) same n =
-        subst (λ (f : QueueForm). StandsAt f (of t) r.action) (sym same)
-        (subst (λ (z : Standing T). StandsAt (form_of s) z r.action) (sym kept)
-        (subst (λ (a : CallState T). StandsAt (form_of s) (of s) a) (sym (refused_stays (form_of s) at d r st.0 turned n).0) st))
+    -- where its operation leads it
+    led_on : CallsAreLed moves calls → (form : QueueForm) (at : CallState T) (a b : A) (d : Deed T) (r : CallStep T) (call : QueueCall T) → HasNoBlocks at → calls form a call → standing form call.state ≡ at → moves form a (does (Some d)) b
+        → Next form at d r → StandsAt moves calls form b r.action
+    led_on led form at a b d r call free under e made n =
+        let so = led form a b call d under made in
+        let on : standing form so.0.state ≡ r.action =
+        tracked.tracked_goes (λ (c : QueueCall T). form) (λ (c : QueueCall T). c) (λ (x : Deed T) (c f : QueueCall T). tracked.Moves form c x f) (λ c f x m. m) (λ c f x m. refl) at call so.0 d r e (so.1, so.2) n in (
+          still_none form at d r free n,
+          rests_after so.1 so.0 so.3 (made_answers form call.state d _ (subst (λ (z : CallState T). HasNoBlocks z) (sym e) free) so.2) on,
+        )
+      where
+        rests_after : (reply : Option (QueueReply T)) (next : QueueCall T) → (reply ≡ None → calls form b next) → Answers next.state reply → standing form next.state ≡ r.action
+            → ((c : QueueCall T) × calls form b c × (standing form c.state ≡ r.action)) ⊎ Rests form r.action
+        rests_after None next goes over on = inl (next, goes refl, on)
+        rests_after (Some x) next goes over on = inr (over_rests form r.action (subst (λ (z : CallState T). IsOver z) (sym (over_stands form next.state over) ∙ on) over))
 
-    pub leads : GoesOn Stands form_of HasMade
-    leads at s t d r st made n = ⊎_elim
-        (λ (moved : moves (form_of s) (of s) (does (Some d)) (of t)). leads_by at s t d r st moved made.1 n)
-        (λ (refused : IsRefused d × (of t ≡ of s)). stays_by at s t d r st refused made.1 n)
-        (made.0 (on_cell (form_of s) at d r st.0 n))
+    module _ (Same : S → S → Type 0) where
+      leads_by : CallsAreLed moves calls → (at : CallState T) (s t : S) (d : Deed T) (r : CallStep T) → Stands at s → moves (form_of s) (of s) (does (Some d)) (of t) → form_of t ≡ form_of s → Next (form_of s) at d r → Stands r.action t
+      leads_by led at s t d r st made same n =
+          subst (λ (f : QueueForm). StandsAt moves calls f (of t) r.action) (sym same)
+          (⊎_elim (λ (u : Under at s). led_on led (form_of s) at (of s) (of t) d r u.0 st.0 u.1 u.2 made n) (λ (rests : Rests (form_of s) at). absurd (rests d r n)) st.1)
+
+      stays_by : (at : CallState T) (s t : S) (d : Deed T) (r : CallStep T) → Stands at s → IsRefused d × (of t ≡ of s) → form_of t ≡ form_of s → Next (form_of s) at d r → Stands r.action t
+      stays_by at s t d r st (turned, kept) same n =
+          subst (λ (f : QueueForm). StandsAt moves calls f (of t) r.action) (sym same)
+          (subst (λ (z : A). StandsAt moves calls (form_of s) z r.action) (sym kept)
+          (subst (λ (x : CallState T). StandsAt moves calls (form_of s) (of s) x) (sym (refused_stays (form_of s) at d r st.0 turned n).0) st))
+
+      pub leads : CallsAreLed moves calls → GoesOn Stands form_of (HasMade Same)
+      leads led at s t d r st made n = ⊎_elim
+          (λ (moved : moves (form_of s) (of s) (does (Some d)) (of t)). leads_by led at s t d r st moved made.1 n)
+          (λ (refused : IsRefused d × (of t ≡ of s)). stays_by at s t d r st refused made.1 n)
+          (made.0 (on_cell (form_of s) at d r st.0 n))

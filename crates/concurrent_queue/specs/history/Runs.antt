@@ -14,6 +14,9 @@ use Rattle.concurrent_queue.specs.declared.cells.QueueForm.{QueueForm}
 use Rattle.concurrent_queue.specs.declared.queue_call.QueueCall.{QueueCall}
 use Rattle.concurrent_queue.specs.history.History.{IsHistory}
 use Rattle.concurrent_queue.specs.history.Joined.{EachOnce}
+use Rattle.concurrent_queue.specs.history.Keeps.{HistoryOf}
+use Rattle.concurrent_queue.specs.declared.history.rule.Counter.{Counter}
+use Rattle.concurrent_queue.specs.declared.history.rule.CountStep.{CountStep}
 use Rattle.concurrent_queue.specs.declared.history.party.Standing.{Standing}
 use Rattle.concurrent_queue.specs.declared.history.rule.View.{View}
 
@@ -36,6 +39,37 @@ module _ {T : Type 0} where
   moves form s (does o) t =
       (call : QueueCall T) × (next : QueueCall T) × (reply : Option (QueueReply T))
       × (s.call ≡ Some call) × CallMakes Notes form None call o next reply × (t ≡ after_step s next reply)
+
+  -- a new party has done nothing, or has begun a call; and a call begins without a step on a cell
+  abbrev pub enters : QueueForm → Standing T → Type 0
+  enters form t = (t ≡ fresh) ⊎ ((a : QueueAsk T) × moves form fresh (begins a) t)
+
+  abbrev pub turns : QueueForm → Standing T → Standing T → Type 0
+  turns form s t = (a : QueueAsk T) × moves form s (begins a) t
+
+  -- it counts nothing, and nothing of what a party has goes to another
+  abbrev pub counts : QueueForm → Standing T → Standing T → Counter → CountStep → ℕ → Type 0
+  counts form s t which op n = ⊥
+
+  abbrev pub both : Standing T → Standing T → Standing T
+  both s t = s
+
+  abbrev pub left : Standing T → Standing T
+  left t = t
+
+  abbrev pub parts : QueueForm → Standing T → Standing T → Standing T → Type 0
+  parts form s stays goes = ⊥
+
+  -- it has no call under way
+  abbrev pub rests : Standing T → Type 0
+  rests s = s.call ≡ None
+
+  -- its next operation on the cells is the next one of this call
+  abbrev pub calls : QueueForm → Standing T → QueueCall T → Type 0
+  calls form s call = s.call ≡ Some call
+
+  abbrev pub history : HistoryOf T (Standing T)
+  history form views c n m = IsHistory moves fresh form views c
 
   -- what the views say of each party: one that hasn't come yet has no call and no reply
   abbrev pub standing_in : home.Option (View T (Standing T)) → Standing T

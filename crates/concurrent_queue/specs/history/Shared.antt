@@ -1,24 +1,29 @@
--- The rule of a table that threads share: the words are a guard for each slot, then the queue's own words; and so long as no foreign call
--- was admitted, one history has made them and the slots what they are. And what each kind of step tells its seat.
-use Rattle.std.specs.Prelude.{◌≡◌, ◌≢◌, ℕ, zero, suc, ◌+◌, ◌-◌, ◌<◌, ◌≤◌, ◌==◌, nat_lt, true, false, List, [], ◌∷◌, ◌++◌, length, drop, Option, None, Some, Result, Ok, Err, slice_index, slice_index_or, if◌then◌else◌, map}
+-- The rule of a table that threads share: the words are a guard for each slot, then the queue's own words, a flag and two counts; and so
+-- long as no foreign call was admitted, the machine's history has made them and the slots what they are. And what each kind of step tells
+-- its seat.
+use Rattle.std.specs.Prelude.{◌≡◌, ◌≢◌, ℕ, zero, suc, ◌+◌, ◌-◌, ◌<◌, ◌≤◌, ◌==◌, nat_lt, true, false, List, [], ◌∷◌, ◌++◌, length, drop, Option, None, Some, Result, Ok, Err, slice_index, slice_index_or, slice_set, if◌then◌else◌, map}
 use mathlib.Core.Option as home
 use lib.ListN.{get_elem?}
 use Rattle.atomic_table.specs.Table.{Me, Step, rest}
 use Rattle.atomic_table.specs.Table as table
-use Rattle.concurrent_queue.specs.Bridge.{Event, begins, does, Changes, HasCells}
+use Rattle.concurrent_queue.specs.Bridge.{Event, does, HasCells}
 use Rattle.concurrent_queue.specs.Contents.{Contents, no_contents}
-use Rattle.concurrent_queue.specs.Deeds.{loaded, stored, exchanged, added, bits_set, bits_kept, did_put, did_take}
+use Rattle.concurrent_queue.specs.Deeds.{Deed, loaded, stored, exchanged, added, bits_set, bits_kept, did_put, did_take}
+use Rattle.concurrent_queue.specs.Effects.{Does}
 use Rattle.concurrent_queue.specs.Places.{place_of, table_of, index_of}
 use Rattle.concurrent_queue.specs.machine.Guarded.{IsGuarded}
-use Rattle.concurrent_queue.specs.declared.call.QueueAsk.{QueueAsk}
 use Rattle.concurrent_queue.specs.declared.cells.QueueForm.{QueueForm}
 use Rattle.concurrent_queue.specs.declared.cells.QueueForm.TheVariants.{Bounded, Unbounded}
 use Rattle.concurrent_queue.specs.declared.cells.Word.{Word}
 use Rattle.concurrent_queue.specs.declared.cells.Word.TheVariants.{State, Head, Tail, Stamp, HeadBlock, TailBlock}
 use Rattle.concurrent_queue.specs.declared.cells.Slot.{Slot}
 use Rattle.concurrent_queue.specs.declared.cells.Slot.TheVariants.{At, In}
-use Rattle.concurrent_queue.specs.history.History.{IsHistory}
+use Rattle.concurrent_queue.specs.declared.history.rule.Counter.{Counter}
+use Rattle.concurrent_queue.specs.declared.history.rule.Counter.TheVariants.{First, Second}
+use Rattle.concurrent_queue.specs.declared.history.rule.CountStep.{CountStep}
+use Rattle.concurrent_queue.specs.declared.history.rule.CountStep.TheVariants.{Read, Lower, Raise}
 use Rattle.concurrent_queue.specs.history.Joined.{AllStood, EachOnce, IsJoined}
+use Rattle.concurrent_queue.specs.history.Keeps.{HistoryOf}
 use Rattle.concurrent_queue.specs.declared.history.rule.View.{View}
 
 -- how many slots a queue has, how many stamps, and how many words of its own; only a ring has stamps
@@ -60,6 +65,22 @@ IsNoSlot form (In b i) = Unit {0}
 abbrev pub flag_at : QueueForm → ℕ
 flag_at form = slots_of form + 24
 
+-- where the two words lie with which a machine counts; they are none of the queue's own either
+abbrev pub count_at : QueueForm → Counter → ℕ
+count_at form First = slots_of form + 9
+count_at form Second = slots_of form + 28
+
+-- the words of a table with so many slots, where both hold this
+abbrev pub counts_set : ℕ → ℕ → List ℕ → List ℕ
+counts_set slots n words = slice_set (slice_set words (slots + 9) n) (slots + 28) n
+
+abbrev pub count_in : QueueForm → List ℕ → Counter → ℕ
+count_in form words which = slice_index words (count_at form which)
+
+-- which of them lies there
+abbrev pub counter_at : ℕ → Counter
+counter_at n = if n == 9 then First else Second
+
 -- what an exchange answers where this was found
 abbrev pub answer : ℕ → ℕ → Result ℕ ℕ
 answer n x = if n == x then Ok n else Err n
@@ -84,9 +105,9 @@ module _ {T : Type 0} where
     pub stamps : length c.stamps ≡ stamps_of form
     pub slots : length c.slots ≡ slots_of form
 
-  -- an event that leaves all cells as they are
-  abbrev pub LeavesAll : QueueForm → Event T → Type 0
-  LeavesAll form e = (c : Contents T) → HasSize form c → Changes e c c
+  -- an operation that leaves all cells as they are
+  abbrev pub LeavesAll : QueueForm → Deed T → Type 0
+  LeavesAll form d = (c : Contents T) → HasSize form c → Does d c c
 
   -- the slot that a view says is out with its seat
   abbrev pub slot_in : Option (ℕ × Option T) → Option ℕ
@@ -116,83 +137,95 @@ module _ {T A : Type 0} where
   guarded s = record { words = s.words; homes = s.homes; views = map slot_out s.views }
 
   abbrev pub first_view : A → QueueForm → View T A
-  first_view a form = record { who = 0; form = form; state = a; held = None; foreign = false; over = []; spent = false }
+  first_view a form = record { who = 0; nameless = false; form = form; state = a; held = None; foreign = false; over = []; spent = false }
 
-  -- of the views of a table whose flag is this: each says its seat's number and the table's form; a foreign one was admitted; and the
-  -- parties that were joined into others are as these say
+  -- of the views of a table whose flag is this: each says its seat's number, if it has a name, and the table's form; a foreign one was
+  -- admitted; and the parties that were joined into others are as these say
   pub record AreSeated (form : QueueForm) (flag : ℕ) (views : List (View T A)) : Type 0 where
-    pub named : (j : ℕ) (v : View T A) → get_elem? views j ≡ home.some v → (v.who ≡ j) × (v.form ≡ form)
+    pub named : (j : ℕ) (v : View T A) → get_elem? views j ≡ home.some v → (v.nameless ≡ false → v.who ≡ j) × (v.form ≡ form)
     pub admitted : (j : ℕ) (v : View T A) → get_elem? views j ≡ home.some v → v.foreign ≡ true → flag ≢ 0
     pub joined : IsJoined views
 
   abbrev pub flag_in : QueueForm → TableState T A → ℕ
   flag_in form s = slice_index s.words (flag_at form)
 
-  module _ (moves : QueueForm → A → Event T → A → Type 0) (first : A) where
-    -- THE HISTORY: one has led to the cells, and it has in each slot at home what lies there, and in each that is out what its seat's view
-    -- says
+  module _ (admits : Type 0) (is_history : HistoryOf T A) where
+    -- THE HISTORY: one has led to the cells and the counts, and it has in each slot at home what lies there, and in each that is out what
+    -- its seat's view says
     pub record IsKept (form : QueueForm) (s : TableState T A) : Type 0 where
       pub values : List (Option T)
       pub count : length values ≡ slots_of form
       pub at_home : (i : ℕ) (x : Option T) → get_elem? s.homes i ≡ home.some (home.some x) → slice_index_or values i None ≡ x
       pub away : (j : ℕ) (v : View T A) (i : ℕ) (x : Option T) → get_elem? s.views j ≡ home.some v → v.held ≡ Some (i, x) → slice_index_or values i None ≡ x
-      pub history : IsHistory moves first form s.views (contents form s.words values)
+      pub history : is_history form s.views (contents form s.words values) (count_in form s.words First) (count_in form s.words Second)
 
-    -- THE RULE: a slot is out exactly where its guard is won, by the one seat whose view says so; and while no foreign call was admitted
-    -- there is the history
+    -- THE RULE: a slot is out exactly where its guard is won, by the one seat whose view says so; and there is the history, while no foreign
+    -- call was admitted if any may be
     pub record IsRuled (form : QueueForm) (s : TableState T A) : Type 0 where
       pub has : HasCells form
       pub slots : length s.homes ≡ slots_of form
       pub words : length s.words ≡ slots_of form + words_of form
       pub guards : IsGuarded (guarded s)
       pub seated : AreSeated form (flag_in form s) s.views
-      pub kept : flag_in form s ≡ 0 → IsKept form s
+      pub kept : (admits → flag_in form s ≡ 0) → IsKept form s
 
+    -- a seat that knows its number is told the history of this moment, in which its party is at the state that its view says, and so is each
+    -- that was joined in
+    abbrev pub Shown : View T A → Type 0
+    Shown v =
+        (views : List (View T A)) × (c : Contents T) × (n : ℕ) × (m : ℕ) × is_history v.form views c n m × (get_elem? views v.who ≡ home.some v) × HasCells v.form
+        × AllStood views v.over × EachOnce ((v.who, v.state) ∷ v.over)
+
+    -- where the word that was found is 0, or no foreign call may be admitted
+    abbrev pub looks : Step (Option T) → Seated T A → ℕ → Seated T A → Type 0
+    looks st m found m' = (m' ≡ m) × ((admits → found ≡ 0) → Shown m.0)
+
+  module _ (moves : QueueForm → A → Event T → A → Type 0) where
     -- ---- what a step tells its seat
 
-    -- its machine made this event, and nothing else of the seat has changed
-    abbrev pub Made : Event T → Seated T A → Seated T A → Type 0
-    Made e m m' = moves m.0.form m.0.state e m'.0.state × (m' ≡ (going_on m.0 m'.0.state, m.1))
+    -- its machine made this operation, and nothing else of the seat has changed
+    abbrev pub Made : Deed T → Seated T A → Seated T A → Type 0
+    Made d m m' = moves m.0.form m.0.state (does (Some d)) m'.0.state × (m' ≡ (going_on m.0 m'.0.state, m.1))
 
     abbrev pub word_of : Step (Option T) → Word
     word_of st = own_word (st.word - st.slots)
 
     abbrev pub loads : Step (Option T) → Seated T A → ℕ → Seated T A → Type 0
-    loads st m found m' = Made (does (Some (loaded (word_of st) found))) m m'
+    loads st m found m' = Made (loaded (word_of st) found) m m'
 
     abbrev pub stores : Step (Option T) → Seated T A → ℕ → Seated T A → Type 0
-    stores st m found m' = Made (does (Some (stored (word_of st) st.first))) m m'
+    stores st m found m' = Made (stored (word_of st) st.first) m m'
 
     abbrev pub exchanges : Step (Option T) → Seated T A → ℕ → Seated T A → Type 0
-    exchanges st m found m' = Made (does (Some (exchanged (word_of st) st.first st.second (answer found st.first)))) m m'
+    exchanges st m found m' = Made (exchanged (word_of st) st.first st.second (answer found st.first)) m m'
 
     abbrev pub adds : Step (Option T) → Seated T A → ℕ → Seated T A → Type 0
-    adds st m found m' = Made (does (Some (added (word_of st) st.first found))) m m'
+    adds st m found m' = Made (added (word_of st) st.first found) m m'
 
     abbrev pub sets_bits : Step (Option T) → Seated T A → ℕ → Seated T A → Type 0
-    sets_bits st m found m' = Made (does (Some (bits_set (word_of st) st.first found))) m m'
+    sets_bits st m found m' = Made (bits_set (word_of st) st.first found) m m'
 
     abbrev pub keeps_bits : Step (Option T) → Seated T A → ℕ → Seated T A → Type 0
-    keeps_bits st m found m' = Made (does (Some (bits_kept (word_of st) st.first found))) m m'
+    keeps_bits st m found m' = Made (bits_kept (word_of st) st.first found) m m'
 
-    -- an event that leaves all cells as they are
-    abbrev pub makes : Event T → Step (Option T) → Seated T A → ℕ → Seated T A → Type 0
-    makes e st m found m' = Made e m m'
+    -- an operation that leaves all cells as they are
+    abbrev pub makes : Deed T → Step (Option T) → Seated T A → ℕ → Seated T A → Type 0
+    makes d st m found m' = Made d m m'
 
     -- the slot whose guard was won: its content was x, and the history has y there from now on
-    abbrev pub Won : ℕ → Option T → Option T → Event T → Seated T A → Seated T A → Type 0
-    Won i x y e m m' = moves m.0.form m.0.state e m'.0.state × (m' ≡ (holding (going_on m.0 m'.0.state) (Some (i, y)), (i, x) ∷ m.1))
+    abbrev pub Won : ℕ → Option T → Option T → Deed T → Seated T A → Seated T A → Type 0
+    Won i x y d m m' = moves m.0.form m.0.state (does (Some d)) m'.0.state × (m' ≡ (holding (going_on m.0 m'.0.state) (Some (i, y)), (i, x) ∷ m.1))
 
     -- a message is taken out of a slot in the step that wins its guard; where another seat has it nothing was done
     abbrev pub takes : Step (Option T) → Seated T A → ℕ → Seated T A → Type 0
     takes st m found m' =
-        (found ≡ 0 → (x : Option T) × Won st.word x None (does (Some (did_take (At st.word) x))) m m')
+        (found ≡ 0 → (x : Option T) × Won st.word x None (did_take (At st.word) x) m m')
         × (found ≢ 0 → m' ≡ m)
 
     -- this message is put into a slot in the step that wins its guard, or is handed back
     abbrev pub PutOn : ℕ → T → Option T → Seated T A → Seated T A → Type 0
-    PutOn i v None m m' = Won i None (Some v) (does (Some (did_put (At i) v (Ok tt)))) m m'
-    PutOn i v (Some y) m m' = Won i (Some y) (Some y) (does (Some (did_put (At i) v (Err v)))) m m'
+    PutOn i v None m m' = Won i None (Some v) (did_put (At i) v (Ok tt)) m m'
+    PutOn i v (Some y) m m' = Won i (Some y) (Some y) (did_put (At i) v (Err v)) m m'
 
     abbrev pub brings : home.Option (Option T) → (T → Type 0) → Type 0
     brings (home.some (Some v)) F = F v
@@ -202,34 +235,48 @@ module _ {T A : Type 0} where
     puts st m found m' =
         brings st.said (λ v. (found ≡ 0 → (x : Option T) × PutOn st.word v x m m') × (found ≢ 0 → m' ≡ m))
 
-    -- the slot and its guard are given back
-    abbrev pub gives : Step (Option T) → Seated T A → ℕ → Seated T A → Type 0
-    gives st m found m' = m' ≡ (holding m.0 None, rest m.1)
+  -- the slot and its guard are given back
+  abbrev pub gives : Step (Option T) → Seated T A → ℕ → Seated T A → Type 0
+  gives st m found m' = m' ≡ (holding m.0 None, rest m.1)
 
-    -- a new seat of a party that may act, and holds no slot
-    abbrev pub IsNew : Seated T A → Seated T A → Type 0
-    IsNew m m' = (m'.0.form ≡ m.0.form) × (m'.0.held ≡ None) × (m'.0.spent ≡ false) × (m'.0.over ≡ [])
+  -- a new seat of a party that may act, knows its number, and holds no slot
+  abbrev pub IsNew : Seated T A → Seated T A → Type 0
+  IsNew m m' = (m'.0.form ≡ m.0.form) × (m'.0.held ≡ None) × (m'.0.spent ≡ false) × (m'.0.nameless ≡ false) × (m'.0.over ≡ [])
 
-    -- whose party has begun a call that asks this
-    abbrev pub enters : QueueAsk T → Step (Option T) → Seated T A → ℕ → Seated T A → Type 0
-    enters a st m found m' = moves m.0.form first (begins a) m'.0.state × IsNew m m'
+  -- whose party is at this state
+  abbrev pub enters : A → Step (Option T) → Seated T A → ℕ → Seated T A → Type 0
+  enters a st m found m' = (m'.0.state ≡ a) × IsNew m m'
 
-    -- a seat is told the history of this moment, in which its party is at the state that its view says, and so is each that was joined in
-    abbrev pub Shown : View T A → Type 0
-    Shown v =
-        (views : List (View T A)) × (c : Contents T) × IsHistory moves first v.form views c × (get_elem? views v.who ≡ home.some v) × HasCells v.form
-        × AllStood views v.over × EachOnce ((v.who, v.state) ∷ v.over)
+  -- the party is at this state, and nothing else of the seat has changed
+  abbrev pub turns : A → Step (Option T) → Seated T A → ℕ → Seated T A → Type 0
+  turns a st m found m' = m' ≡ (going_on m.0 a, m.1)
 
-    -- where the word that was found is 0
-    abbrev pub looks : Step (Option T) → Seated T A → ℕ → Seated T A → Type 0
-    looks st m found m' = (m' ≡ m) × (found ≡ 0 → Shown m.0)
+  module _ (counts : QueueForm → A → A → Counter → CountStep → ℕ → Type 0) where
+    -- its machine made this operation on a counting word, which found this number
+    abbrev pub Counted : CountStep → Step (Option T) → Seated T A → ℕ → Seated T A → Type 0
+    Counted op st m found m' = counts m.0.form m.0.state m'.0.state (counter_at (st.word - st.slots)) op found × (m' ≡ (going_on m.0 m'.0.state, m.1))
+
+    abbrev pub count_reads : Step (Option T) → Seated T A → ℕ → Seated T A → Type 0
+    count_reads st m found m' = Counted Read st m found m'
+
+    abbrev pub count_lowers : Step (Option T) → Seated T A → ℕ → Seated T A → Type 0
+    count_lowers st m found m' = Counted Lower st m found m'
+
+    abbrev pub count_raises : Step (Option T) → Seated T A → ℕ → Seated T A → Type 0
+    count_raises st m found m' = Counted (Raise st.first) st m found m'
+
+  -- the seat knows its number
+  abbrev pub named_so : View T A → ℕ → View T A
+  named_so v n = record v { who = n; nameless = false }
+
+  abbrev pub names : Step (Option T) → Seated T A → ℕ → Seated T A → Type 0
+  names st m found m' = (n : ℕ) × (m' ≡ (named_so m.0 n, m.1))
 
   -- ---- foreign calls
 
   -- a new seat of no call; it is foreign where one was admitted before
   abbrev pub comes : A → Step (Option T) → Seated T A → ℕ → Seated T A → Type 0
-  comes first st m found m' =
-      (m'.0.form ≡ m.0.form) × (m'.0.held ≡ None) × (m'.0.spent ≡ false) × (found ≢ 0 → m'.0.foreign ≡ true) × (m'.0.state ≡ first) × (m'.0.over ≡ [])
+  comes first st m found m' = (found ≢ 0 → m'.0.foreign ≡ true) × (m'.0.state ≡ first) × IsNew m m'
 
   -- it is admitted
   abbrev pub turns_foreign : Step (Option T) → Seated T A → ℕ → Seated T A → Type 0
@@ -251,3 +298,14 @@ module _ {T A : Type 0} where
 
   abbrev pub spent_view : View T A → View T A
   spent_view w = record w { over = []; spent = true }
+
+  -- ---- a party takes in what another has, and some of it goes to a new one
+
+  abbrev pub taking_in : (A → A → A) → View T A → View T A → View T A
+  taking_in both v w = going_on v (both v.state w.state)
+
+  abbrev pub left_view : (A → A) → View T A → View T A
+  left_view left w = record w { state = left w.state; over = []; spent = true }
+
+  abbrev pub parted_view : View T A → A → View T A
+  parted_view v a = record { who = 0; nameless = true; form = v.form; state = a; held = None; foreign = false; over = []; spent = false }

@@ -4,18 +4,34 @@
 ghost use Rattle.std.specs.Prelude.{◌≡◌};
 
 use crate::cells::{Cells, Slot, Word};
-use crate::history::party::{OfQueue, Standing};
+use crate::history::rule::Machine;
 use crate::history::table::CallSeat;
 use crate::{NoMemory, QueueForm};
+
+/// A machine whose parties make calls of a queue.
+pub trait QueueMachine<T, A>: Machine<T, A> {
+    ghost use Rattle.concurrent_queue.specs.history.Calls.{CallsMayMove, CallsAreLed};
+    ghost use Rattle.concurrent_queue.specs.declared.cells.QueueForm.{QueueForm};
+    ghost use Rattle.concurrent_queue.specs.declared.queue_call.QueueCall.{QueueCall};
+
+    /// On a queue of this form, the next operation on a cell of a party at this state is the next one of this call.
+    ghost calls: { QueueForm → A → QueueCall T → Type 0 };
+
+    /// Such a party may make what its call makes next, and by what it makes its call is led on.
+    ghost may: { CallsMayMove Self.moves calls };
+
+    ghost led: { CallsAreLed Self.moves calls };
+}
 
 /// The cells of a call under way. An operation on a slot that another call has is refused and is no event, and its call makes it again. The
 /// law `histories_touch_their_own` says that none is refused so while there are fewer events than positions, which the rule doesn't count.
 /// It has no drop.
-pub struct HistoryCells<'a, T> {
-    pub(crate) seat: CallSeat<'a, T, Standing<T>, OfQueue>,
+pub struct HistoryCells<'a, T, A, P: Machine<T, A>> {
+    /// The seat of its party.
+    pub seat: CallSeat<'a, T, A, P>,
 }
 
-impl<'a, T: Drop> Cells<T> for HistoryCells<'a, T> {
+impl<'a, T: Drop, A, P: QueueMachine<T, A>> Cells<T> for HistoryCells<'a, T, A, P> {
     ghost use Rattle.std.specs.Prelude.{◌≡◌};
     ghost use Rattle.concurrent_queue.specs.Contents.{no_contents};
     ghost use Rattle.concurrent_queue.specs.history.Calls.{MayMake, HasMade, Stands, ready, leads};
@@ -26,15 +42,15 @@ impl<'a, T: Drop> Cells<T> for HistoryCells<'a, T> {
 
     ghost form_of = { λ c. c.seat.seat.me.0.form };
 
-    ghost did = { HasMade (λ c. c.seat.seat.me.0.form) (λ c. c.seat.seat.me.0.state) (λ c e. (e.seat.seat.table_id ≡ c.seat.seat.table_id) × (e.seat.seat.me.0.who ≡ c.seat.seat.me.0.who) × (e.seat.seat.me.0.over ≡ c.seat.seat.me.0.over)) };
+    ghost did = { HasMade P.moves (λ c. c.seat.seat.me.0.form) (λ c. c.seat.seat.me.0.state) (λ c e. (e.seat.seat.table_id ≡ c.seat.seat.table_id) × (e.seat.seat.me.0.who ≡ c.seat.seat.me.0.who) × (e.seat.seat.me.0.over ≡ c.seat.seat.me.0.over)) };
 
-    ghost may = { MayMake (λ c. c.seat.seat.me.0.form) (λ c. c.seat.seat.me.0.state) };
+    ghost may = { MayMake P.moves (λ c. c.seat.seat.me.0.form) (λ c. c.seat.seat.me.0.state) };
 
-    ghost stands = { Stands (λ c. c.seat.seat.me.0.form) (λ c. c.seat.seat.me.0.state) };
+    ghost stands = { Stands P.moves (λ c. c.seat.seat.me.0.form) (λ c. c.seat.seat.me.0.state) P.calls };
 
-    ghost ready = { ready (λ c. c.seat.seat.me.0.form) (λ c. c.seat.seat.me.0.state) };
+    ghost ready = { ready P.moves (λ c. c.seat.seat.me.0.form) (λ c. c.seat.seat.me.0.state) P.calls P.may };
 
-    ghost leads = { leads (λ c. c.seat.seat.me.0.form) (λ c. c.seat.seat.me.0.state) (λ c e. (e.seat.seat.table_id ≡ c.seat.seat.table_id) × (e.seat.seat.me.0.who ≡ c.seat.seat.me.0.who) × (e.seat.seat.me.0.over ≡ c.seat.seat.me.0.over)) };
+    ghost leads = { leads P.moves (λ c. c.seat.seat.me.0.form) (λ c. c.seat.seat.me.0.state) P.calls (λ c e. (e.seat.seat.table_id ≡ c.seat.seat.table_id) × (e.seat.seat.me.0.who ≡ c.seat.seat.me.0.who) × (e.seat.seat.me.0.over ≡ c.seat.seat.me.0.over)) P.led };
 
     ghost keeps_form = { λ d a b made. made.1 };
 

@@ -58,7 +58,7 @@ impl<'a, T> ForeignSeat<'a, T> {
             return None;
         }
         let found = shared.exchange(&mut self.seat, index, None);
-        shared.store::<Gives<OfQueue>>(&mut self.seat, index, 0);
+        shared.store::<Gives>(&mut self.seat, index, 0);
         found
     }
 
@@ -75,12 +75,12 @@ impl<'a, T> ForeignSeat<'a, T> {
         }
         match shared.exchange(&mut self.seat, index, Some(value)) {
             None => {
-                shared.store::<Gives<OfQueue>>(&mut self.seat, index, 0);
+                shared.store::<Gives>(&mut self.seat, index, 0);
                 Ok(())
             }
             Some(old) => {
                 let back = shared.exchange(&mut self.seat, index, Some(old));
-                shared.store::<Gives<OfQueue>>(&mut self.seat, index, 0);
+                shared.store::<Gives>(&mut self.seat, index, 0);
                 match back {
                     Some(value) => Err(value),
                     None => unreachable!(),

@@ -4,12 +4,12 @@
 ghost use Rattle.std.specs.Prelude.{◌≡◌};
 
 use crate::history::laws::histories_are_runs;
-use crate::history::rule::{Machine, Spends};
+use crate::history::cells::{HistoryCells, QueueMachine};
+use crate::history::rule::Machine;
+use crate::history::seats::IdleSeat;
 use crate::history::table::{CallSeat, RuledTable};
-use crate::history::witness::Witness;
 use crate::{QueueAsk, QueueCall, QueueReply};
 use std::collections::LinkedList;
-use std::marker::Brand;
 
 /// Where a party stands.
 pub struct Standing<T> {
@@ -25,20 +25,54 @@ pub struct Standing<T> {
 pub struct OfQueue;
 
 impl<T> Machine<T, Standing<T>> for OfQueue {
-    ghost use Rattle.concurrent_queue.specs.history.Runs.{moves, fresh};
+    ghost use Rattle.concurrent_queue.specs.history.Runs.{fresh, moves, enters, turns, counts, both, left, parts, rests, history};
+    ghost use Rattle.concurrent_queue.specs.history.QueueKeeps.{queue_keeps};
+
+    ghost first = { fresh };
+
+    ghost opened = { fresh };
+
+    ghost counted = { 0 };
 
     ghost moves = { moves };
 
-    ghost first = { fresh };
+    ghost enters = { enters };
+
+    ghost turns = { turns };
+
+    ghost counts = { counts };
+
+    ghost both = { both };
+
+    ghost left = { left };
+
+    ghost parts = { parts };
+
+    ghost rests = { rests };
+
+    ghost admits = { Unit {0} };
+
+    ghost history = { history };
+
+    ghost keeps = { queue_keeps };
 }
 
-impl<T> Spends<T, Standing<T>> for Brand {
-    ghost use Rattle.concurrent_queue.specs.declared.cells.QueueForm.TheVariants.{Unbounded};
-    ghost use Rattle.concurrent_queue.specs.history.Runs.{fresh};
-    ghost use Rattle.concurrent_queue.specs.history.Shared.{first_view};
+impl<T> QueueMachine<T, Standing<T>> for OfQueue {
+    ghost use Rattle.concurrent_queue.specs.history.Runs.{calls};
+    ghost use Rattle.concurrent_queue.specs.history.QueueKeeps.{queue_may, queue_led};
 
-    ghost view = { first_view fresh Unbounded };
+    ghost calls = { calls };
+
+    ghost may = { queue_may };
+
+    ghost led = { queue_led };
 }
+
+/// The cells of a queue's call.
+pub type QueueCells<'a, T> = HistoryCells<'a, T, Standing<T>, OfQueue>;
+
+/// What is left of a party whose calls have ended: a value of no bytes, which knows what they asked and what they were answered.
+pub type Witness<T> = IdleSeat<T, Standing<T>>;
 
 impl<'a, T> CallSeat<'a, T, Standing<T>, OfQueue> {
     ghost use Rattle.std.specs.Prelude.{true};

@@ -1,15 +1,17 @@
-//! What a seat of the table knows, the rule that the table is what one history of operations made of it, and the kinds of steps that
-//! keep the rule. These types are for the proofs alone: no value of them is made.
+//! What a seat of the table knows, the machine whose history the table has, the rule that the table is what this history made of it, and the
+//! kinds of steps that keep the rule. All but `Counter` is for the proofs alone: no value of it is made.
 
 use crate::QueueForm;
-use atomic_table::{Join, Play, TableRule};
+use atomic_table::{Join, Play, Split, TableRule};
 use std::collections::LinkedList;
 use std::marker::{Brand, PhantomData};
 
 /// What a seat knows of its party. A party is whoever has one seat, and makes calls one after another.
 pub struct View<T, A> {
-    /// The party's number, which is its seat's.
+    /// The party's number, which is its seat's, where the seat knows it.
     pub who: u64,
+    /// Whether it doesn't: a seat that came of another one.
+    pub nameless: bool,
     /// Which kind of queue the table is of.
     pub form: QueueForm,
     /// Where the party's machine stands.
@@ -24,21 +26,80 @@ pub struct View<T, A> {
     pub spent: bool,
 }
 
-/// The machine of every party: which events lead it from which state to which, and its state before all of them.
+/// One of the two words of a table with which a machine counts.
+#[derive(Clone, Copy)]
+pub enum Counter {
+    /// The first.
+    First,
+    /// The second.
+    Second,
+}
+
+/// An operation on such a word.
+pub enum CountStep {
+    /// It is read.
+    Read,
+    /// It is made one less.
+    Lower,
+    /// It is made one more, where it is this number.
+    Raise(u64),
+}
+
+/// The machine of every party: which steps lead it from which state to which, and the history that these steps keep.
 pub trait Machine<T, A> {
+    ghost use Rattle.std.specs.Prelude.{ℕ, List};
     ghost use Rattle.concurrent_queue.specs.Bridge.{Event};
+    ghost use Rattle.concurrent_queue.specs.Contents.{Contents};
+    ghost use Rattle.concurrent_queue.specs.history.Keeps.{KeepsHistory};
     ghost use Rattle.concurrent_queue.specs.declared.cells.QueueForm.{QueueForm};
+    ghost use Rattle.concurrent_queue.specs.declared.history.rule.View.{View};
+    ghost use Rattle.concurrent_queue.specs.declared.history.rule.Counter.{Counter};
+    ghost use Rattle.concurrent_queue.specs.declared.history.rule.CountStep.{CountStep};
+
+    /// The state of a party that has done nothing.
+    ghost first: { A };
+
+    /// The state of a table's first party, and what the two counting words hold then.
+    ghost opened: { A };
+
+    ghost counted: { ℕ };
 
     /// On a queue of this form, this event leads from the one state to the other.
     ghost moves: { QueueForm → A → Event T → A → Type 0 };
 
-    /// The state of a party that has done nothing.
-    ghost first: { A };
+    /// A new party may be at this state.
+    ghost enters: { QueueForm → A → Type 0 };
+
+    /// A step leads from the one state to the other that touches no cell and no count.
+    ghost turns: { QueueForm → A → A → Type 0 };
+
+    /// An operation on a counting word does, which found this number there.
+    ghost counts: { QueueForm → A → A → Counter → CountStep → ℕ → Type 0 };
+
+    /// The state of a party that has taken in another, and of the one that was taken in.
+    ghost both: { A → A → A };
+
+    ghost left: { A → A };
+
+    /// Of what a party at the first state has, it keeps what the second says, and a new party has what the third says.
+    ghost parts: { QueueForm → A → A → A → Type 0 };
+
+    /// A party at this state has no call under way.
+    ghost rests: { A → Type 0 };
+
+    /// Whether calls are admitted that may be no call of the machine.
+    ghost admits: { Type 0 };
+
+    /// There is a history in which the parties of these views stand where these say, and which has made of a new queue's cells these cells,
+    /// and of its counts these numbers.
+    ghost history: { QueueForm → List (View T A) → Contents T → ℕ → ℕ → Type 0 };
+
+    /// Each kind of step keeps it.
+    ghost keeps: { KeepsHistory moves enters turns counts both left parts opened counted history };
 }
 
-/// The rule: a slot is out with one seat, which has won its guard; and while no foreign call was admitted there is one history of what all
-/// parties did, which leads from the cells of a new queue to the cells as they are, and in which each party's own events are steps of its
-/// machine, up to where its view says that it stands. The table's key is the queue's form.
+/// The rule: a slot is out with one seat, which has won its guard; and while no foreign call was admitted there is the machine's history of
+/// what all parties did, which leads to the cells and counts as they are. The table's key is the queue's form.
 pub struct OneHistory<P> {
     of: PhantomData<P>,
 }
@@ -46,9 +107,9 @@ pub struct OneHistory<P> {
 impl<T, A, P: Machine<T, A>> TableRule<Option<T>, View<T, A>, QueueForm> for OneHistory<P> {
     ghost use Rattle.concurrent_queue.specs.history.Shared.{IsRuled, first_view};
 
-    ghost holds = { λ form s. IsRuled P.moves P.first form s };
+    ghost holds = { λ form s. IsRuled P.admits P.history form s };
 
-    ghost first = { λ form. first_view P.first form };
+    ghost first = { λ form. first_view P.opened form };
 }
 
 /// A load of one of the queue's own words.
@@ -59,7 +120,7 @@ pub struct Loads<P> {
 impl<T, A, P: Machine<T, A>> Play<Option<T>, View<T, A>> for Loads<P> {
     ghost use Rattle.concurrent_queue.specs.history.Shared.{loads};
 
-    ghost then = { loads P.moves P.first };
+    ghost then = { loads P.moves };
 }
 
 /// A store to one of them.
@@ -70,7 +131,7 @@ pub struct Stores<P> {
 impl<T, A, P: Machine<T, A>> Play<Option<T>, View<T, A>> for Stores<P> {
     ghost use Rattle.concurrent_queue.specs.history.Shared.{stores};
 
-    ghost then = { stores P.moves P.first };
+    ghost then = { stores P.moves };
 }
 
 /// A compare-and-exchange of one of them.
@@ -81,7 +142,7 @@ pub struct Exchanges<P> {
 impl<T, A, P: Machine<T, A>> Play<Option<T>, View<T, A>> for Exchanges<P> {
     ghost use Rattle.concurrent_queue.specs.history.Shared.{exchanges};
 
-    ghost then = { exchanges P.moves P.first };
+    ghost then = { exchanges P.moves };
 }
 
 /// Something is added to one of them.
@@ -92,7 +153,7 @@ pub struct Adds<P> {
 impl<T, A, P: Machine<T, A>> Play<Option<T>, View<T, A>> for Adds<P> {
     ghost use Rattle.concurrent_queue.specs.history.Shared.{adds};
 
-    ghost then = { adds P.moves P.first };
+    ghost then = { adds P.moves };
 }
 
 /// Bits of one of them are set.
@@ -103,7 +164,7 @@ pub struct SetsBits<P> {
 impl<T, A, P: Machine<T, A>> Play<Option<T>, View<T, A>> for SetsBits<P> {
     ghost use Rattle.concurrent_queue.specs.history.Shared.{sets_bits};
 
-    ghost then = { sets_bits P.moves P.first };
+    ghost then = { sets_bits P.moves };
 }
 
 /// Bits of one of them are kept, and all others cleared.
@@ -114,7 +175,7 @@ pub struct KeepsBits<P> {
 impl<T, A, P: Machine<T, A>> Play<Option<T>, View<T, A>> for KeepsBits<P> {
     ghost use Rattle.concurrent_queue.specs.history.Shared.{keeps_bits};
 
-    ghost then = { keeps_bits P.moves P.first };
+    ghost then = { keeps_bits P.moves };
 }
 
 /// A slot's guard is won, to take a message out.
@@ -125,7 +186,7 @@ pub struct Takes<P> {
 impl<T, A, P: Machine<T, A>> Play<Option<T>, View<T, A>> for Takes<P> {
     ghost use Rattle.concurrent_queue.specs.history.Shared.{takes};
 
-    ghost then = { takes P.moves P.first };
+    ghost then = { takes P.moves };
 }
 
 /// A slot's guard is won, to put a message in.
@@ -136,18 +197,16 @@ pub struct Puts<P> {
 impl<T, A, P: Machine<T, A>> Play<Option<T>, View<T, A>> for Puts<P> {
     ghost use Rattle.concurrent_queue.specs.history.Shared.{puts};
 
-    ghost then = { puts P.moves P.first };
+    ghost then = { puts P.moves };
 }
 
 /// A slot and its guard are given back.
-pub struct Gives<P> {
-    of: PhantomData<P>,
-}
+pub struct Gives;
 
-impl<T, A, P: Machine<T, A>> Play<Option<T>, View<T, A>> for Gives<P> {
+impl<T, A> Play<Option<T>, View<T, A>> for Gives {
     ghost use Rattle.concurrent_queue.specs.history.Shared.{gives};
 
-    ghost then = { gives P.moves P.first };
+    ghost then = { gives };
 }
 
 /// The rule is read, and nothing is done.
@@ -158,24 +217,23 @@ pub struct Looks<P> {
 impl<T, A, P: Machine<T, A>> Play<Option<T>, View<T, A>> for Looks<P> {
     ghost use Rattle.concurrent_queue.specs.history.Shared.{looks};
 
-    ghost then = { looks P.moves P.first };
+    ghost then = { looks P.admits P.history };
 }
 
-/// An event, which the proof of a call picks where the call passes `Brand`.
+/// An operation, which the proof of a call picks where the call passes `Brand`.
 pub trait Happens<T> {
-    ghost use Rattle.concurrent_queue.specs.Bridge.{Event};
+    ghost use Rattle.concurrent_queue.specs.Deeds.{Deed};
 
-    ghost event: { Event T };
+    ghost deed: { Deed T };
 }
 
 impl<T> Happens<T> for Brand {
-    ghost use Rattle.concurrent_queue.specs.Bridge.{does};
-    ghost use Rattle.std.specs.Prelude.{None};
+    ghost use Rattle.concurrent_queue.specs.Deeds.{retired};
 
-    ghost event = { does None };
+    ghost deed = { retired 0 };
 }
 
-/// An event that leaves all cells as they are.
+/// An operation that leaves all cells as they are.
 pub struct Happened<P, E> {
     of: PhantomData<(P, E)>,
 }
@@ -183,43 +241,80 @@ pub struct Happened<P, E> {
 impl<T, A, P: Machine<T, A>, E: Happens<T>> Play<Option<T>, View<T, A>> for Happened<P, E> {
     ghost use Rattle.concurrent_queue.specs.history.Shared.{makes};
 
-    ghost then = { makes P.moves P.first E.event };
+    ghost then = { makes P.moves E.deed };
 }
 
-/// What a new call asks, which the proof of its beginning picks where it passes `Brand`.
-pub trait Asks<T> {
-    ghost use Rattle.concurrent_queue.specs.declared.call.QueueAsk.{QueueAsk};
-
-    ghost ask: { QueueAsk T };
+/// A state, which the proof of a call picks where the call passes `Brand`.
+pub trait Picks<T, A, P: Machine<T, A>> {
+    ghost state: { A };
 }
 
-impl<T> Asks<T> for Brand {
-    ghost use Rattle.concurrent_queue.specs.declared.call.QueueAsk.TheVariants.{Close};
-
-    ghost ask = { Close };
+impl<T, A, P: Machine<T, A>> Picks<T, A, P> for Brand {
+    ghost state = { P.first };
 }
 
-/// A new seat, whose party begins a call.
-pub struct Begins<P, I> {
-    of: PhantomData<(P, I)>,
+/// A new seat, whose party is at the state that was picked.
+pub struct Enters<P, E> {
+    of: PhantomData<(P, E)>,
 }
 
-impl<T, A, P: Machine<T, A>, I: Asks<T>> Play<Option<T>, View<T, A>> for Begins<P, I> {
+impl<T, A, P: Machine<T, A>, E: Picks<T, A, P>> Play<Option<T>, View<T, A>> for Enters<P, E> {
     ghost use Rattle.concurrent_queue.specs.history.Shared.{enters};
 
-    ghost then = { enters P.moves P.first I.ask };
+    ghost then = { enters E.state };
 }
 
-/// The party of a seat begins its next call.
-pub struct BeginsAgain<P, I> {
-    of: PhantomData<(P, I)>,
+/// The party of a seat goes to the state that was picked, and touches nothing.
+pub struct Turns<P, E> {
+    of: PhantomData<(P, E)>,
 }
 
-impl<T, A, P: Machine<T, A>, I: Asks<T>> Play<Option<T>, View<T, A>> for BeginsAgain<P, I> {
-    ghost use Rattle.concurrent_queue.specs.Bridge.{begins};
-    ghost use Rattle.concurrent_queue.specs.history.Shared.{makes};
+impl<T, A, P: Machine<T, A>, E: Picks<T, A, P>> Play<Option<T>, View<T, A>> for Turns<P, E> {
+    ghost use Rattle.concurrent_queue.specs.history.Shared.{turns};
 
-    ghost then = { makes P.moves P.first (begins I.ask) };
+    ghost then = { turns E.state };
+}
+
+/// A counting word is read.
+pub struct CountReads<P> {
+    of: PhantomData<P>,
+}
+
+impl<T, A, P: Machine<T, A>> Play<Option<T>, View<T, A>> for CountReads<P> {
+    ghost use Rattle.concurrent_queue.specs.history.Shared.{count_reads};
+
+    ghost then = { count_reads P.counts };
+}
+
+/// A counting word is made one less.
+pub struct CountLowers<P> {
+    of: PhantomData<P>,
+}
+
+impl<T, A, P: Machine<T, A>> Play<Option<T>, View<T, A>> for CountLowers<P> {
+    ghost use Rattle.concurrent_queue.specs.history.Shared.{count_lowers};
+
+    ghost then = { count_lowers P.counts };
+}
+
+/// A counting word is made one more, where it is what was expected.
+pub struct CountRaises<P> {
+    of: PhantomData<P>,
+}
+
+impl<T, A, P: Machine<T, A>> Play<Option<T>, View<T, A>> for CountRaises<P> {
+    ghost use Rattle.concurrent_queue.specs.history.Shared.{count_raises};
+
+    ghost then = { count_raises P.counts };
+}
+
+/// A seat is told its number.
+pub struct Names;
+
+impl<T, A> Play<Option<T>, View<T, A>> for Names {
+    ghost use Rattle.concurrent_queue.specs.history.Shared.{names};
+
+    ghost then = { names };
 }
 
 /// A new seat of no call, which is foreign where a foreign call was admitted before.
@@ -260,22 +355,69 @@ impl<T, A> Play<Option<T>, View<T, A>> for Wins {
     ghost then = { wins };
 }
 
-/// What is left to a seat whose party was joined into another's view, which the proof of the join picks where it passes `Brand`.
-pub trait Spends<T, A> {
+/// What is left to a seat whose party was joined into another's view, or taken in, which the proof of the join picks where it passes
+/// `Brand`.
+pub trait Spends<T, A, P: Machine<T, A>> {
     ghost use Rattle.concurrent_queue.specs.declared.history.rule.View.{View};
 
     ghost view: { View T A };
 }
 
-/// One party is joined into another's view.
-pub struct Joined<E> {
-    of: PhantomData<E>,
+impl<T, A, P: Machine<T, A>> Spends<T, A, P> for Brand {
+    ghost use Rattle.concurrent_queue.specs.declared.cells.QueueForm.TheVariants.{Unbounded};
+    ghost use Rattle.concurrent_queue.specs.history.Shared.{first_view};
+
+    ghost view = { first_view P.first Unbounded };
 }
 
-impl<T, A, E: Spends<T, A>> Join<View<T, A>> for Joined<E> {
+/// One party is joined into another's view.
+pub struct Joined<P, E> {
+    of: PhantomData<(P, E)>,
+}
+
+impl<T, A, P: Machine<T, A>, E: Spends<T, A, P>> Join<View<T, A>> for Joined<P, E> {
     ghost use Rattle.concurrent_queue.specs.history.Shared.{both_views};
 
     ghost both = { both_views };
 
     ghost spent = { E.view };
+}
+
+/// One party takes in what another has.
+pub struct TakesIn<P, E> {
+    of: PhantomData<(P, E)>,
+}
+
+impl<T, A, P: Machine<T, A>, E: Spends<T, A, P>> Join<View<T, A>> for TakesIn<P, E> {
+    ghost use Rattle.concurrent_queue.specs.history.Shared.{taking_in};
+
+    ghost both = { taking_in P.both };
+
+    ghost spent = { E.view };
+}
+
+/// What a party keeps and what a new one gets of what it has, which the proof of a call picks where the call passes `Brand`.
+pub trait PicksTwo<T, A, P: Machine<T, A>> {
+    ghost stays: { A };
+
+    ghost goes: { A };
+}
+
+impl<T, A, P: Machine<T, A>> PicksTwo<T, A, P> for Brand {
+    ghost stays = { P.first };
+
+    ghost goes = { P.first };
+}
+
+/// Some of what a party has goes to a new one.
+pub struct Parted<P, E> {
+    of: PhantomData<(P, E)>,
+}
+
+impl<T, A, P: Machine<T, A>, E: PicksTwo<T, A, P>> Split<View<T, A>> for Parted<P, E> {
+    ghost use Rattle.concurrent_queue.specs.history.Shared.{going_on, parted_view};
+
+    ghost left = { λ v. going_on v E.stays };
+
+    ghost right = { λ v. parted_view v E.goes };
 }

@@ -1,21 +1,22 @@
 //! The cells of a bounded queue that threads share, from a seat. Each operation is one event of one history, and is asked to be the next
 //! of its party's machine.
 
-ghost use Rattle.std.specs.Prelude.{true, false, ◌≡◌, ℕ, ◌+◌, ◌<◌, ◌≤◌, ◌^◌, [], ◌++◌, replicate, None, Some, Option, Ok, Err, Result, IfOk, MatchResult, MatchOption, MatchBool};
+ghost use Rattle.std.specs.Prelude.{false, ◌≡◌, ℕ, ◌+◌, ◌<◌, ◌≤◌, ◌^◌, [], ◌++◌, replicate, None, Some, Option, Ok, Err, Result, IfOk, MatchResult, MatchOption, MatchBool};
 ghost use Rattle.concurrent_queue.specs.Bridge.{does};
 ghost use Rattle.concurrent_queue.specs.Deeds.{loaded, stored, exchanged, added, bits_set, bits_kept, did_put, did_take};
 ghost use Rattle.concurrent_queue.specs.machine.RingMade.{numbers_below};
 ghost use Rattle.concurrent_queue.specs.Places.{place_of, index_of};
-ghost use Rattle.concurrent_queue.specs.history.Shared.{slots_of, stamps_of, words_of, flag_at, IsOwn, IsAbsent, IsNoSlot, answer, LeavesAll, Shown};
+ghost use Rattle.concurrent_queue.specs.history.Shared.{slots_of, stamps_of, words_of, flag_at, IsOwn, IsAbsent, IsNoSlot, answer, counts_set, LeavesAll};
 ghost use Rattle.concurrent_queue.specs.declared.cells.QueueForm.TheVariants.{Bounded};
 ghost use Rattle.concurrent_queue.specs.declared.cells.Slot.TheVariants.{At};
 
 use crate::QueueForm;
 use crate::cells::{Slot, Word};
 use crate::history::rule::{
-    Adds, Exchanges, Gives, Happened, Happens, KeepsBits, Loads, Looks, Machine, OneHistory, Puts,
+    Adds, Exchanges, Gives, Happened, Happens, KeepsBits, Loads, Machine, OneHistory, Puts,
     SetsBits, Stores, Takes, View,
 };
+use crate::history::seats::IdleSeat;
 use atomic_table::{Seat, Table};
 use std::alloc::{AllocError, Global};
 use std::marker::Brand;
@@ -36,8 +37,13 @@ const TAIL_BLOCK: usize = 17;
 
 const STAMPS: usize = 32;
 
-/// Where the word lies that is 0 until a foreign call is admitted, on a cache line of its own. It is no word of the machine.
+/// Where the word lies that is 0 until a foreign call is admitted, on a cache line of its own. It is no word of the queue.
 const FLAG: usize = 24;
+
+/// Where the two words lie with which the machine counts. They are no words of the queue either.
+pub(crate) const FIRST_COUNT: usize = 9;
+
+pub(crate) const SECOND_COUNT: usize = 28;
 
 /// The cells of a bounded queue: a guard for each slot, the queue's own words, and the slots.
 #[derive(Drop)]
@@ -48,7 +54,8 @@ pub struct RuledTable<T, A, P: Machine<T, A>> {
     ghost words: { table.shared.table_id.words ≡ slots_of table.shared.key + words_of table.shared.key },
 }
 
-/// The same from a party's seat, which has no slot. It has no drop, so a party's seat can't be let go by accident.
+/// The same from the seat of a party that acts. The seat has no slot, and knows its number. It has no drop, so that a call can't be left in
+/// its midst.
 pub struct CallSeat<'a, T, A, P: Machine<T, A>> {
     pub(crate) table: &'a KitTable<T, A, P>,
     /// How many slots the table has. It is loaded once, since each operation on a word may have changed what memory holds.
@@ -61,6 +68,7 @@ pub struct CallSeat<'a, T, A, P: Machine<T, A>> {
     ghost seated: { (seat.table_id ≡ table.now.shared.table_id) × (seat.me.0.form ≡ table.now.shared.key) },
     ghost free: { (seat.me.0.held ≡ None) × (seat.me.1 ≡ []) },
     ghost live: { seat.me.0.spent ≡ false },
+    ghost named: { seat.me.0.nameless ≡ false },
 }
 
 /// How many stamps the words of a queue have: one for each slot of a ring.
@@ -82,12 +90,20 @@ fn zeros(alloc: Global, count: usize) -> Result<Vec<u64>, AllocError>
     Ok(words)
 }
 
-/// All words of a new table: the guards and the queue's own words, which hold 0, and then the stamps, which hold 0, 1, 2 and so on.
-fn first_words(alloc: Global, slots: usize, stamps: usize) -> Result<Vec<u64>, AllocError>
+/// All words of a new table: the guards and the queue's own words, which hold 0, and then the stamps, which hold 0, 1, 2 and so on. Among
+/// the queue's own words lie the two counts.
+fn first_words(
+    alloc: Global,
+    slots: usize,
+    stamps: usize,
+    counted: u64,
+) -> Result<Vec<u64>, AllocError>
     requires { slots ≤ 2 ^ 58 }
-    ensures { IfOk result (λ v. v.items ≡ replicate (slots + 32) 0 ++ numbers_below stamps) }
+    ensures { IfOk result (λ v. v.items ≡ counts_set slots counted (replicate (slots + 32) 0) ++ numbers_below stamps) }
 {
     let mut words = zeros(alloc, slots + STAMPS)?;
+    words[slots + FIRST_COUNT] = counted;
+    words[slots + SECOND_COUNT] = counted;
     for stamp in 0..stamps {
         words.push(stamp as u64)?;
     }
@@ -161,16 +177,24 @@ pub(crate) fn slot_index<T, A, P: Machine<T, A>>(
 }
 
 impl<T, A, P: Machine<T, A>> RuledTable<T, A, P> {
-    /// The cells of a new queue that holds at most `capacity` messages. `Err` where there is no memory for them.
-    pub fn new(alloc: Global, capacity: usize) -> Result<RuledTable<T, A, P>, AllocError>
-        requires { (0 < capacity) × (capacity ≤ 2 ^ 58) }
-        ensures { IfOk result (λ c. c.table.shared.key ≡ Bounded capacity) }
+    /// The cells of a new queue that holds at most `capacity` messages, with the table's first party. `Err` where there is no memory for
+    /// them.
+    pub fn new(
+        alloc: Global,
+        capacity: usize,
+        counted: u64,
+    ) -> Result<(RuledTable<T, A, P>, IdleSeat<T, A>), AllocError>
+        requires capacity { (0 < capacity) × (capacity ≤ 2 ^ 58) }
+        requires counted { counted ≡ P.counted }
+        requires rests { P.rests P.opened }
+        ensures form { IfOk result (λ r. r.0.table.shared.key ≡ Bounded capacity) }
+        ensures first { IfOk result (λ r. (r.1.seat.me.0.state ≡ P.opened) × (r.1.seat.me.0.who ≡ 0) × (r.1.seat.me.0.over ≡ []) × (r.1.seat.table_id ≡ r.0.table.shared.table_id)) }
     {
         let stamps = stamps_for(capacity);
-        let words = first_words(alloc, capacity, stamps)?;
+        let words = first_words(alloc, capacity, stamps, counted)?;
         let form = QueueForm::Bounded(capacity);
-        let (table, _seat) = Table::vacant(alloc, words.as_slice(), capacity, &form)?;
-        Ok(RuledTable { table })
+        let (table, seat) = Table::vacant(alloc, words.as_slice(), capacity, &form)?;
+        Ok((RuledTable { table }, IdleSeat { seat }))
     }
 }
 
@@ -183,12 +207,12 @@ impl<'a, T, A, P: Machine<T, A>> CallSeat<'a, T, A, P> {
         QueueForm::Bounded(self.count)
     }
 
-    /// An event that leaves all cells as they are, which the proof of the call picks. It costs a load.
+    /// An operation that leaves all cells as they are, which the proof of the call picks. It costs a load.
     #[inline(always)]
-    pub fn happen<E: Happens<T>, X, Y>(&mut self, _about: &X, _and: &Y)
-        requires quiet { LeavesAll self.old.table.now.shared.key E.event }
-        requires next { (a : A) × P.moves self.old.seat.me.0.form self.old.seat.me.0.state E.event a }
-        ensures made { P.moves self.old.seat.me.0.form self.old.seat.me.0.state E.event self.new.seat.me.0.state }
+    fn happen<E: Happens<T>, X, Y>(&mut self, _about: &X, _and: &Y)
+        requires quiet { LeavesAll self.old.table.now.shared.key E.deed }
+        requires next { (a : A) × P.moves self.old.seat.me.0.form self.old.seat.me.0.state (does (Some E.deed)) a }
+        ensures made { P.moves self.old.seat.me.0.form self.old.seat.me.0.state (does (Some E.deed)) self.new.seat.me.0.state }
         ensures same { (self.new.seat.table_id ≡ self.old.seat.table_id) × (self.new.seat.me.0.who ≡ self.old.seat.me.0.who) × (self.new.seat.me.0.form ≡ self.old.seat.me.0.form) × (self.new.seat.me.0.over ≡ self.old.seat.me.0.over) }
     {
         let at = flag_index(self.table);
@@ -302,19 +326,6 @@ impl<'a, T, A, P: Machine<T, A>> CallSeat<'a, T, A, P> {
             }
         }
     }
-
-    /// At any moment, whatever other threads are in the midst of: there is one history of what all parties did. In it each party's part is
-    /// what its machine does, and this one's has led to where its view says. It costs a load. `false`: a foreign call was admitted, and
-    /// nothing is told.
-    #[inline(always)]
-    pub fn look(&mut self) -> bool
-        ensures history { result ≡ true → Shown P.moves P.first self.old.seat.me.0 }
-        ensures kept { (self.new.seat.me ≡ self.old.seat.me) × (self.new.seat.table_id ≡ self.old.seat.table_id) }
-    {
-        let at = flag_index(self.table);
-        let found = self.table.shared.load::<Looks<P>>(&mut self.seat, at);
-        found == 0
-    }
 }
 
 impl<'a, T, A, P: Machine<T, A>> CallSeat<'a, T, A, P> {
@@ -367,7 +378,7 @@ impl<'a, T, A, P: Machine<T, A>> CallSeat<'a, T, A, P> {
             return None;
         }
         let found = shared.exchange(&mut self.seat, index, None);
-        shared.store::<Gives<P>>(&mut self.seat, index, 0);
+        shared.store::<Gives>(&mut self.seat, index, 0);
         Some(found)
     }
 
@@ -390,12 +401,12 @@ impl<'a, T, A, P: Machine<T, A>> CallSeat<'a, T, A, P> {
         }
         match shared.exchange(&mut self.seat, index, brought) {
             None => {
-                shared.store::<Gives<P>>(&mut self.seat, index, 0);
+                shared.store::<Gives>(&mut self.seat, index, 0);
                 Ok(())
             }
             Some(old) => {
                 let back = shared.exchange(&mut self.seat, index, Some(old));
-                shared.store::<Gives<P>>(&mut self.seat, index, 0);
+                shared.store::<Gives>(&mut self.seat, index, 0);
                 match back {
                     Some(value) => Err((value, true)),
                     None => unreachable!(),

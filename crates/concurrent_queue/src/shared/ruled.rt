@@ -17,7 +17,7 @@ use crate::cells::QueueForm;
 use crate::error::{PopError, PushError};
 use crate::history::cells::HistoryCells;
 use crate::history::foreign::ForeignSeat;
-use crate::history::party::{OfQueue, Standing};
+use crate::history::party::{OfQueue, QueueCells, Standing};
 use crate::history::table::{CallSeat, RuledTable};
 use crate::queue_call::{QueueCall, seen};
 use crate::seen::{Seen, Trace, see_call, see_foreign};
@@ -40,7 +40,7 @@ impl<T> QueueTable<T> {
         requires { (0 < capacity) × (capacity ≤ 2 ^ 58) }
         ensures { IfOk result (λ t. form_of t ≡ Bounded capacity) }
     {
-        let table = RuledTable::new(alloc, capacity)?;
+        let (table, _first) = RuledTable::new(alloc, capacity, 0)?;
         Ok(QueueTable { table })
     }
 }
@@ -51,7 +51,7 @@ fn begin<'a, T: Drop>(table: &'a QueueTable<T>, ask: &QueueAsk<T>) -> QueueSeat<
     ensures begun { result.seat.me.0.state ≡ begun ask.now fresh }
     ensures same { (result.seat.table_id ≡ table.now.table.table.shared.table_id) × (result.seat.me.0.form ≡ (form_of table.now)) }
 {
-    table.table.begin::<Brand, QueueAsk<T>>(ask)
+    table.table.enter::<Brand, QueueAsk<T>>(ask)
 }
 
 /// The cells of a call that has just begun to ask this, seen by this trace.
@@ -60,7 +60,7 @@ fn call_cells<'a, T: Drop, S>(
     table: &'a QueueTable<T>,
     ask: &QueueAsk<T>,
     trace: S,
-) -> Seen<HistoryCells<'a, T>, S>
+) -> Seen<QueueCells<'a, T>, S>
     ensures begun { IsBegun result.cells.seat.seat.me.0 ask.now }
     ensures form { result.cells.seat.seat.me.0.form ≡ form_of table.now }
     ensures trace { result.trace ≡ trace }
@@ -84,7 +84,7 @@ fn make<T: Drop, R: Wait, S: Trace<T>>(
     let seen = call_cells(table, &ask, trace);
     let (reply, cells, trace) = seen::complete(rt, QueueCall::new(ask), seen);
     let HistoryCells { seat } = cells;
-    let _witness = seat.end();
+    let _witness = seat.rest();
     (reply, trace)
 }
 
@@ -99,10 +99,10 @@ pub(crate) fn push<T: Drop, R: Wait, S: Trace<T>>(
     ensures walked { WalkedAsking S.did (form_of table.now) (ask.Push value) trace (reply.Push (result.0)) (result.1) }
     ensures answers { MayAnswer (form_of table.now) (ask.Push value) (reply.Push (result.0)) }
 {
-    let seat = table.table.begin::<Brand, T>(&value);
+    let seat = table.table.enter::<Brand, T>(&value);
     let (answer, cells, trace) = seen::push(rt, value, see_call(HistoryCells { seat }, trace));
     let HistoryCells { seat } = cells;
-    let _witness = seat.end();
+    let _witness = seat.rest();
     (answer, trace)
 }
 
@@ -115,10 +115,10 @@ pub(crate) fn pop<T: Drop, R: Wait, S: Trace<T>>(
 ) -> (Result<T, PopError>, S)
     ensures walked { WalkedAsking S.did (form_of table.now) ask.Pop trace (reply.Pop (result.0)) (result.1) }
 {
-    let seat = table.table.begin::<Brand, ()>(&());
+    let seat = table.table.enter::<Brand, ()>(&());
     let (answer, cells, trace) = seen::pop(rt, see_call(HistoryCells { seat }, trace));
     let HistoryCells { seat } = cells;
-    let _witness = seat.end();
+    let _witness = seat.rest();
     (answer, trace)
 }
 
@@ -184,7 +184,7 @@ pub(crate) fn tell<T: Drop, S: Trace<T>>(
             let seen = call_cells(table, &ask, trace);
             let (reply, cells, trace) = seen::complete_question(ask, seen);
             let HistoryCells { seat } = cells;
-            let _witness = seat.end();
+            let _witness = seat.rest();
             (reply, trace)
         }
     }

@@ -1,10 +1,10 @@
 //! Calls of a queue with a bound, with a witness of what they asked and what they were answered.
 
-ghost use Rattle.std.specs.Prelude.{◌≡◌, ◌∷◌, ◌++◌, [], true};
+ghost use Rattle.std.specs.Prelude.{◌≡◌, ◌∷◌, ◌++◌, [], true, None};
 ghost use Rattle.concurrent_queue.specs.QueueTables.{form_of};
-ghost use Rattle.concurrent_queue.specs.Replies.{MayAnswer};
+ghost use Rattle.concurrent_queue.specs.Replies.{AsksWords, MayAnswer};
 ghost use Rattle.concurrent_queue.specs.history.Calls.{AsksCells};
-ghost use Rattle.concurrent_queue.specs.history.Runs.{IsRunWith};
+ghost use Rattle.concurrent_queue.specs.history.Runs.{begun, fresh, IsRunWith};
 ghost use Rattle.concurrent_queue.specs.history.Shared.{both_views};
 ghost use Rattle.concurrent_queue.specs.declared.call.QueueAsk.TheVariants as ask;
 ghost use Rattle.concurrent_queue.specs.declared.call.QueueReply.TheVariants as reply;
@@ -12,7 +12,7 @@ ghost use Rattle.concurrent_queue.specs.declared.call.QueueReply.TheVariants as 
 use crate::call::{QueueAsk, QueueReply};
 use crate::error::{ForcePushError, PopError, PushError};
 use crate::history::cells::HistoryCells;
-use crate::history::witness::Witness;
+use crate::history::party::{QueueCells, Witness};
 use crate::queue_call::{QueueCall, whole};
 use crate::shared::ruled::QueueTable;
 use std::marker::Brand;
@@ -32,6 +32,35 @@ pub struct Witnessed<'a, T: Drop> {
     table: &'a QueueTable<T>,
     witness: Witness<T>,
     ghost same: { witness.seat.table_id ≡ table.now.table.table.shared.table_id },
+    ghost rests: { witness.seat.me.0.state.call ≡ None },
+}
+
+/// A witness of a new party that has made no call. It costs a load.
+fn witness<T: Drop>(table: &QueueTable<T>) -> Witness<T>
+    ensures fresh { result.seat.me.0.state ≡ fresh }
+    ensures alone { result.seat.me.0.over ≡ [] }
+    ensures same { result.seat.table_id ≡ table.now.table.table.shared.table_id }
+{
+    let seat = table.table.enter::<Brand, ()>(&());
+    seat.rest()
+}
+
+/// The cells of the next call of the party of this witness, which asks this.
+#[inline(always)]
+fn next_cells<'a, T: Drop>(
+    table: &'a QueueTable<T>,
+    witness: Witness<T>,
+    ask: &QueueAsk<T>,
+) -> QueueCells<'a, T>
+    requires same { witness.seat.table_id ≡ table.now.table.table.shared.table_id }
+    requires rests { witness.seat.me.0.state.call ≡ None }
+    ensures begun { result.seat.seat.me.0.state ≡ begun ask.now witness.seat.me.0.state }
+    ensures form { result.seat.seat.me.0.form ≡ form_of table.now }
+    ensures party { (result.seat.seat.table_id ≡ witness.seat.table_id) × (result.seat.seat.me.0.who ≡ witness.seat.me.0.who) × (result.seat.seat.me.0.over ≡ witness.seat.me.0.over) }
+{
+    let mut seat = table.table.go_on(witness);
+    seat.turn::<Brand, QueueAsk<T>>(ask);
+    HistoryCells { seat }
 }
 
 /// A call that touches cells, as the next one of the party of this witness.
@@ -44,17 +73,42 @@ fn make<T: Drop, R: Wait>(
 ) -> (QueueReply<T>, Witness<T>)
     requires cells { AsksCells ask }
     requires same { witness.seat.table_id ≡ table.now.table.table.shared.table_id }
+    requires rests { witness.seat.me.0.state.call ≡ None }
+    ensures rests { result.1.seat.me.0.state.call ≡ None }
     ensures same { result.1.seat.table_id ≡ table.now.table.table.shared.table_id }
     ensures party { (result.1.seat.me.0.who ≡ witness.seat.me.0.who) × (result.1.seat.me.0.over ≡ witness.seat.me.0.over) }
     ensures asked { result.1.seat.me.0.state.asked ≡ witness.seat.me.0.state.asked ++ ask ∷ [] }
     ensures answered { result.1.seat.me.0.state.replies ≡ witness.seat.me.0.state.replies ++ result.0 ∷ [] }
     ensures answers { MayAnswer (form_of table.now) ask result.0 }
 {
-    let seat = table.table.begin_again::<Brand, QueueAsk<T>>(witness, &ask);
-    let mut cells = HistoryCells { seat };
+    let mut cells = next_cells(table, witness, &ask);
     let reply = whole::complete(rt, QueueCall::new(ask), &mut cells);
     let HistoryCells { seat } = cells;
-    (reply, seat.end())
+    (reply, seat.rest())
+}
+
+/// The same of a call that waits for nobody.
+#[inline(always)]
+fn tell<T: Drop>(
+    table: &QueueTable<T>,
+    witness: Witness<T>,
+    ask: QueueAsk<T>,
+) -> (QueueReply<T>, Witness<T>)
+    requires words { AsksWords ask }
+    requires cells { AsksCells ask }
+    requires same { witness.seat.table_id ≡ table.now.table.table.shared.table_id }
+    requires rests { witness.seat.me.0.state.call ≡ None }
+    ensures rests { result.1.seat.me.0.state.call ≡ None }
+    ensures same { result.1.seat.table_id ≡ table.now.table.table.shared.table_id }
+    ensures party { (result.1.seat.me.0.who ≡ witness.seat.me.0.who) × (result.1.seat.me.0.over ≡ witness.seat.me.0.over) }
+    ensures asked { result.1.seat.me.0.state.asked ≡ witness.seat.me.0.state.asked ++ ask ∷ [] }
+    ensures answered { result.1.seat.me.0.state.replies ≡ witness.seat.me.0.state.replies ++ result.0 ∷ [] }
+    ensures answers { MayAnswer (form_of table.now) ask result.0 }
+{
+    let mut cells = next_cells(table, witness, &ask);
+    let reply = whole::tell(ask, &mut cells);
+    let HistoryCells { seat } = cells;
+    (reply, seat.rest())
 }
 
 impl<'a, T: Drop> Witnessed<'a, T> {
@@ -68,7 +122,7 @@ impl<'a, T: Drop> Witnessed<'a, T> {
         ensures alone { (view_of result).over ≡ [] }
         ensures same { table_of result ≡ Some table.now.table.table.shared.table_id }
     {
-        let witness = table.table.witness();
+        let witness = witness(table);
         Witnessed { table, witness }
     }
 
@@ -77,10 +131,11 @@ impl<'a, T: Drop> Witnessed<'a, T> {
         ensures called { HasCalled self.entry (ask.Push value) (reply.Push result.0) result.1 }
     {
         let Witnessed { table, witness } = self;
-        let seat = table.table.begin_again::<Brand, T>(witness, &value);
+        let mut seat = table.table.go_on(witness);
+        seat.turn::<Brand, T>(&value);
         let (answer, cells) = whole::push(rt, value, HistoryCells { seat });
         let HistoryCells { seat } = cells;
-        let witness = seat.end();
+        let witness = seat.rest();
         (answer, Witnessed { table, witness })
     }
 
@@ -105,19 +160,20 @@ impl<'a, T: Drop> Witnessed<'a, T> {
         ensures called { HasCalled self.entry ask.Pop (reply.Pop result.0) result.1 }
     {
         let Witnessed { table, witness } = self;
-        let seat = table.table.begin_again::<Brand, ()>(witness, &());
+        let mut seat = table.table.go_on(witness);
+        seat.turn::<Brand, ()>(&());
         let (answer, cells) = whole::pop(rt, HistoryCells { seat });
         let HistoryCells { seat } = cells;
-        let witness = seat.end();
+        let witness = seat.rest();
         (answer, Witnessed { table, witness })
     }
 
     /// Closes the queue, as `close` of the queue does.
-    pub fn close<R: Wait>(self, rt: &R) -> (bool, Witnessed<'a, T>)
+    pub fn close(self) -> (bool, Witnessed<'a, T>)
         ensures called { HasCalled self.entry ask.Close (reply.Close result.0) result.1 }
     {
         let Witnessed { table, witness } = self;
-        let (reply, witness) = make(table, rt, witness, QueueAsk::Close);
+        let (reply, witness) = tell(table, witness, QueueAsk::Close);
         match reply {
             QueueReply::Close(answer) => (answer, Witnessed { table, witness }),
             _ => unreachable!(),

@@ -1,7 +1,0 @@
-use Rattle.concurrent_queue.proofs.HistorySteps.{looks_so}
-use Rattle.concurrent_queue.proofs.history.witness.RuledTable+T+Standing+T+OfQueue.look.Goals as goal
-
-pub load-found-requires : goal.load-found-requires
-load-found-requires g c =
-    let q = c.args.self.now in
-    (c.requires.same, c.flag_index-at.ensures.1, looks_so _ _ q.table.shared.key _ _ _ _ c.flag_index-at.ensures.0 c.args.witness.now.live)

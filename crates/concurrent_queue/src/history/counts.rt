@@ -1,0 +1,64 @@
+//! Operations on the two words with which a machine counts. Each is asked to be the next step of its party's machine.
+
+ghost use Rattle.std.specs.Prelude.{◌≡◌, ℕ, ◌+◌, ◌-◌, ◌<◌, ◌^◌};
+ghost use Rattle.concurrent_queue.specs.history.Shared.{slots_of, words_of, count_at};
+ghost use Rattle.concurrent_queue.specs.declared.history.rule.CountStep.TheVariants.{Read, Lower, Raise};
+
+use crate::history::rule::{CountLowers, CountRaises, CountReads, Counter, Machine};
+use crate::history::table::{CallSeat, FIRST_COUNT, KitTable, SECOND_COUNT};
+
+/// Where a counting word lies.
+#[inline(always)]
+fn count_index<T, A, P: Machine<T, A>>(table: &KitTable<T, A, P>, which: Counter) -> usize
+    requires slots { table.now.shared.table_id.slots ≡ slots_of table.now.shared.key }
+    requires words { table.now.shared.table_id.words ≡ slots_of table.now.shared.key + words_of table.now.shared.key }
+    ensures { (result ≡ count_at table.now.shared.key which) × (result < table.now.shared.table_id.words) }
+{
+    let _end = table.word_count();
+    match which {
+        Counter::First => table.slot_count() + FIRST_COUNT,
+        Counter::Second => table.slot_count() + SECOND_COUNT,
+    }
+}
+
+impl<'a, T, A, P: Machine<T, A>> CallSeat<'a, T, A, P> {
+    /// What the word holds. It costs a load.
+    #[inline(always)]
+    pub fn count(&mut self, which: Counter) -> u64
+        requires next { (n : ℕ) → (a : A) × P.counts self.old.seat.me.0.form self.old.seat.me.0.state a which Read n }
+        ensures made { P.counts self.old.seat.me.0.form self.old.seat.me.0.state self.new.seat.me.0.state which Read result }
+        ensures same { (self.new.seat.table_id ≡ self.old.seat.table_id) × (self.new.seat.me.0.who ≡ self.old.seat.me.0.who) × (self.new.seat.me.0.form ≡ self.old.seat.me.0.form) × (self.new.seat.me.0.over ≡ self.old.seat.me.0.over) }
+    {
+        let at = count_index(self.table, which);
+        self.table.shared.load::<CountReads<P>>(&mut self.seat, at)
+    }
+
+    /// Makes the word one less, and answers what it held.
+    #[inline(always)]
+    pub fn lower_count(&mut self, which: Counter) -> u64
+        requires next { (n : ℕ) → (a : A) × P.counts self.old.seat.me.0.form self.old.seat.me.0.state a which Lower n }
+        ensures made { P.counts self.old.seat.me.0.form self.old.seat.me.0.state self.new.seat.me.0.state which Lower result }
+        ensures same { (self.new.seat.table_id ≡ self.old.seat.table_id) × (self.new.seat.me.0.who ≡ self.old.seat.me.0.who) × (self.new.seat.me.0.form ≡ self.old.seat.me.0.form) × (self.new.seat.me.0.over ≡ self.old.seat.me.0.over) }
+    {
+        let at = count_index(self.table, which);
+        // One step: of two who lower the word at once, only one may find that it was the last.
+        self.table
+            .shared
+            .fetch_sub::<CountLowers<P>>(&mut self.seat, at, 1)
+    }
+
+    /// Makes the word one more where it holds `from`, and answers what it held.
+    #[inline(always)]
+    pub fn raise_count(&mut self, which: Counter, from: u64) -> u64
+        requires room { from < 2 ^ 64 - 1 }
+        requires next { (n : ℕ) → (a : A) × P.counts self.old.seat.me.0.form self.old.seat.me.0.state a which (Raise from) n }
+        ensures made { P.counts self.old.seat.me.0.form self.old.seat.me.0.state self.new.seat.me.0.state which (Raise from) result }
+        ensures same { (self.new.seat.table_id ≡ self.old.seat.table_id) × (self.new.seat.me.0.who ≡ self.old.seat.me.0.who) × (self.new.seat.me.0.form ≡ self.old.seat.me.0.form) × (self.new.seat.me.0.over ≡ self.old.seat.me.0.over) }
+    {
+        let at = count_index(self.table, which);
+        // An exchange and no addition: who raises has tested that there is room above `from`, and of another number nothing was tested.
+        self.table
+            .shared
+            .compare_exchange::<CountRaises<P>>(&mut self.seat, at, from, from + 1)
+    }
+}

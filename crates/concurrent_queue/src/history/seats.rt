@@ -1,0 +1,211 @@
+//! The seats of parties between their calls: how a party comes, goes on, and rests; how one is told of the history; and how what lies with one
+//! goes to another. Nothing else makes a seat that acts or lets one go, so a body that stops in the midst of a call is no program.
+
+ghost use Rattle.std.specs.Prelude.{true, false, ◌≡◌, ℕ, [], None};
+ghost use Rattle.concurrent_queue.specs.history.Shared.{Shown, both_views, left_view, spent_view};
+ghost use Rattle.concurrent_queue.specs.declared.cells.QueueForm.TheVariants.{Bounded};
+
+use crate::history::rule::{
+    Enters, Joined, Looks, Machine, Names, Parted, Picks, PicksTwo, Spends, TakesIn, Turns, View,
+};
+use crate::history::table::{CallSeat, RuledTable, flag_index};
+use atomic_table::Seat;
+use std::marker::Brand;
+
+/// The seat of a party that has no call under way, which knows its number: a value of no bytes. It names no table by reference, so it can
+/// lie in a struct, and in a slot of another table. Nothing makes one of a party that has a call under way; what its party's state is, who
+/// keeps it says.
+#[derive(Drop)]
+pub struct IdleSeat<T, A> {
+    pub(crate) seat: Seat<Option<T>, View<T, A>>,
+    ghost formed: { seat.me.0.form ≡ Bounded seat.table_id.slots },
+    ghost free: { (seat.me.0.held ≡ None) × (seat.me.1 ≡ []) },
+    ghost live: { seat.me.0.spent ≡ false },
+    ghost named: { seat.me.0.nameless ≡ false },
+}
+
+/// The same of a party that may not know its number, as one that came of another: it can't look.
+#[derive(Drop)]
+pub struct NamelessSeat<T, A> {
+    pub(crate) seat: Seat<Option<T>, View<T, A>>,
+    ghost formed: { seat.me.0.form ≡ Bounded seat.table_id.slots },
+    ghost free: { (seat.me.0.held ≡ None) × (seat.me.1 ≡ []) },
+    ghost live: { seat.me.0.spent ≡ false },
+}
+
+impl<T, A> IdleSeat<T, A> {
+    /// The same seat, of which nobody knows any more whether it knows its number. It makes no operation.
+    #[inline(always)]
+    pub fn forget_name(self) -> NamelessSeat<T, A>
+        ensures { result.seat ≡ self.entry.seat }
+    {
+        let IdleSeat { seat } = self;
+        NamelessSeat { seat }
+    }
+}
+
+impl<T, A, P: Machine<T, A>> RuledTable<T, A, P> {
+    /// A new party comes, at a state that the proof of the caller picks, who says what it is about. It costs a load, which makes its seat.
+    #[inline(always)]
+    pub fn enter<E: Picks<T, A, P>, X>(&self, _about: &X) -> CallSeat<'_, T, A, P>
+        requires enters { P.enters self.now.table.shared.key E.state }
+        ensures state { result.seat.me.0.state ≡ E.state }
+        ensures same { (result.seat.table_id ≡ self.now.table.shared.table_id) × (result.seat.me.0.form ≡ self.now.table.shared.key) }
+        ensures alone { result.seat.me.0.over ≡ [] }
+    {
+        let at = flag_index(&self.table);
+        let (_, seat) = self.table.shared.load_new_seat::<Enters<P, E>>(at);
+        CallSeat {
+            table: &self.table,
+            count: self.table.slot_count(),
+            seat,
+        }
+    }
+
+    /// The party of this seat goes on. It makes no operation.
+    #[inline(always)]
+    pub fn go_on(&self, idle: IdleSeat<T, A>) -> CallSeat<'_, T, A, P>
+        requires same { idle.seat.table_id ≡ self.now.table.shared.table_id }
+        ensures same { result.seat ≡ idle.seat }
+        ensures form { result.seat.me.0.form ≡ self.now.table.shared.key }
+    {
+        let IdleSeat { seat } = idle;
+        CallSeat {
+            table: &self.table,
+            count: self.table.slot_count(),
+            seat,
+        }
+    }
+
+    /// A seat is told its number, so that its party can make calls that are told of the history. It costs a load.
+    #[inline(always)]
+    pub fn name(&self, nameless: NamelessSeat<T, A>) -> IdleSeat<T, A>
+        requires same { nameless.seat.table_id ≡ self.now.table.shared.table_id }
+        ensures same { (result.seat.table_id ≡ nameless.seat.table_id) × (result.seat.me.0.state ≡ nameless.seat.me.0.state) × (result.seat.me.0.form ≡ nameless.seat.me.0.form) × (result.seat.me.0.over ≡ nameless.seat.me.0.over) }
+    {
+        let NamelessSeat { seat } = nameless;
+        let mut seat = seat;
+        let at = flag_index(&self.table);
+        self.table.shared.load::<Names>(&mut seat, at);
+        IdleSeat { seat }
+    }
+
+    /// At any moment, whatever threads are in the midst of: there is one history of what all parties did, in which the party of this seat
+    /// stands where its view says, and so does each that was joined in. It costs a load. `false`: a foreign call was admitted, and nothing is
+    /// told; of a machine that admits none it always tells.
+    pub fn look(&self, idle: &mut IdleSeat<T, A>) -> bool
+        requires same { idle.old.seat.table_id ≡ self.now.table.shared.table_id }
+        ensures history { (P.admits → result ≡ true) → Shown P.history idle.old.seat.me.0 }
+        ensures kept { (idle.new.seat.me ≡ idle.old.seat.me) × (idle.new.seat.table_id ≡ idle.old.seat.table_id) }
+    {
+        let at = flag_index(&self.table);
+        let found = self.table.shared.load::<Looks<P>>(&mut idle.seat, at);
+        found == 0
+    }
+
+    /// Joins another party into the view of this one, so that one look tells of both in one history. It costs a load.
+    pub fn join(&self, one: &mut IdleSeat<T, A>, other: IdleSeat<T, A>)
+        requires one { one.old.seat.table_id ≡ self.now.table.shared.table_id }
+        requires other { other.seat.table_id ≡ self.now.table.shared.table_id }
+        ensures joined { one.new.seat.me.0 ≡ both_views one.old.seat.me.0 other.seat.me.0 }
+        ensures same { one.new.seat.table_id ≡ one.old.seat.table_id }
+    {
+        self.join_as::<Brand>(one, other);
+    }
+
+    /// The same, with what is left to the other's seat.
+    fn join_as<E: Spends<T, A, P>>(&self, one: &mut IdleSeat<T, A>, other: IdleSeat<T, A>)
+        requires one { one.old.seat.table_id ≡ self.now.table.shared.table_id }
+        requires other { other.seat.table_id ≡ self.now.table.shared.table_id }
+        requires spent { E.view ≡ spent_view other.seat.me.0 }
+        ensures joined { one.new.seat.me.0 ≡ both_views one.old.seat.me.0 other.seat.me.0 }
+        ensures same { one.new.seat.table_id ≡ one.old.seat.table_id }
+    {
+        let IdleSeat { seat } = other;
+        self.table
+            .shared
+            .join_seat::<Joined<P, E>>(&mut one.seat, seat);
+    }
+}
+
+impl<'a, T, A, P: Machine<T, A>> CallSeat<'a, T, A, P> {
+    /// The party rests, which has no call under way. It makes no operation.
+    #[inline(always)]
+    pub fn rest(self) -> IdleSeat<T, A>
+        requires rests { P.rests self.seat.me.0.state }
+        ensures { result.seat ≡ self.entry.seat }
+    {
+        let CallSeat {
+            table: _,
+            count: _,
+            seat,
+        } = self;
+        IdleSeat { seat }
+    }
+
+    /// The party makes a step that touches no cell and no count, to a state that the proof of the caller picks, who says what it is about. It
+    /// costs a load.
+    #[inline(always)]
+    pub fn turn<E: Picks<T, A, P>, X>(&mut self, _about: &X)
+        requires next { P.turns self.old.seat.me.0.form self.old.seat.me.0.state E.state }
+        ensures made { self.new.seat.me.0.state ≡ E.state }
+        ensures same { (self.new.seat.table_id ≡ self.old.seat.table_id) × (self.new.seat.me.0.who ≡ self.old.seat.me.0.who) × (self.new.seat.me.0.form ≡ self.old.seat.me.0.form) × (self.new.seat.me.0.over ≡ self.old.seat.me.0.over) }
+    {
+        let at = flag_index(self.table);
+        self.table
+            .shared
+            .load::<Turns<P, E>>(&mut self.seat, at);
+    }
+
+    /// As `look` of the table, of a party that acts.
+    #[inline(always)]
+    pub fn look(&mut self) -> bool
+        ensures history { (P.admits → result ≡ true) → Shown P.history self.old.seat.me.0 }
+        ensures kept { (self.new.seat.me ≡ self.old.seat.me) × (self.new.seat.table_id ≡ self.old.seat.table_id) }
+    {
+        let at = flag_index(self.table);
+        let found = self.table.shared.load::<Looks<P>>(&mut self.seat, at);
+        found == 0
+    }
+
+    /// The party takes in what lies with another seat of the table. Who was joined into the other's view is listed no more. It costs a load.
+    #[inline(always)]
+    pub fn take_in(&mut self, other: NamelessSeat<T, A>)
+        requires other { other.seat.table_id ≡ self.old.seat.table_id }
+        ensures made { self.new.seat.me.0.state ≡ P.both self.old.seat.me.0.state other.seat.me.0.state }
+        ensures same { (self.new.seat.table_id ≡ self.old.seat.table_id) × (self.new.seat.me.0.who ≡ self.old.seat.me.0.who) × (self.new.seat.me.0.form ≡ self.old.seat.me.0.form) × (self.new.seat.me.0.over ≡ self.old.seat.me.0.over) }
+    {
+        self.take_in_as::<Brand>(other);
+    }
+
+    /// The same, with what is left to the other's seat.
+    #[inline(always)]
+    fn take_in_as<E: Spends<T, A, P>>(&mut self, other: NamelessSeat<T, A>)
+        requires other { other.seat.table_id ≡ self.old.seat.table_id }
+        requires spent { E.view ≡ left_view P.left other.seat.me.0 }
+        ensures made { self.new.seat.me.0.state ≡ P.both self.old.seat.me.0.state other.seat.me.0.state }
+        ensures same { (self.new.seat.table_id ≡ self.old.seat.table_id) × (self.new.seat.me.0.who ≡ self.old.seat.me.0.who) × (self.new.seat.me.0.form ≡ self.old.seat.me.0.form) × (self.new.seat.me.0.over ≡ self.old.seat.me.0.over) }
+    {
+        let NamelessSeat { seat } = other;
+        self.table
+            .shared
+            .join_seat::<TakesIn<P, E>>(&mut self.seat, seat);
+    }
+
+    /// Some of what lies with the party goes to a new one, which has no call under way; which the proof of the caller picks, who says what it
+    /// is about. It costs a load.
+    #[inline(always)]
+    pub fn part<E: PicksTwo<T, A, P>, X>(&mut self, _about: &X) -> NamelessSeat<T, A>
+        requires parts { P.parts self.old.seat.me.0.form self.old.seat.me.0.state E.stays E.goes }
+        requires rests { P.rests E.goes }
+        ensures stays { self.new.seat.me.0.state ≡ E.stays }
+        ensures goes { (result.seat.me.0.state ≡ E.goes) × (result.seat.me.0.over ≡ []) × (result.seat.me.0.form ≡ self.old.seat.me.0.form) × (result.seat.table_id ≡ self.old.seat.table_id) }
+        ensures same { (self.new.seat.table_id ≡ self.old.seat.table_id) × (self.new.seat.me.0.who ≡ self.old.seat.me.0.who) × (self.new.seat.me.0.form ≡ self.old.seat.me.0.form) × (self.new.seat.me.0.over ≡ self.old.seat.me.0.over) }
+    {
+        let seat = self
+            .table
+            .shared
+            .split_seat::<Parted<P, E>>(&mut self.seat);
+        NamelessSeat { seat }
+    }
+}
