@@ -16,6 +16,7 @@ mod InHand
 mod Joining
 mod Splitting
 mod Row
+pub mod Machine
 mod ByViews
 mod Asking
 mod Replying

@@ -11,3 +11,5 @@ pub mod Registrations
 pub mod InHand
 pub mod Accounts
 pub mod Row
+pub mod KeepsCopy
+pub mod Machine

@@ -1,0 +1,161 @@
+-- What a channel's parties do as the machine of a queue's table keeps their history.
+use Rattle.std.proofs.Common.{◌≡◌, ◌≢◌, ℕ, zero, suc, ◌+◌, ◌-◌, ◌<◌, ◌≤◌, ◌%◌, ◌^◌, ◌==◌, nat_lt, Bool, true, false, List, [], ◌∷◌, ◌++◌, length, set, if◌then◌else◌, inl, inr, refl, sym, ap, ◌∙◌, subst, arith, eq-eqb}
+use Rattle.std.proofs.lemmas.Bool.Decides.{nat_tests}
+use Rattle.std.proofs.lemmas.List.{map-set, map-append}
+use Rattle.std.specs.Prelude.{Some}
+use mathlib.Core.Option.{some, some-injective, some-ne-none}
+use native.Mathlib.Decide.{ℕ_discrete}
+use lib.ListN.{get_elem?}
+use Rattle.concurrent_queue.proofs.Callers.{is_same}
+use Rattle.concurrent_queue.specs.Bridge.{Event, does}
+use Rattle.concurrent_queue.specs.Contents.{Contents}
+use Rattle.concurrent_queue.specs.Deeds as cell
+use Rattle.concurrent_queue.specs.Made.{new_cells}
+use Rattle.concurrent_queue.specs.declared.cells.QueueForm.{QueueForm}
+use Rattle.concurrent_queue.specs.declared.history.rule.View.{View}
+use Rattle.channel_calls.specs.Deeds.{counted, lowered, raised}
+use Rattle.channel_calls.specs.declared.stage.Side.TheVariants.{Senders, Receivers}
+use Rattle.channel_steps.specs.every_run.Bridge.{on_queue}
+use Rattle.channel_history.specs.History.{IsChannelHistory}
+use Rattle.channel_history.specs.Keeps.{IsAt, ChangesCounts, Leaves}
+use Rattle.channel_history.specs.KeepsCopy.{KeepsHistory, counted_after, count_of, first_after, second_after, Counter, First, Second, CountStep, Read, Lower, Raise}
+use Rattle.channel_history.specs.Machine.{side_of, Fits, new_list, count_deed, state_of, states, history, opened, enters, turns, begins, ends, makes, counts, both, left, parts}
+use Rattle.channel_history.specs.Party.{nothing, fresh, with_own, standing_of, Makes}
+use Rattle.channel_history.specs.declared.party.Standing.{Standing}
+use Rattle.channel_history.proofs.Deeds.{deeds_do}
+use Rattle.channel_history.proofs.Goes.{moved}
+use Rattle.channel_history.proofs.Handles.{count_operations_keep, handles_are_counted}
+use Rattle.channel_history.proofs.Joining.{joins_keep}
+use Rattle.channel_history.proofs.Keeping.{opens_well, queue_operations_keep, beginnings_keep, arrivals_keep, endings_keep}
+use Rattle.channel_history.proofs.Lying.{lie_with_new}
+use Rattle.channel_history.proofs.Seats.{stands_past, stands_last, stands_before}
+use Rattle.channel_history.proofs.Sections.{sections_keep}
+use Rattle.channel_history.proofs.Splitting.{splits_keep}
+
+-- a word that isn't 0 is made one less
+lowered_by_one : (n : ℕ) → n ≢ 0 → n < 2 ^ 64 → (n + (2 ^ 64 - 1)) % 2 ^ 64 ≡ n - 1
+lowered_by_one n more fits = omega arith
+
+has_room : (n k : ℕ) → n ≡ k → (n ≡ k → k < 2 ^ 64 - 1) → nat_lt n (2 ^ 64 - 1) ≡ true
+has_room n k is fits = let h = fits is in grind (arith, nat_tests)
+
+-- only what is counted is lowered, and a raise that finds its number has room
+abbrev Can : CountStep → ℕ → Type 0
+Can Lower n = n ≢ 0
+Can op n = Fits op n
+
+module _ {T W : Type 0} where
+  -- ---- a new party
+
+  module _ (form : QueueForm) (views : List (Standing T W)) (c : Contents T) (n m : ℕ) (h : IsChannelHistory form views c n m) where
+    as_before : (q : ℕ) → Dec (q ≡ length views) → with_own nothing (standing_of (views ++ fresh ∷ []) q) ≡ with_own nothing (standing_of views q)
+    as_before q (yes is) =
+        subst (λ (k : ℕ). with_own nothing (standing_of (views ++ fresh ∷ []) k) ≡ with_own nothing (standing_of views k)) (sym is)
+        (ap (λ (s : Standing T W). with_own nothing s) (stands_last views fresh ∙ sym (stands_past views)))
+    as_before q (no apart) = ap (λ (s : Standing T W). with_own nothing s) (stands_before views q fresh apart)
+
+    pub enters_keep : (t : Standing T W) → enters form t → IsChannelHistory form (views ++ t ∷ []) c n m
+    enters_keep t (inl is) =
+        subst (λ (s : Standing T W). IsChannelHistory form (views ++ s ∷ []) c n m) (sym is)
+        (moved form views (views ++ fresh ∷ []) c n m h (λ q. as_before q (ℕ_discrete q (length views))) (lie_with_new views fresh refl h.listening n m h.lie))
+    enters_keep t (inr (ask, begun, none)) = arrivals_keep T W form views c n m t ask h begun none
+
+    -- ---- a step that touches no cell and no count
+
+    module _ (p : ℕ) (s t : Standing T W) (there : IsAt views p s) where
+      pub turns_keep : turns form s t → IsChannelHistory form (set views p t) c n m
+      turns_keep (begins ask begun own) = beginnings_keep T W form views c n m p s t ask h there begun own
+      turns_keep (ends ended own) = endings_keep T W form views c n m p s t h there ended own
+      turns_keep (makes line l k o made has has' leaves changes) = sections_keep T W form views c n m p s t line l k o h there made has has' leaves changes
+
+  -- ---- an operation on a count
+
+  raises_senders : (k n m : ℕ) (b : Bool) → (n == k) ≡ b → Can (Raise k) n → ChangesCounts {T = T} {W = W} (raised Senders k b) n m (if b then k + 1 else n) m
+  raises_senders k n m true e can =
+      let is : n ≡ k = is_same n k e in
+      subst (λ (x : ℕ). ChangesCounts {T = T} {W = W} (raised Senders x true) n m (x + 1) m) is ((deeds_do T W).raises n m (has_room n k is can))
+  raises_senders k n m false e can = ((deeds_do T W).finds_another n m k).0 e
+
+  raises_receivers : (k n m : ℕ) (b : Bool) → (m == k) ≡ b → Can (Raise k) m → ChangesCounts {T = T} {W = W} (raised Receivers k b) n m n (if b then k + 1 else m)
+  raises_receivers k n m true e can =
+      let is : m ≡ k = is_same m k e in
+      subst (λ (x : ℕ). ChangesCounts {T = T} {W = W} (raised Receivers x true) n m n (x + 1)) is ((deeds_do T W).raises_other n m (has_room m k is can))
+  raises_receivers k n m false e can = ((deeds_do T W).finds_another n m k).1 e
+
+  changes : (which : Counter) (op : CountStep) (n m : ℕ) → Can op (count_of which n m) → count_of which n m < 2 ^ 64
+      → ChangesCounts {T = T} {W = W} (count_deed (side_of which) op (count_of which n m)) n m (first_after which op n) (second_after which op m)
+  changes First Read n m can fits = ((deeds_do T W).reads n m).0
+  changes Second Read n m can fits = ((deeds_do T W).reads n m).1
+  changes First Lower n m can fits = subst (λ (x : ℕ). ChangesCounts {T = T} {W = W} (lowered Senders n) n m x m) (sym (lowered_by_one n can fits)) ((deeds_do T W).lowers n m).0
+  changes Second Lower n m can fits = subst (λ (x : ℕ). ChangesCounts {T = T} {W = W} (lowered Receivers m) n m n x) (sym (lowered_by_one m can fits)) ((deeds_do T W).lowers n m).1
+  changes First (Raise k) n m can fits = raises_senders k n m (n == k) refl can
+  changes Second (Raise k) n m can fits = raises_receivers k n m (m == k) refl can
+
+  module _ (form : QueueForm) (views : List (Standing T W)) (c : Contents T) (n m : ℕ) (h : IsChannelHistory form views c n m) (p : ℕ) (s t : Standing T W) (there : IsAt views p s) where
+    can_be : (which : Counter) (op : CountStep) → Leaves (count_deed {T = T} {W = W} (side_of which) op (count_of which n m)) s t → Fits op (count_of which n m) → Can op (count_of which n m)
+    can_be First Lower leaves fits = (handles_are_counted T W form views c n m h Senders).lowers p s t.own.handles there leaves.0
+    can_be Second Lower leaves fits = (handles_are_counted T W form views c n m h Receivers).lowers p s t.own.handles there leaves.0
+    can_be which Read leaves fits = tt
+    can_be which (Raise k) leaves fits = fits
+
+    pub counts_keep : (which : Counter) (op : CountStep) → counts form s t which op (count_of which n m) → count_of which n m < 2 ^ 64
+        → IsChannelHistory form (set views p t) c (first_after which op n) (second_after which op m)
+    counts_keep which op (made, lists, leaves, fits) within =
+        count_operations_keep T W form views c n m (first_after which op n) (second_after which op m) p s t (count_deed (side_of which) op (count_of which n m)) h there made lists leaves
+        (changes which op n m (can_be which op leaves fits) within)
+
+  -- ---- where the parties of views stand
+
+  states_set : (views : List (View T (Standing T W))) (p : ℕ) (w : View T (Standing T W)) → states (set views p w) ≡ set (states views) p w.state
+  states_set views p w = map-set state_of views p w
+
+  states_more : (views : List (View T (Standing T W))) (w : View T (Standing T W)) → states (views ++ w ∷ []) ≡ states views ++ w.state ∷ []
+  states_more views w = map-append state_of views (w ∷ [])
+
+  is_at : (views : List (View T (Standing T W))) (p : ℕ) (v : View T (Standing T W)) → get_elem? views p ≡ some v → IsAt (states views) p v.state
+  is_at [] p v there = absurd (some-ne-none v (sym there))
+  is_at (x ∷ xs) zero v there = ap (λ (s : Standing T W). some s) (ap state_of (some-injective x v there))
+  is_at (x ∷ xs) (suc p) v there = is_at xs p v there
+
+  states_same : (views : List (View T (Standing T W))) (p : ℕ) (v w : View T (Standing T W)) → get_elem? views p ≡ some v → w.state ≡ v.state → states (set views p w) ≡ states views
+  states_same [] p v w there is = absurd (some-ne-none v (sym there))
+  states_same (x ∷ xs) zero v w there is = ap (λ (s : Standing T W). s ∷ states xs) (is ∙ sym (ap state_of (some-injective x v there)))
+  states_same (x ∷ xs) (suc p) v w there is = ap (λ (l : List (Standing T W)). x.state ∷ l) (states_same xs p v w there is)
+
+  states_joined : (views : List (View T (Standing T W))) (p q : ℕ) (v w : View T (Standing T W)) (s t : Standing T W) → v.state ≡ s → w.state ≡ t
+      → states (set (set views p v) q w) ≡ set (set (states views) p s) q t
+  states_joined views p q v w s t is so =
+      states_set (set views p v) q w ∙ (ap (λ (l : List (Standing T W)). set l q w.state) (states_set views p v)
+      ∙ (ap (λ (x : Standing T W). set (set (states views) p x) q w.state) is ∙ ap (λ (x : Standing T W). set (set (states views) p s) q x) so))
+
+  states_parted : (views : List (View T (Standing T W))) (p : ℕ) (v w : View T (Standing T W)) (s t : Standing T W) → v.state ≡ s → w.state ≡ t
+      → states (set views p v ++ w ∷ []) ≡ set (states views) p s ++ t ∷ []
+  states_parted views p v w s t is so =
+      states_more (set views p v) w ∙ (ap (λ (l : List (Standing T W)). l ++ w.state ∷ []) (states_set views p v)
+      ∙ (ap (λ (x : Standing T W). set (states views) p x ++ w.state ∷ []) is ∙ ap (λ (x : Standing T W). set (states views) p s ++ x ∷ []) so))
+
+-- ---- the laws
+
+module _ (T W : Type 0) (moves : QueueForm → Standing T W → Event T → Standing T W → Type 0)
+    (as_queue : (form : QueueForm) (s t : Standing T W) (o : cell.Deed T) → moves form s (does (Some o)) t → Makes form s (on_queue (Some o)) t × (t.own ≡ s.own)) where
+  pub channel_keeps : KeepsHistory {T = T} {A = Standing T W} moves enters turns counts both left parts opened 1 history
+  channel_keeps = record {
+    opens = λ form v has is. subst (λ (s : Standing T W). IsChannelHistory form (s ∷ []) (new_cells form) 1 1) (sym is) (opens_well T W form new_list refl);
+    same = λ form views c n m p v w h there is. subst (λ (l : List (Standing T W)). IsChannelHistory form l c n m) (sym (states_same views p v w there is)) h;
+    arrives = λ form views c n m w h enters. subst (λ (l : List (Standing T W)). IsChannelHistory form l c n m) (sym (states_more views w)) (enters_keep form (states views) c n m h w.state enters);
+    more = λ form views c d n m p v w o h there done made.
+        let made_so = as_queue form v.state w.state o made in
+        subst (λ (l : List (Standing T W)). IsChannelHistory form l d n m) (sym (states_set views p w))
+        (queue_operations_keep T W form (states views) c d n m p v.state w.state o h (is_at views p v there) made_so.0 made_so.1 done);
+    turned = λ form views c n m p v w h there turns.
+        subst (λ (l : List (Standing T W)). IsChannelHistory form l c n m) (sym (states_set views p w)) (turns_keep form (states views) c n m h p v.state w.state (is_at views p v there) turns);
+    counts_on = λ form views c n m p v w which op h there counts within.
+        subst (λ (l : List (Standing T W)). IsChannelHistory form l c (first_after which op n) (second_after which op m)) (sym (states_set views p w))
+        (counts_keep form (states views) c n m h p v.state w.state (is_at views p v there) which op counts within);
+    joined = λ form views c n m p q v w v' w' h at_p at_q apart is so.
+        subst (λ (l : List (Standing T W)). IsChannelHistory form l c n m) (sym (states_joined views p q v' w' (both v.state w.state) (left w.state) is so))
+        (joins_keep T W form (states views) c n m p q v.state w.state h (is_at views p v at_p) (is_at views q w at_q) apart);
+    parted = λ form views c n m p v v' w h there (a, b, stays, goes, cut).
+        subst (λ (l : List (Standing T W)). IsChannelHistory form l c n m) (sym (states_parted views p v' w (with_own a v.state) (with_own b fresh) stays goes))
+        (splits_keep T W form (states views) c n m p v.state a b h (is_at views p v there) cut);
+  }

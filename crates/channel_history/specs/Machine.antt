@@ -1,0 +1,93 @@
+-- A channel's parties as the machine of a queue's table: the state of each is where it stands, and the two counting words are the counts
+-- of handles. What the machine does on the cells of the queue is said elsewhere.
+use Rattle.std.specs.Prelude.{◌≡◌, ℕ, ◌-◌, ◌<◌, ◌^◌, ◌==◌, List, [], ◌∷◌, map, ◌⊎◌, None}
+use Rattle.concurrent_queue.specs.declared.cells.QueueForm.{QueueForm}
+use Rattle.concurrent_queue.specs.declared.history.rule.View.{View}
+use Rattle.event_listener.specs.Lists.{ListView}
+use Rattle.channel_calls.specs.Deeds.{Deed, counted, lowered, raised}
+use Rattle.channel_calls.specs.Parts.{nobody_listens}
+use Rattle.channel_calls.specs.declared.ask.ChannelAsk.{ChannelAsk}
+use Rattle.channel_calls.specs.declared.stage.Side.{Side}
+use Rattle.channel_calls.specs.declared.stage.Side.TheVariants.{Senders, Receivers}
+use Rattle.channel_calls.specs.declared.stage.WaitList.{WaitList}
+use Rattle.channel_steps.specs.every_run.Bridge.{on_wait_lists}
+use Rattle.channel_history.specs.History.{IsChannelHistory}
+use Rattle.channel_history.specs.Keeps.{ChangesList, Leaves, opening}
+use Rattle.channel_history.specs.KeepsCopy.{HistoryOf, Counter, First, Second, CountStep, Read, Lower, Raise}
+use Rattle.channel_history.specs.Party as party
+use Rattle.channel_history.specs.Party.{nothing, fresh, with_own, standing_of, Begins, Makes, Ends}
+use Rattle.channel_history.specs.declared.party.Belongings.{Belongings}
+use Rattle.channel_history.specs.declared.party.Standing.{Standing}
+
+-- which handles a word counts, and what an operation on it does there that found this number
+abbrev pub side_of : Counter → Side
+side_of First = Senders
+side_of Second = Receivers
+
+-- a raise that finds its number has room for one more in the word
+abbrev pub Fits : CountStep → ℕ → Type 0
+Fits (Raise k) n = n ≡ k → k < 2 ^ 64 - 1
+Fits op n = Unit {0}
+
+module _ {W : Type 0} where
+  -- a list that was just made
+  abbrev pub new_list : ListView Unit W
+  new_list = record { lists = nobody_listens; visits = 0; serials = 0; room = 0; looks = 0 }
+
+module _ {T W : Type 0} where
+  abbrev pub count_deed : Side → CountStep → ℕ → Deed T W
+  count_deed side Read n = counted side n
+  count_deed side Lower n = lowered side n
+  count_deed side (Raise k) n = raised side k (n == k)
+
+  abbrev pub state_of : View T (Standing T W) → Standing T W
+  state_of v = v.state
+
+  abbrev pub states : List (View T (Standing T W)) → List (Standing T W)
+  states views = map state_of views
+
+  abbrev pub history : HistoryOf T (Standing T W)
+  history form views c n m = IsChannelHistory form (states views) c n m
+
+  -- the first party has the four lists of a new channel, and a handle of each kind
+  abbrev pub opened : Standing T W
+  opened = standing_of (opening new_list) 0
+
+  -- a new party has done nothing, or has begun a call; nothing lies with it
+  abbrev pub enters : QueueForm → Standing T W → Type 0
+  enters form t = (t ≡ fresh) ⊎ ((ask : ChannelAsk T W) × Begins form fresh ask t × (t.own ≡ nothing))
+
+  -- without a cell of the queue or a count, a party begins a call, ends one, or makes a section on the list that lies with its seat
+  pub data turns (form : QueueForm) (s t : Standing T W) : Type 0 where
+    begins : (ask : ChannelAsk T W) → Begins form s ask t → t.own ≡ s.own → turns form s t
+    ends : Ends form s t → t.own ≡ s.own → turns form s t
+    makes : (line : WaitList) (l k : ListView Unit W) (o : Deed T W) → Makes form s (on_wait_lists o) t → s.own.lists ≡ (line, l) ∷ [] → t.own.lists ≡ (line, k) ∷ [] → Leaves o s t → ChangesList line o l.lists k.lists
+        → turns form s t
+
+  -- an operation on the word of a count, which found this number there
+  abbrev pub counts : QueueForm → Standing T W → Standing T W → Counter → CountStep → ℕ → Type 0
+  counts form s t which op n =
+      let o : Deed T W = count_deed (side_of which) op n in
+      Makes form s (on_wait_lists o) t × (t.own.lists ≡ s.own.lists) × Leaves o s t × Fits op n
+
+  -- what lies with a party goes to another, all of it or some, and nobody has gone on
+  abbrev pub both : Standing T W → Standing T W → Standing T W
+  both s t = with_own (party.both s.own t.own) s
+
+  abbrev pub left : Standing T W → Standing T W
+  left t = with_own nothing t
+
+  abbrev pub parts : QueueForm → Standing T W → Standing T W → Standing T W → Type 0
+  parts form s stays goes = (a : Belongings W) × (b : Belongings W) × (stays ≡ with_own a s) × (goes ≡ with_own b fresh) × (s.own ≡ party.both a b)
+
+  -- no call is under way
+  abbrev pub rests : Standing T W → Type 0
+  rests s = s.stage ≡ None
+
+  -- a party that has done nothing, with whose seat a list lies
+  abbrev pub with_list : WaitList → ListView Unit W → Standing T W
+  with_list line l = with_own (record nothing { lists = (line, l) ∷ [] }) fresh
+
+-- no call comes into a channel's queue but those of the channel
+abbrev pub admits : Type 0
+admits = ⊥
