@@ -1,0 +1,19 @@
+//! A channel with a bound as threads share it: one table of words and slots, and four lists of listeners behind locks. The rule of the table
+//! is that there is one history of what all threads did: it leads from a new channel to this one, and each party's part of it is what the
+//! machine of its calls does. So whatever is proved of every such history holds at every moment of every schedule.
+//!
+//! A call begins by a new seat of the table, or by that of a handle or an operation, and its seat can't be let go before the machine of
+//! the call has answered. Each operation of the call's cells is asked to be the machine's next. Contracts of the calls say what this party
+//! asked and what it was answered; [`look`](ChannelTable::look) tells of the history in which that stands.
+//!
+//! The calls themselves are those of `channel_calls`, over these cells.
+#![tactic(auto)]
+
+pub mod calls;
+pub mod cells;
+pub mod channel;
+pub mod counts;
+pub mod lists;
+pub mod machine;
+pub mod polls;
+pub mod questions;

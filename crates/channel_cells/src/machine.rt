@@ -1,0 +1,54 @@
+//! A channel's parties as a machine, of which the rule of a queue's table keeps the history. No value of these types is made.
+
+use channel_history::party::Standing;
+use concurrent_queue::history::cells::QueueMachine;
+use concurrent_queue::history::rule::Machine;
+
+/// The machine of a channel's parties. It admits no call that may be no call of a channel, so there is always one history.
+pub struct OfChannel;
+
+impl<T, W> Machine<T, Standing<T, W>> for OfChannel {
+    ghost use Rattle.channel_history.specs.Party.{fresh};
+    ghost use Rattle.channel_history.specs.Cells.{moves};
+    ghost use Rattle.channel_history.specs.Machine.{opened, enters, turns, counts, both_standings, left_standing, parts, rests, history};
+    ghost use Rattle.channel_history.proofs.Machine.{channel_keeps};
+
+    ghost first = { fresh };
+
+    ghost opened = { opened };
+
+    ghost counted = { 1 };
+
+    ghost moves = { moves };
+
+    ghost enters = { enters };
+
+    ghost turns = { turns };
+
+    ghost counts = { counts };
+
+    ghost both = { both_standings };
+
+    ghost left = { left_standing };
+
+    ghost parts = { parts };
+
+    ghost rests = { rests };
+
+    ghost admits = { ⊥ };
+
+    ghost history = { history };
+
+    ghost keeps = { channel_keeps };
+}
+
+impl<T, W> QueueMachine<T, Standing<T, W>> for OfChannel {
+    ghost use Rattle.channel_history.specs.Cells.{calls};
+    ghost use Rattle.channel_history.proofs.QueueCells.{calls_may_move, calls_are_led};
+
+    ghost calls = { calls };
+
+    ghost may = { calls_may_move };
+
+    ghost led = { calls_are_led };
+}
