@@ -17,6 +17,7 @@ mod Joining
 mod Splitting
 mod Row
 pub mod Machine
+pub mod ListTurns
 mod ByViews
 mod Asking
 mod Replying
