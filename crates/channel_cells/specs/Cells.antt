@@ -18,3 +18,24 @@ module _ {T W : Type 0} where
 
   abbrev pub without_lists : Standing T W → Standing T W
   without_lists s = with_own (record s.own { lists = [] }) s
+
+  -- cells of which nothing is known hold anything
+  abbrev pub no_parts : Parts T W
+  no_parts = record { cells = no_contents Unbounded; wait_lists = new_wait_lists }
+
+module _ {T W R : Type 0} where
+  -- where the party of a call stands by the view of its seat, on a queue of which form, and of which table
+  abbrev pub view_of : CallCells T W R → Standing T W
+  view_of c = c.queue.seat.seat.me.0.state
+
+  abbrev pub form_in : CallCells T W R → QueueForm
+  form_in c = c.queue.seat.seat.me.0.form
+
+  abbrev pub table_in : CallCells T W R → TableId
+  table_in c = c.queue.seat.seat.table_id
+
+  -- the same party, on the same channel
+  abbrev pub IsSameCall : CallCells T W R → CallCells T W R → Type 0
+  IsSameCall a b =
+      (b.channel ≡ a.channel) × (form_in b ≡ form_in a) × (table_in b ≡ table_in a) × (b.queue.seat.seat.me.0.who ≡ a.queue.seat.seat.me.0.who)
+      × (b.queue.seat.seat.me.0.over ≡ a.queue.seat.seat.me.0.over)

@@ -1,6 +1,8 @@
 -- `Party` says what a party's machine does, and `Steps` how it goes on; `History` what a history is, and `Keeps` what keeps it. `Says` is
 -- what follows of it, `Accounts` whose its messages are, `Handles` what its counts are, and `Registrations` who listens on its lists;
--- `InHand` says what a call has in hand at each of its steps. `Row` are histories with calls in them.
+-- `InHand` says what a call has in hand at each of its steps. `Row` are histories with calls in them. `Cells` says what the cells of a call
+-- ask and say that go by the view of its seat, `QueueCells` and `Sections` what is under them, and `WholeCalls` how a call begins and ends
+-- over them.
 pub mod Party
 pub mod Steps
 pub mod History
@@ -13,3 +15,7 @@ pub mod Accounts
 pub mod Row
 pub mod KeepsCopy
 pub mod Machine
+pub mod Cells
+pub mod QueueCells
+pub mod Sections
+pub mod WholeCalls
