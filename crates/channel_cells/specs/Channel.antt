@@ -1,13 +1,10 @@
 -- What a channel's table and its seats know.
-use Rattle.std.specs.Prelude.{◌≡◌, ℕ, List, [], ◌∷◌, None}
-use Rattle.event_listener.specs.Lists.{ListView}
+use Rattle.std.specs.Prelude.{◌≡◌, List, [], None}
 use Rattle.channel_calls.specs.declared.stage.ListenerRef.{ListenerRef}
 use Rattle.channel_calls.specs.declared.stage.Side.{Side}
-use Rattle.channel_calls.specs.declared.stage.WaitList.{WaitList}
-use Rattle.channel_calls.specs.declared.stage.WaitList.TheVariants.{Sends, Receives, Streams, Closings}
 use Rattle.concurrent_queue.specs.declared.cells.QueueForm.{QueueForm}
+use Rattle.concurrent_queue.specs.declared.history.rule.View.{View}
 use Rattle.concurrent_queue.specs.declared.history.seats.IdleSeat.{IdleSeat}
-use Rattle.channel_history.specs.Machine.{new_list}
 use Rattle.channel_history.specs.declared.party.Belongings.{Belongings}
 use Rattle.channel_history.specs.declared.party.Standing.{Standing}
 use Rattle.atomic_table.specs.Seated.{TableId}
@@ -24,6 +21,9 @@ module _ {T W : Type 0} where
   -- where the party of a seat stands
   abbrev pub standing_of : IdleSeat T (Standing T W) → Standing T W
   standing_of s = s.seat.me.0.state
+
+  abbrev pub view_in : IdleSeat T (Standing T W) → View T (Standing T W)
+  view_in s = s.seat.me.0
 
   abbrev pub seat_table : IdleSeat T (Standing T W) → TableId
   seat_table s = s.seat.table_id

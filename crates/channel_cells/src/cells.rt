@@ -1,13 +1,10 @@
 //! The cells of a call under way, over the table and the lists that threads share. Each operation is asked to be the next of the call's
 //! machine, and is one event of the one history.
 
-ghost use Rattle.std.specs.Prelude.{◌≡◌, ◌×◌, [], ◌∷◌, Option, Some};
-ghost use Rattle.concurrent_queue.specs.Replies.{is_bounded};
-ghost use Rattle.event_listener.specs.Lists.{ListView};
-ghost use Rattle.channel_calls.specs.Parts.{told_as, told_as_wakes, registration};
-ghost use Rattle.channel_history.specs.Cells.{Stands, May, Did};
-ghost use Rattle.channel_history.specs.Sections.{holding};
-ghost use Rattle.channel_cells.specs.Cells.{view_of, form_in, table_in, IsInside};
+ghost use Rattle.std.specs.Prelude.{◌≡◌, ◌×◌, []};
+ghost use Rattle.channel_history.specs.Machine.{side_of};
+ghost use Rattle.channel_history.specs.CallSections.{HoldsList, IsInside, without_lists};
+ghost use Rattle.channel_cells.specs.Cells.{view_of, IsSameCall};
 ghost use Rattle.channel_cells.specs.Channel.{form_of, id_of};
 ghost use Rattle.channel_cells.specs.Lists.{index_of};
 
@@ -54,7 +51,7 @@ impl<'a, T: Drop, W: Drop, R: Wait> CallCells<'a, T, W, R> {
         requires free { (view_of self.old).own.lists ≡ [] }
         ensures inside { IsInside line result.list.lists (view_of self.old) (view_of self.new) }
         ensures taken { (result.taken.0 ≡ self.old.channel.now.table) × (result.taken.1 ≡ index_of line) }
-        ensures same { (self.new.channel ≡ self.old.channel) × (table_in self.new ≡ table_in self.old) × (form_in self.new ≡ form_in self.old) }
+        ensures same { IsSameCall self.old self.new }
     {
         let (seated, taken) = self.channel.lists.take(self.rt, index_of(line));
         let SeatedList { list, seat } = seated;
@@ -78,7 +75,7 @@ impl<'a, T: Drop, W: Drop, R: Wait> CallCells<'a, T, W, R> {
 
 /// Which of the table's counts is that of these handles.
 #[inline(always)]
-fn counter_of(side: Side) -> Counter
+pub(crate) fn counter_of(side: Side) -> Counter
     ensures { side_of result ≡ side }
 {
     match side {
@@ -171,8 +168,15 @@ impl<'a, T: Drop, W: Drop, R: Wait> ChannelCells<T, W> for CallCells<'a, T, W, R
         self.queue.seat.lower_count(counter_of(side)) as usize
     }
 
-    // Where another handle came between, the call reads the count again, and lets others run first.
+    // Where another handle came between, the call reads the count again, and lets others run first. One that no word can hold is refused
+    // without an operation on the count.
     fn raise(&mut self, side: Side, from: usize) -> bool {
+        if from == usize::MAX {
+            self.queue
+                .seat
+                .turn_by::<Brand, Side, usize>(&side, &from);
+            return false;
+        }
         let found = self.queue.seat.raise_count(counter_of(side), from as u64) as usize;
         if found != from {
             thread::yield_now();

@@ -17,3 +17,6 @@ pub mod lists;
 pub mod machine;
 pub mod polls;
 pub mod questions;
+
+#[cfg(test)]
+mod tests;

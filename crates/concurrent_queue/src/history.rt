@@ -5,6 +5,7 @@ pub mod cells;
 pub mod counts;
 pub mod foreign;
 pub mod laws;
+pub mod led;
 pub mod party;
 pub mod rule;
 pub mod seats;

@@ -174,7 +174,7 @@ impl<T: Drop> QueueCall<T> {
 
     /// What a call asks that has made no step; else the call.
     #[inline(always)]
-    pub(crate) fn into_asked(self) -> Result<QueueAsk<T>, QueueCall<T>>
+    pub fn into_asked(self) -> Result<QueueAsk<T>, QueueCall<T>>
         ensures { MatchResult result (λ a. self.state ≡ CallState.Asked a) (λ rest. rest ≡ self) }
     {
         let QueueCall { state, mark } = self;

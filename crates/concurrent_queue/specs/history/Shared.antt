@@ -251,6 +251,10 @@ module _ {T A : Type 0} where
   abbrev pub turns : A → Step (Option T) → Seated T A → ℕ → Seated T A → Type 0
   turns a st m found m' = m' ≡ (going_on m.0 a, m.1)
 
+  -- it is at a state to which this leads
+  abbrev pub led_by : (A → A → Type 0) → Step (Option T) → Seated T A → ℕ → Seated T A → Type 0
+  led_by to st m found m' = to m.0.state m'.0.state × (m' ≡ (going_on m.0 m'.0.state, m.1))
+
   module _ (counts : QueueForm → A → A → Counter → CountStep → ℕ → Type 0) where
     -- its machine made this operation on a counting word, which found this number
     abbrev pub Counted : CountStep → Step (Option T) → Seated T A → ℕ → Seated T A → Type 0

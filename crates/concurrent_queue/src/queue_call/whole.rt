@@ -93,7 +93,7 @@ fn finish_apart<T: Drop, R: Wait, C: Cells<T>>(
 }
 
 /// Makes the steps of a call that waits for nobody up to its answer, and nothing else: its second step answers at the latest.
-pub(crate) fn tell<T: Drop, C: Cells<T>>(ask: QueueAsk<T>, cells: &mut C) -> QueueReply<T>
+pub fn tell<T: Drop, C: Cells<T>>(ask: QueueAsk<T>, cells: &mut C) -> QueueReply<T>
     requires words { AsksWords ask }
     requires stands { C.stands (first_of (C.form_of cells.old) ask) cells.old }
     ensures walked { WalkedAsking C.did (C.form_of cells.old) ask cells.old result cells.new }

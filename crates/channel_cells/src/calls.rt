@@ -1,0 +1,204 @@
+//! How a call begins and ends on a channel's cells, and the calls that wait for no message and no place. Each is that of `channel_calls`, and
+//! gives the seat of its party, whose view says what it asked and what it was answered.
+
+ghost use Rattle.std.specs.Prelude.{◌≡◌, ◌×◌, IfErr, MatchResult, Ok, Err};
+ghost use Rattle.concurrent_queue.specs.Replies.{is_bounded};
+ghost use Rattle.channel_calls.specs.Replies.{RefusesTrySend, RefusesForceSend, GivesUpTo};
+ghost use Rattle.channel_calls.specs.declared.ask.ChannelAsk.TheVariants as ask;
+ghost use Rattle.channel_calls.specs.declared.reply.Reply.TheVariants as reply;
+ghost use Rattle.channel_history.specs.Party.{fresh};
+ghost use Rattle.channel_history.specs.WholeCalls.{MayAsk, asked_by};
+ghost use Rattle.channel_cells.specs.Calls.{HasCalled, many_reply};
+ghost use Rattle.channel_history.specs.CallEnds.{HasEnded, EndsSo};
+ghost use Rattle.channel_cells.specs.Cells.{view_of, form_in, table_in};
+ghost use Rattle.channel_cells.specs.Channel.{form_of, id_of, seat_table, standing_of};
+
+use crate::cells::CallCells;
+use crate::channel::{ChannelTable, Seat};
+use channel_calls::calls;
+use channel_calls::error::{Refused, SendError, TryRecvError, TrySendError};
+use concurrent_queue::history::cells::HistoryCells;
+use event_listener::wakes::Wakes;
+use std::alloc::Global;
+use std::marker::Brand;
+use std::sync::Wait;
+
+/// What a call asks, which the proof of its beginning picks where it passes `Brand`.
+pub trait Asks<T, W> {
+    ghost use Rattle.channel_calls.specs.declared.ask.ChannelAsk.{ChannelAsk};
+
+    ghost ask: { ChannelAsk T W };
+}
+
+impl<T, W> Asks<T, W> for Brand {
+    ghost use Rattle.channel_calls.specs.declared.ask.ChannelAsk.TheVariants.{Close};
+
+    ghost ask = { Close };
+}
+
+/// What a call answered and left, which the proof of its end picks where it passes `Brand`.
+pub trait Answers<T> {
+    ghost use Rattle.channel_calls.specs.declared.whole.Completed.{Completed};
+
+    ghost gave: { Completed T → Type 0 };
+}
+
+impl<T> Answers<T> for Brand {
+    ghost gave = { λ _. Unit {0} };
+}
+
+impl<T: Drop, W: Drop> ChannelTable<T, W> {
+    /// A new party begins a call. It costs a load, which makes its seat.
+    #[inline(always)]
+    pub(crate) fn begin<'a, E: Asks<T, W>, R: Wait, X>(
+        &'a self,
+        rt: &'a R,
+        about: &X,
+    ) -> CallCells<'a, T, W, R>
+        requires asks { MayAsk (form_of self.now) fresh E.ask }
+        ensures begun { view_of result ≡ asked_by fresh E.ask }
+        ensures form { form_in result ≡ form_of self.now }
+        ensures table { table_in result ≡ id_of self.now }
+    {
+        let seat = self.table.enter::<Brand, X>(about);
+        CallCells {
+            channel: self,
+            rt,
+            queue: HistoryCells { seat },
+        }
+    }
+
+    /// The party of this seat begins a call. It costs a load.
+    #[inline(always)]
+    pub(crate) fn begin_on<'a, E: Asks<T, W>, R: Wait, X>(
+        &'a self,
+        rt: &'a R,
+        seat: Seat<T, W>,
+        about: &X,
+    ) -> CallCells<'a, T, W, R>
+        requires same { seat_table seat ≡ id_of self.now }
+        requires asks { MayAsk (form_of self.now) (standing_of seat) E.ask }
+        ensures begun { view_of result ≡ asked_by (standing_of seat) E.ask }
+        ensures form { form_in result ≡ form_of self.now }
+        ensures table { table_in result ≡ id_of self.now }
+    {
+        let mut seat = self.table.go_on(seat);
+        seat.turn::<Brand, X>(about);
+        CallCells {
+            channel: self,
+            rt,
+            queue: HistoryCells { seat },
+        }
+    }
+}
+
+impl<'a, T: Drop, W: Drop, R: Wait> CallCells<'a, T, W, R> {
+    /// The call is over, which its machine has answered. It costs a load.
+    #[inline(always)]
+    pub(crate) fn end<E: Answers<T>, X, Y>(self, about: &X, and: &Y) -> Seat<T, W>
+        requires ended { HasEnded (form_in self) E.gave (view_of self) }
+        ensures ended { EndsSo (form_in self.entry) E.gave (view_of self.entry) (standing_of result) }
+        ensures table { seat_table result ≡ table_in self.entry }
+    {
+        let CallCells {
+            channel: _,
+            rt: _,
+            queue: HistoryCells { seat },
+        } = self;
+        let mut seat = seat;
+        seat.turn_by::<Brand, X, Y>(about, and);
+        seat.rest()
+    }
+}
+
+impl<T: Drop, W: Drop> ChannelTable<T, W> {
+    /// Sends the message where there is a place for it, as a new party.
+    #[inline(always)]
+    pub fn try_send<R: Wait, S: Wakes<W>>(
+        &self,
+        rt: &R,
+        message: T,
+        sink: &mut S,
+    ) -> (Result<(), Refused<TrySendError<T>, T>>, Seat<T, W>)
+        ensures called { HasCalled (id_of self.now) fresh (ask.TrySend message) (reply.TrySend result.0) result.1 }
+        ensures refused { IfErr result.0 (λ e. RefusesTrySend (is_bounded (form_of self.now)) message e) }
+    {
+        let mut cells = self.begin::<Brand, R, T>(rt, &message);
+        let sent = calls::try_send(rt, message, &mut cells, sink);
+        let seat = cells.end::<Brand, Result<(), Refused<TrySendError<T>, T>>, ()>(&sent, &());
+        (sent, seat)
+    }
+
+    /// Takes the oldest message, as a new party.
+    #[inline(always)]
+    pub fn try_recv<R: Wait, S: Wakes<W>>(
+        &self,
+        rt: &R,
+        sink: &mut S,
+    ) -> (Result<T, TryRecvError>, Seat<T, W>)
+        ensures called { HasCalled (id_of self.now) fresh ask.TryRecv (reply.TryRecv result.0) result.1 }
+    {
+        let mut cells = self.begin::<Brand, R, ()>(rt, &());
+        let received = calls::try_recv(rt, &mut cells, sink);
+        let seat = cells.end::<Brand, Result<T, TryRecvError>, ()>(&received, &());
+        (received, seat)
+    }
+
+    /// Sends the message; where the channel is full, its oldest message leaves for it and is answered. As a new party.
+    #[inline(always)]
+    pub fn force_send<R: Wait, S: Wakes<W>>(
+        &self,
+        rt: &R,
+        message: T,
+        sink: &mut S,
+    ) -> (Result<Option<T>, Refused<SendError<T>, T>>, Seat<T, W>)
+        ensures called { HasCalled (id_of self.now) fresh (ask.ForceSend message) (reply.ForceSend result.0) result.1 }
+        ensures refused { IfErr result.0 (λ e. RefusesForceSend (is_bounded (form_of self.now)) message e) }
+    {
+        let mut cells = self.begin::<Brand, R, T>(rt, &message);
+        let sent = calls::force_send(rt, message, &mut cells, sink);
+        let seat = cells
+            .end::<Brand, Result<Option<T>, Refused<SendError<T>, T>>, ()>(&sent, &());
+        (sent, seat)
+    }
+
+    /// Takes the oldest messages, at most `limit`, in order. As a new party.
+    pub fn recv_many<R: Wait, S: Wakes<W>>(
+        &self,
+        rt: &R,
+        limit: usize,
+        alloc: Global,
+        sink: &mut S,
+    ) -> (Result<Vec<T>, Refused<TryRecvError>>, Seat<T, W>)
+        ensures called { HasCalled (id_of self.now) fresh (ask.RecvMany limit) (many_reply result.0) result.1 }
+        ensures most { MatchResult result.0 (λ messages. GivesUpTo limit (reply.RecvMany (Ok messages.items))) (λ e. GivesUpTo {T = T} limit (reply.RecvMany (Err e))) }
+    {
+        let mut cells = self.begin::<Brand, R, usize>(rt, &limit);
+        let received = calls::recv_many(rt, limit, alloc, &mut cells, sink);
+        let seat = cells
+            .end::<Brand, Result<Vec<T>, Refused<TryRecvError>>, ()>(&received, &());
+        (received, seat)
+    }
+
+    /// Closes the channel. As a new party.
+    #[inline(always)]
+    pub fn close<R: Wait, S: Wakes<W>>(&self, rt: &R, sink: &mut S) -> (bool, Seat<T, W>)
+        ensures called { HasCalled (id_of self.now) fresh ask.Close (reply.Closed result.0) result.1 }
+    {
+        let mut cells = self.begin::<Brand, R, ()>(rt, &());
+        let closed = calls::close(rt, &mut cells, sink);
+        let seat = cells.end::<Brand, bool, ()>(&closed, &());
+        (closed, seat)
+    }
+
+    /// How many messages the channel held at a moment of the call. As a new party.
+    #[inline(always)]
+    pub fn len<R: Wait, S: Wakes<W>>(&self, rt: &R, sink: &mut S) -> (usize, Seat<T, W>)
+        ensures called { HasCalled (id_of self.now) fresh ask.Len (reply.Count result.0) result.1 }
+    {
+        let mut cells = self.begin::<Brand, R, ()>(rt, &());
+        let count = calls::len(rt, &mut cells, sink);
+        let seat = cells.end::<Brand, usize, ()>(&count, &());
+        (count, seat)
+    }
+}

@@ -1,0 +1,72 @@
+//! Polled operations: each is a party of its own from its first poll on, with whose seat the listener lies that is listed for it. A poll is a
+//! call of this party, and so is the giving up, which the drop of an operation makes.
+
+ghost use Rattle.std.specs.Prelude.{◌≡◌, ◌×◌, [], is_some};
+ghost use Rattle.channel_calls.specs.Calls.{SendsOn, send_ask, recv_ask, closed_ask, next_ask};
+ghost use Rattle.channel_calls.specs.Listed.{SendLists, is_pending};
+ghost use Rattle.channel_calls.specs.declared.ask.ChannelAsk.TheVariants as ask;
+ghost use Rattle.channel_calls.specs.declared.reply.Reply.TheVariants as reply;
+ghost use Rattle.channel_calls.specs.declared.stage.WaitList.TheVariants.{Sends, Receives, Streams, Closings};
+ghost use Rattle.channel_history.specs.InHand.{listed_on};
+ghost use Rattle.channel_cells.specs.Calls.{HasCalled, HasPolled};
+ghost use Rattle.channel_cells.specs.Channel.{Rests, id_of, seat_table, standing_of};
+
+use crate::channel::{ChannelTable, Seat};
+use channel_calls::error::{RecvError, Refused};
+use channel_calls::polls;
+use channel_calls::stage::{Returned, WaitList};
+use event_listener::key::Key;
+use event_listener::wakes::Wakes;
+use futures::task::Poll;
+use std::marker::Brand;
+use std::sync::Wait;
+
+impl<T: Drop, W: Drop> ChannelTable<T, W> {
+    /// A poll of a receive, which may hold this listener. Without a task nothing is tried, the listener leaves, and memory is what is wanted.
+    pub fn poll_recv<R: Wait, S: Wakes<W>>(
+        &self,
+        rt: &R,
+        seat: Seat<T, W>,
+        key: Option<Key>,
+        task: Option<W>,
+        sink: &mut S,
+    ) -> (Poll<Result<T, Refused<RecvError>>>, Returned<T>, Seat<T, W>)
+        requires here { seat_table seat ≡ id_of self.now }
+        requires listener { Rests [] (listed_on Receives key) (standing_of seat) }
+        ensures called { HasPolled (id_of self.now) (standing_of seat) (recv_ask key task) (reply.RecvPoll result.0) result.1 result.2 }
+        ensures listed { is_some result.1.key ≡ is_pending result.0 }
+        ensures listener { Rests [] (listed_on Receives result.1.key) (standing_of result.2) }
+    {
+        let mut cells =
+            self.begin_on::<Brand, R, (Option<Key>, &Option<W>)>(rt, seat, &(key, &task));
+        let (polled, left) = polls::poll_recv(rt, key, task, &mut cells, sink);
+        let seat = cells
+            .end::<Brand, Poll<Result<T, Refused<RecvError>>>, Returned<T>>(&polled, &left);
+        (polled, left, seat)
+    }
+
+    /// Gives an operation up: its listener leaves, passing its notice on, and the message of an unfinished send comes back.
+    pub fn give_up<R: Wait, S: Wakes<W>>(
+        &self,
+        rt: &R,
+        seat: Seat<T, W>,
+        line: WaitList,
+        message: Option<T>,
+        key: Option<Key>,
+        sink: &mut S,
+    ) -> (Option<T>, Seat<T, W>)
+        requires here { seat_table seat ≡ id_of self.now }
+        requires listener { Rests [] (listed_on line key) (standing_of seat) }
+        ensures called { HasCalled (id_of self.now) (standing_of seat) (ask.GiveUp line message key) (reply.GivenUp result.0) result.1 }
+        ensures message { result.0 ≡ message }
+    {
+        let mut cells = self.begin_on::<Brand, R, (WaitList, Option<Key>, &Option<T>)>(
+            rt,
+            seat,
+            &(line, key, &message),
+        );
+        let back = polls::give_up(rt, line, message, key, &mut cells, sink);
+        let seat = cells.end::<Brand, Option<T>, ()>(&back, &());
+        (back, seat)
+    }
+}

@@ -1,0 +1,123 @@
+//! Questions that wait for nobody: they are made on words of the table alone, without the runtime.
+
+ghost use Rattle.std.specs.Prelude.{◌≡◌};
+ghost use Rattle.channel_calls.specs.declared.ask.ChannelAsk.TheVariants as ask;
+ghost use Rattle.channel_calls.specs.declared.reply.Reply.TheVariants as reply;
+ghost use Rattle.channel_history.specs.Machine.{side_of};
+ghost use Rattle.channel_history.specs.Party.{fresh};
+ghost use Rattle.channel_history.specs.WholeCalls.{MayAsk, asked_by};
+ghost use Rattle.channel_cells.specs.Calls.{HasCalled};
+ghost use Rattle.channel_history.specs.CallEnds.{HasEnded, EndsSo};
+ghost use Rattle.channel_cells.specs.Words.{words_view, words_form, words_table};
+ghost use Rattle.channel_cells.specs.Channel.{form_of, id_of, seat_table, standing_of};
+
+use crate::calls::{Answers, Asks};
+use crate::cells::counter_of;
+use crate::channel::{ChannelTable, Seat};
+use crate::machine::OfChannel;
+use channel_calls::questions;
+use channel_calls::stage::Side;
+use channel_calls::words::ChannelWords;
+use channel_history::party::Standing;
+use concurrent_queue::call::QueueReply;
+use concurrent_queue::history::cells::HistoryCells;
+use concurrent_queue::queue_call::QueueCall;
+use concurrent_queue::queue_call::whole::tell;
+use std::marker::Brand;
+use std::mem;
+
+/// The words of a question under way. They have no drop: a question that has begun is answered, and ended.
+pub struct CallWords<'a, T: Drop, W: Drop> {
+    pub(crate) queue: HistoryCells<'a, T, Standing<T, W>, OfChannel>,
+}
+
+impl<'a, T: Drop, W: Drop> ChannelWords<T, W> for CallWords<'a, T, W> {
+    ghost use Rattle.std.specs.Prelude.{◌≡◌};
+    ghost use Rattle.channel_history.specs.Cells.{Stands, May, Did};
+    ghost use Rattle.channel_cells.specs.Words.{words_view, words_form, IsSameQuestion};
+    ghost use Rattle.channel_cells.specs.WordLaws.{words_ready, words_lead, words_rest};
+
+    ghost has_form = { λ c f. f ≡ words_form c };
+
+    ghost did = { λ d a b. Did (words_form a) d (words_view a) (words_view b) × IsSameQuestion a b };
+
+    ghost may = { λ d c. May (words_form c) d (words_view c) };
+
+    ghost stands = { λ at c. Stands (words_form c) at (words_view c) };
+
+    ghost ready = { words_ready };
+
+    ghost leads = { words_lead };
+
+    ghost rests = { words_rest };
+
+    // All steps of the question, which its second step answers at the latest.
+    #[inline(always)]
+    fn step_words(&mut self, call: &mut QueueCall<T>) -> Option<QueueReply<T>> {
+        let whole = mem::replace(call, QueueCall::ended());
+        match whole.into_asked() {
+            Ok(ask) => Some(tell(ask, &mut self.queue)),
+            Err(_) => unreachable!(),
+        }
+    }
+
+    #[inline(always)]
+    fn count(&mut self, side: Side) -> usize {
+        self.queue.seat.count(counter_of(side)) as usize
+    }
+}
+
+impl<T: Drop, W: Drop> ChannelTable<T, W> {
+    /// A new party asks a question. It costs a load, which makes its seat.
+    #[inline(always)]
+    fn asks<E: Asks<T, W>, X>(&self, about: &X) -> CallWords<'_, T, W>
+        requires asks { MayAsk (form_of self.now) fresh E.ask }
+        ensures begun { words_view result ≡ asked_by fresh E.ask }
+        ensures form { words_form result ≡ form_of self.now }
+        ensures table { words_table result ≡ id_of self.now }
+    {
+        let seat = self.table.enter::<Brand, X>(about);
+        CallWords {
+            queue: HistoryCells { seat },
+        }
+    }
+
+    /// Whether the channel is closed. It waits for nobody.
+    #[inline(always)]
+    pub fn is_closed(&self) -> (bool, Seat<T, W>)
+        ensures called { HasCalled (id_of self.now) fresh ask.IsClosed (reply.Flag result.0) result.1 }
+    {
+        let mut words = self.asks::<Brand, ()>(&());
+        let closed = questions::is_closed(&mut words);
+        let seat = words.end::<Brand, bool>(&closed);
+        (closed, seat)
+    }
+
+    /// How many strong handles of this kind live. It waits for nobody.
+    #[inline(always)]
+    pub fn handle_count(&self, side: Side) -> (usize, Seat<T, W>)
+        ensures called { HasCalled (id_of self.now) fresh (ask.HandleCount side) (reply.Count result.0) result.1 }
+    {
+        let mut words = self.asks::<Brand, Side>(&side);
+        let count = questions::handle_count(side, &mut words);
+        let seat = words.end::<Brand, usize>(&count);
+        (count, seat)
+    }
+}
+
+impl<'a, T: Drop, W: Drop> CallWords<'a, T, W> {
+    /// The question is answered. It costs a load.
+    #[inline(always)]
+    fn end<E: Answers<T>, X>(self, about: &X) -> Seat<T, W>
+        requires ended { HasEnded (words_form self) E.gave (words_view self) }
+        ensures ended { EndsSo (words_form self.entry) E.gave (words_view self.entry) (standing_of result) }
+        ensures table { seat_table result ≡ words_table self.entry }
+    {
+        let CallWords {
+            queue: HistoryCells { seat },
+        } = self;
+        let mut seat = seat;
+        seat.turn_by::<Brand, X, ()>(about, &());
+        seat.rest()
+    }
+}
