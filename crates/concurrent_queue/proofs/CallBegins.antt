@@ -4,6 +4,7 @@ use Rattle.concurrent_queue.specs.Bridge.{asking}
 use Rattle.concurrent_queue.specs.Walked.{first_bounded, standing}
 use Rattle.concurrent_queue.specs.history.Begun.{IsBegun}
 use Rattle.concurrent_queue.specs.history.Calls.{AsksCells, HasNoBlocks, StandsAt}
+use Rattle.concurrent_queue.specs.history.Runs.{moves, calls}
 use Rattle.concurrent_queue.specs.declared.call.QueueAsk.{QueueAsk}
 use Rattle.concurrent_queue.specs.declared.call.QueueAsk.TheVariants as ask
 use Rattle.concurrent_queue.specs.declared.cells.QueueForm.{QueueForm}
@@ -18,10 +19,10 @@ module _ {T : Type 0} where
   few true a = tt
   few false a = tt
 
-  pub begun_stands : (v : View T (Standing T)) (most : ℕ) (a : QueueAsk T) → v.form ≡ Bounded most → IsBegun v a → (at : CallState T) → at ≡ Asked a → StandsAt v.form v.state (standing v.form at)
+  pub begun_stands : (v : View T (Standing T)) (most : ℕ) (a : QueueAsk T) → v.form ≡ Bounded most → IsBegun v a → (at : CallState T) → at ≡ Asked a → StandsAt moves calls v.form v.state (standing v.form at)
   begun_stands v most a bounded (p, begun) at asks =
-      subst (λ (x : CallState T). StandsAt v.form v.state (standing v.form x)) (sym asks)
-      (subst (λ (s : Standing T). StandsAt v.form s (standing v.form (Asked a))) (sym begun)
+      subst (λ (x : CallState T). StandsAt moves calls v.form v.state (standing v.form x)) (sym asks)
+      (subst (λ (s : Standing T). StandsAt moves calls v.form s (standing v.form (Asked a))) (sym begun)
       (subst (λ (f : QueueForm). HasNoBlocks (standing f (Asked a))) (sym bounded) (few (most == 1) a), inl (asking a, refl, refl)))
 
 -- whatever is asked but the capacity touches cells

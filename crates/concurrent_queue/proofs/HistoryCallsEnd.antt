@@ -161,7 +161,7 @@ module _ {T S : Type 0} (form_of : S → QueueForm) (of : S → Standing T) (Sam
 
 module _ {T S : Type 0} (form_of : S → QueueForm) (of : S → Standing T) (Same : S → S → Type 0) (stays : (s : S) → Same s s) (joins : (s t u : S) → Same s t → Same t u → Same s u) (form : QueueForm) where
   abbrev did : Deed T → S → S → Type 0
-  did = HasMade form_of of Same
+  did = HasMade moves form_of of Same
 
   -- the party's call is under way at this action
   abbrev AtWalk : S → CallState T → Type 0
@@ -287,7 +287,7 @@ module _ {T : Type 0} where
 module _ {T S : Type 0} (form_of : S → QueueForm) (of : S → Standing T) (Same : S → S → Type 0) (stays : (s : S) → Same s s) (joins : (s t u : S) → Same s t → Same t u → Same s u) where
   -- a call that begins with this question, and is walked to its answer
   pub call_ends : (most : ℕ) (a : QueueAsk T) → AsksCells a → (call : QueueCall T) → call.state ≡ Asked a → (p : Standing T) (s t : S) (r : QueueReply T) → form_of s ≡ Bounded most → of s ≡ begun a p
-      → Walked (HasMade form_of of Same) (form_of s) call s r t → MayCall (form_of s) call.state r
+      → Walked (HasMade moves form_of of Same) (form_of s) call s r t → MayCall (form_of s) call.state r
       → (form_of t ≡ form_of s) × Same s t × ((of t).call ≡ None) × ((of t).asked ≡ p.asked ++ a ∷ []) × ((of t).replies ≡ p.replies ++ r ∷ [])
   call_ends most a h call asks p s t r f b walked may =
       let form : QueueForm = Bounded most in
@@ -297,14 +297,14 @@ module _ {T S : Type 0} (form_of : S → QueueForm) (of : S → Standing T) (Sam
       ⊎_elim
       (λ (e : EndedWith form_of of Same s t r). (e.0, e.1, e.2, e.3 ∙ ap (λ (z : Standing T). z.asked) b, e.4 ∙ ap (λ (z : Standing T). z.replies ++ r ∷ []) b))
       (λ (c : IsCapacity r). absurd (never_capacity (form_of s) a r h m c))
-      (walked_ends form_of of Same stays joins form call s t r f few under (subst (λ (q : QueueForm). Walked (HasMade form_of of Same) q call s r t) f walked))
+      (walked_ends form_of of Same stays joins form call s t r f few under (subst (λ (q : QueueForm). Walked (HasMade moves form_of of Same) q call s r t) f walked))
 
 -- the same over the cells of a call's seat; its view keeps the parties that were joined in
-abbrev pub SameParty : {T : Type 0} → HistoryCells T → HistoryCells T → Type 0
+abbrev pub SameParty : {T : Type 0} → HistoryCells T (Standing T) → HistoryCells T (Standing T) → Type 0
 SameParty s t = (t.seat.seat.table_id ≡ s.seat.seat.table_id) × (t.seat.seat.me.0.who ≡ s.seat.seat.me.0.who) × (t.seat.seat.me.0.over ≡ s.seat.seat.me.0.over)
 
-pub cells_call_ends : {T : Type 0} (most : ℕ) (a : QueueAsk T) → AsksCells a → (call : QueueCall T) → call.state ≡ Asked a → (p : Standing T) (s t : HistoryCells T) (r : QueueReply T) → s.seat.seat.me.0.form ≡ Bounded most → s.seat.seat.me.0.state ≡ begun a p
-    → Walked (HasMade (λ (x : HistoryCells T). x.seat.seat.me.0.form) (λ x. x.seat.seat.me.0.state) SameParty) s.seat.seat.me.0.form call s r t → MayCall s.seat.seat.me.0.form call.state r
+pub cells_call_ends : {T : Type 0} (most : ℕ) (a : QueueAsk T) → AsksCells a → (call : QueueCall T) → call.state ≡ Asked a → (p : Standing T) (s t : HistoryCells T (Standing T)) (r : QueueReply T) → s.seat.seat.me.0.form ≡ Bounded most → s.seat.seat.me.0.state ≡ begun a p
+    → Walked (HasMade moves (λ (x : HistoryCells T (Standing T)). x.seat.seat.me.0.form) (λ x. x.seat.seat.me.0.state) SameParty) s.seat.seat.me.0.form call s r t → MayCall s.seat.seat.me.0.form call.state r
     → (t.seat.seat.me.0.form ≡ s.seat.seat.me.0.form) × SameParty s t × (t.seat.seat.me.0.state.call ≡ None) × (t.seat.seat.me.0.state.asked ≡ p.asked ++ a ∷ []) × (t.seat.seat.me.0.state.replies ≡ p.replies ++ r ∷ [])
 cells_call_ends {T} most a =
-    call_ends (λ (x : HistoryCells T). x.seat.seat.me.0.form) (λ x. x.seat.seat.me.0.state) SameParty (λ s. (refl, refl, refl)) (λ s t u p q. (q.0 ∙ p.0, q.1 ∙ p.1, q.2 ∙ p.2)) most a
+    call_ends (λ (x : HistoryCells T (Standing T)). x.seat.seat.me.0.form) (λ x. x.seat.seat.me.0.state) SameParty (λ s. (refl, refl, refl)) (λ s t u p q. (q.0 ∙ p.0, q.1 ∙ p.1, q.2 ∙ p.2)) most a

@@ -12,7 +12,7 @@ use Rattle.concurrent_queue.specs.declared.cells.QueueForm.{QueueForm}
 use Rattle.concurrent_queue.specs.declared.queue_call.QueueCall.{QueueCall}
 use Rattle.concurrent_queue.specs.history.History.{Walks}
 use Rattle.concurrent_queue.specs.history.Joined.{AllStood}
-use Rattle.concurrent_queue.specs.history.Runs.{fresh, after_step, moves, standing_in, standing_of, IsQueueHistory, asks_of, AllDid, IsRunWith, HistoriesAreRuns, HistoriesHaveLed, HistoriesTouchTheirOwn}
+use Rattle.concurrent_queue.specs.history.Runs.{fresh, after_step, moves, history, standing_in, standing_of, IsQueueHistory, asks_of, AllDid, IsRunWith, HistoriesAreRuns, HistoriesHaveLed, HistoriesTouchTheirOwn}
 use Rattle.concurrent_queue.specs.history.Shared.{Shown}
 use Rattle.concurrent_queue.specs.declared.history.party.Standing.{Standing}
 use Rattle.concurrent_queue.specs.declared.history.rule.View.{View}
@@ -135,6 +135,6 @@ module _ {T : Type 0} (form : QueueForm) where
     all_did [] a = tt
     all_did (x ∷ xs) a = (one_did x.0 a.0.0 x.1 a.0.1 a.0.2, all_did xs a.1)
 
-pub runs_with : (T : Type 0) → HistoriesAreRuns T → (v : View T (Standing T)) → Shown moves fresh v → IsRunWith v
-runs_with T runs v (views, c, h, mine, has, stood, once) =
+pub runs_with : (T : Type 0) → HistoriesAreRuns T → (v : View T (Standing T)) → Shown history v → IsRunWith v
+runs_with T runs v (views, c, n, m, h, mine, has, stood, once) =
     (views, c, h, runs v.form views c has h, mine, (one_did v.form views c h v.who v v.state mine refl, all_did v.form views c h v.over stood), once)

@@ -8,7 +8,7 @@ use Rattle.concurrent_queue.specs.history.Joined.{Lists, EachOnce, HasStood, All
 use Rattle.concurrent_queue.specs.history.Shared.{AreSeated, both_views, spent_view}
 use Rattle.concurrent_queue.specs.declared.history.rule.View.{View}
 use Rattle.concurrent_queue.proofs.Guarding.{set_there}
-use Rattle.concurrent_queue.proofs.Histories.{at_end}
+use Rattle.concurrent_queue.specs.history.QueueKeeps.{at_end}
 
 pub false_true : false ≢ true
 false_true e = absurd (cc)
@@ -51,28 +51,43 @@ module _ {T A : Type 0} where
   acts_apart : (vs : List (View T A)) (id : ℕ) (v : View T A) → get_elem? vs id ≡ some v → v.spent ≡ false → (x : ℕ × A) → HasStood vs x → x.0 ≢ id
   acts_apart vs id v at live x h e = unlisted vs id v at live (x ∷ []) (h, tt) (inl e)
 
-  -- ---- a view changes, and lists whom it listed
+  -- ---- a view changes, and lists whom it listed, or nobody
+
+  abbrev pub ListsNoMore : View T A → View T A → Type 0
+  ListsNoMore w v = (w.over ≡ v.over) ⊎ (w.over ≡ [])
+
+  no_more_lists : (u o : View T A) (p : ℕ) → ListsNoMore u o → Lists p u.over → Lists p o.over
+  no_more_lists u o p (inl e) h = subst (λ (l : List (ℕ × A)). Lists p l) e h
+  no_more_lists u o p (inr e) h = absurd (subst (λ (l : List (ℕ × A)). Lists p l) e h)
+
+  no_more_stood : (vs : List (View T A)) (u o : View T A) → ListsNoMore u o → AllStood vs o.over → AllStood vs u.over
+  no_more_stood vs u o (inl e) h = subst (λ (l : List (ℕ × A)). AllStood vs l) (sym e) h
+  no_more_stood vs u o (inr e) h = subst (λ (l : List (ℕ × A)). AllStood vs l) (sym e) tt
+
+  no_more_once : (u o : View T A) → ListsNoMore u o → EachOnce o.over → EachOnce u.over
+  no_more_once u o (inl e) h = subst (λ (l : List (ℕ × A)). EachOnce l) (sym e) h
+  no_more_once u o (inr e) h = subst (λ (l : List (ℕ × A)). EachOnce l) (sym e) tt
 
   module _ (vs : List (View T A)) (id : ℕ) (v w : View T A) (at : get_elem? vs id ≡ some v) where
-    was : w.over ≡ v.over → (j : ℕ) (u : View T A) → get_elem? (set vs id w) j ≡ some u → (o : View T A) × (get_elem? vs j ≡ some o) × (u.over ≡ o.over)
+    was : ListsNoMore w v → (j : ℕ) (u : View T A) → get_elem? (set vs id w) j ≡ some u → (o : View T A) × (get_elem? vs j ≡ some o) × ListsNoMore u o
     was same j u e = ⊎_elim
-        (λ (t : (j ≡ id) × (w ≡ u)). (v, ap (get_elem? vs) t.0 ∙ at, ap (λ (y : View T A). y.over) (sym t.1) ∙ same))
-        (λ (t : (j ≢ id) × (get_elem? vs j ≡ some u)). (u, t.1, refl))
+        (λ (t : (j ≡ id) × (w ≡ u)). (v, ap (get_elem? vs) t.0 ∙ at, subst (λ (y : View T A). ListsNoMore y v) t.1 same))
+        (λ (t : (j ≢ id) × (get_elem? vs j ≡ some u)). (u, t.1, inl refl))
         (at_set vs id j w u e)
 
     stays : v.spent ≡ false → (x : ℕ × A) → HasStood vs x → HasStood (set vs id w) x
     stays live x h = (h.0, set_else vs id x.0 w (acts_apart vs id v at live x h) ∙ h.1, h.2, h.3)
 
-    joined_set : w.over ≡ v.over → v.spent ≡ false → IsJoined vs → IsJoined (set vs id w)
+    joined_set : ListsNoMore w v → v.spent ≡ false → IsJoined vs → IsJoined (set vs id w)
     joined_set same live r = record {
       stood = λ j u e.
           let o = was same j u e in
-          subst (λ (l : List (ℕ × A)). AllStood (set vs id w) l) (sym o.2) (stood_still vs (set vs id w) (stays live) o.0.over (r.stood j o.0 o.1));
-      once = λ j u e. let o = was same j u e in subst (λ (l : List (ℕ × A)). EachOnce l) (sym o.2) (r.once j o.0 o.1);
+          no_more_stood (set vs id w) u o.0 o.2 (stood_still vs (set vs id w) (stays live) o.0.over (r.stood j o.0 o.1));
+      once = λ j u e. let o = was same j u e in no_more_once u o.0 o.2 (r.once j o.0 o.1);
       apart = λ j k u y p e f h g.
           let o = was same j u e in
           let q = was same k y f in
-          r.apart j k o.0 q.0 p o.1 q.1 (subst (λ (l : List (ℕ × A)). Lists p l) o.2 h) (subst (λ (l : List (ℕ × A)). Lists p l) q.2 g);
+          r.apart j k o.0 q.0 p o.1 q.1 (no_more_lists u o.0 p o.2 h) (no_more_lists y q.0 p q.2 g);
     }
 
   -- ---- a view more, which lists nobody
@@ -187,22 +202,27 @@ module _ {T A : Type 0} where
         apart = λ j k u y p e f h g. alone j k u y p (came j u e) (came k y f) h g;
       }
 
+module _ {T A : Type 0} where
+  -- the view says this number, if it says one
+  abbrev pub IsNamed : ℕ → View T A → Type 0
+  IsNamed j v = v.nameless ≡ false → v.who ≡ j
+
 module _ {T A : Type 0} (form : QueueForm) where
   -- ---- all that is said of the views
 
   abbrev Named : List (View T A) → Type 0
-  Named vs = (j : ℕ) (v : View T A) → get_elem? vs j ≡ some v → (v.who ≡ j) × (v.form ≡ form)
+  Named vs = (j : ℕ) (v : View T A) → get_elem? vs j ≡ some v → IsNamed j v × (v.form ≡ form)
 
-  named_set : (vs : List (View T A)) (id : ℕ) (v w : View T A) → get_elem? vs id ≡ some v → w.who ≡ v.who → w.form ≡ v.form → Named vs → Named (set vs id w)
+  named_set : (vs : List (View T A)) (id : ℕ) (v w : View T A) → get_elem? vs id ≡ some v → (IsNamed id v → IsNamed id w) → w.form ≡ v.form → Named vs → Named (set vs id w)
   named_set vs id v w at who kind all j u e = ⊎_elim
       (λ (t : (j ≡ id) × (w ≡ u)).
       let n = all id v at in
-      (ap (λ (y : View T A). y.who) (sym t.1) ∙ (who ∙ (n.0 ∙ sym t.0)), ap (λ (y : View T A). y.form) (sym t.1) ∙ (kind ∙ n.1)))
+      (subst (λ (k : ℕ). IsNamed k u) (sym t.0) (subst (λ (y : View T A). IsNamed id y) t.1 (who n.0)), ap (λ (y : View T A). y.form) (sym t.1) ∙ (kind ∙ n.1)))
       (λ (t : (j ≢ id) × (get_elem? vs j ≡ some u)). all j u t.1)
       (at_set vs id j w u e)
 
   -- a view changes where its seat steps, and the flag is raised or stays
-  pub seats_step : (f f' : ℕ) (vs : List (View T A)) (id : ℕ) (v w : View T A) → get_elem? vs id ≡ some v → w.who ≡ v.who → w.form ≡ v.form → w.over ≡ v.over → v.spent ≡ false → (f ≢ 0 → f' ≢ 0) → (w.foreign ≡ true → f' ≢ 0)
+  pub seats_step : (f f' : ℕ) (vs : List (View T A)) (id : ℕ) (v w : View T A) → get_elem? vs id ≡ some v → (IsNamed id v → IsNamed id w) → w.form ≡ v.form → ListsNoMore w v → v.spent ≡ false → (f ≢ 0 → f' ≢ 0) → (w.foreign ≡ true → f' ≢ 0)
       → AreSeated form f vs → AreSeated form f' (set vs id w)
   seats_step f f' vs id v w at who kind over live raised mine r = record {
     named = named_set vs id v w at who kind r.named;
@@ -214,10 +234,10 @@ module _ {T A : Type 0} (form : QueueForm) where
   }
 
   -- a seat more
-  pub seats_more : (f : ℕ) (vs : List (View T A)) (w : View T A) → w.who ≡ length vs → w.form ≡ form → w.over ≡ [] → (w.foreign ≡ true → f ≢ 0) → AreSeated form f vs → AreSeated form f (vs ++ w ∷ [])
+  pub seats_more : (f : ℕ) (vs : List (View T A)) (w : View T A) → IsNamed (length vs) w → w.form ≡ form → w.over ≡ [] → (w.foreign ≡ true → f ≢ 0) → AreSeated form f vs → AreSeated form f (vs ++ w ∷ [])
   seats_more f vs w who kind over mine r = record {
     named = λ j u e. ⊎_elim
-        (λ (t : (j ≡ length vs) × (w ≡ u)). (ap (λ (y : View T A). y.who) (sym t.1) ∙ (who ∙ sym t.0), ap (λ (y : View T A). y.form) (sym t.1) ∙ kind))
+        (λ (t : (j ≡ length vs) × (w ≡ u)). (subst (λ (k : ℕ). IsNamed k u) (sym t.0) (subst (λ (y : View T A). IsNamed (length vs) y) t.1 who), ap (λ (y : View T A). y.form) (sym t.1) ∙ kind))
         (λ (t : get_elem? vs j ≡ some u). r.named j u t)
         (at_end vs w u j e);
     admitted = λ j u e is. ⊎_elim
@@ -228,12 +248,12 @@ module _ {T A : Type 0} (form : QueueForm) where
   }
 
   -- one is joined into another
-  pub seats_join : (f : ℕ) (vs : List (View T A)) (id other : ℕ) (v w : View T A) → get_elem? vs id ≡ some v → get_elem? vs other ≡ some w → other ≢ id → v.spent ≡ false → w.spent ≡ false → AreSeated form f vs
+  pub seats_join : (f : ℕ) (vs : List (View T A)) (id other : ℕ) (v w : View T A) → get_elem? vs id ≡ some v → get_elem? vs other ≡ some w → other ≢ id → v.spent ≡ false → w.spent ≡ false → w.nameless ≡ false → AreSeated form f vs
       → AreSeated form f (set (set vs id (both_views v w)) other (spent_view w))
-  seats_join f vs id other v w at there two live still r =
+  seats_join f vs id other v w at there two live still name r =
       let mid : get_elem? (set vs id (both_views v w)) other ≡ some w = set_else vs id other (both_views v w) two ∙ there in
       record {
-        named = named_set (set vs id (both_views v w)) other w (spent_view w) mid refl refl (named_set vs id v (both_views v w) at refl refl r.named);
+        named = named_set (set vs id (both_views v w)) other w (spent_view w) mid (λ k. k) refl (named_set vs id v (both_views v w) at (λ k. k) refl r.named);
         admitted = λ j u e is. ⊎_elim
             (λ (t : (j ≡ other) × (spent_view w ≡ u)). r.admitted other w there (ap (λ (y : View T A). y.foreign) t.1 ∙ is))
             (λ (t : (j ≢ other) × (get_elem? (set vs id (both_views v w)) j ≡ some u)). ⊎_elim
@@ -241,5 +261,5 @@ module _ {T A : Type 0} (form : QueueForm) where
             (λ (z : (j ≢ id) × (get_elem? vs j ≡ some u)). r.admitted j u z.1 is)
             (at_set vs id j (both_views v w) u t.1))
             (at_set (set vs id (both_views v w)) other j (spent_view w) u e);
-        joined = joined_join vs id other v w at there two live still (r.named other w there).0 r.joined;
+        joined = joined_join vs id other v w at there two live still ((r.named other w there).0 name) r.joined;
       }

@@ -1,9 +1,8 @@
 -- What the cells of a queue hold, by the words of its table.
-use Rattle.std.proofs.Common.{◌≡◌, ◌≢◌, ℕ, zero, suc, ◌+◌, ◌-◌, ◌<◌, ◌≤◌, Bool, false, nat_lt, if◌then◌else◌, ⊎_elim, eq-eqb, ne_eqb, List, [], ◌∷◌, length, drop, set, refl, sym, ap, ◌∙◌, subst, arith, get_or-set_other, get_or-set_same, get_or-drop, drop-set-lt}
+use Rattle.std.proofs.Common.{◌≡◌, ◌≢◌, ℕ, zero, suc, ◌+◌, ◌-◌, ◌<◌, ◌≤◌, ◌⊎◌, inl, inr, Bool, false, nat_lt, if◌then◌else◌, ⊎_elim, eq-eqb, ne_eqb, List, [], ◌∷◌, length, drop, set, refl, sym, ap, ◌∙◌, subst, arith, get_or-set_other, get_or-set_same, get_or-drop, drop-set-lt}
 use Rattle.std.proofs.lemmas.List.{length-drop, drop-set-add, set-get_or}
 use Rattle.std.proofs.lemmas.Bool.{cases_lt}
 use Rattle.std.proofs.lemmas.Bool.Decides.{nat_tests}
-use Rattle.concurrent_queue.specs.Bridge.{does}
 use mathlib.Core.Logic.{dite}
 use native.Mathlib.Decide.{ℕ_discrete}
 use Rattle.std.specs.Prelude.{Option, None, Some, Ok, Err, MatchResult, slice_index, slice_index_or, slice_get}
@@ -45,29 +44,39 @@ named_behind form slots k w e f h =
     let at : k - slots ≡ i = omega arith in
     ap own_word at ∙ named form w h
 
-below : (n : ℕ) → n < 24 → n ≢ 24
-below n h e = absurd (omega arith)
+-- where none of the queue's own words lies: the two counts and the flag
+abbrev pub IsSpare : ℕ → Type 0
+IsSpare k = (k ≡ 9) ⊎ ((k ≡ 24) ⊎ (k ≡ 28))
 
--- none of them is the flag
-pub not_flag : (form : QueueForm) (w : Word) → IsOwn form w → index_of (place_of w) ≢ 24
-not_flag form State h e = below 0 (omega arith) e
-not_flag form Head h e = below 1 (omega arith) e
-not_flag form HeadBlock h e = below 2 (omega arith) e
-not_flag form Tail h e = below 16 (omega arith) e
-not_flag form TailBlock h e = below 17 (omega arith) e
-not_flag form (Stamp i) h e = let z : 32 + i ≡ 24 = e in absurd (omega arith)
-not_flag form (Next b) h e = absurd (none_some b h.0)
-not_flag form (Reads b) h e = absurd (none_some b h.0)
-not_flag form (Written b i) h e = absurd (none_some b h.0)
+apart_from : (n k : ℕ) → n ≢ 9 → n ≢ 24 → n ≢ 28 → IsSpare k → n ≢ k
+apart_from n k a b c (inl e) f = a (f ∙ e)
+apart_from n k a b c (inr (inl e)) f = b (f ∙ e)
+apart_from n k a b c (inr (inr e)) f = c (f ∙ e)
 
--- a word lies behind the guards, and not where the flag does
-pub behind_guards : (form : QueueForm) (w : Word) (k : ℕ) → IsOwn form w → k ≡ slots_of form + index_of (place_of w) → (slots_of form ≤ k) × (k ≢ flag_at form)
+spare_small : (k : ℕ) → IsSpare k → k < 32
+spare_small k (inl e) = omega arith
+spare_small k (inr (inl e)) = omega arith
+spare_small k (inr (inr e)) = omega arith
+
+pub not_spare : (form : QueueForm) (w : Word) → IsOwn form w → (k : ℕ) → IsSpare k → index_of (place_of w) ≢ k
+not_spare form State h k is = apart_from 0 k (λ e. omega arith) (λ e. omega arith) (λ e. omega arith) is
+not_spare form Head h k is = apart_from 1 k (λ e. omega arith) (λ e. omega arith) (λ e. omega arith) is
+not_spare form HeadBlock h k is = apart_from 2 k (λ e. omega arith) (λ e. omega arith) (λ e. omega arith) is
+not_spare form Tail h k is = apart_from 16 k (λ e. omega arith) (λ e. omega arith) (λ e. omega arith) is
+not_spare form TailBlock h k is = apart_from 17 k (λ e. omega arith) (λ e. omega arith) (λ e. omega arith) is
+not_spare form (Stamp i) h k is = apart_from (32 + i) k (λ e. omega arith) (λ e. omega arith) (λ e. omega arith) is
+not_spare form (Next b) h k is = absurd (none_some b h.0)
+not_spare form (Reads b) h k is = absurd (none_some b h.0)
+not_spare form (Written b i) h k is = absurd (none_some b h.0)
+
+-- a word lies behind the guards, and where none of these does
+pub behind_guards : (form : QueueForm) (w : Word) (k : ℕ) → IsOwn form w → k ≡ slots_of form + index_of (place_of w) → (slots_of form ≤ k) × ((j : ℕ) → IsSpare j → k ≢ slots_of form + j)
 behind_guards form w k own is =
     let n : ℕ = slots_of form in
     let i : ℕ = index_of (place_of w) in
     let is' : k ≡ n + i = is in
     let a : n ≤ k = omega arith in
-    (a, λ e. not_flag form w own (let e' : k ≡ n + 24 = e in let z : i ≡ 24 = omega arith in z))
+    (a, λ j spare e. not_spare form w own j spare (let e' : k ≡ n + j = e in let z : i ≡ j = omega arith in z))
 
 past : (l : List ℕ) (i : ℕ) → length l ≤ i → slice_index l i ≡ 0
 past [] i h = refl
@@ -155,11 +164,13 @@ module _ {T : Type 0} (form : QueueForm) where
     guards_apart i h = λ k.
         build (guard_keep i 0 h k) (guard_keep i 1 h k) (guard_keep i 16 h k) (guard_keep i 2 h k) (guard_keep i 17 h k) (drop-set-lt (slots_of form + 32) words i x (let m : ℕ = slots_of form in let h' : i < m = h in let l : i < m + 32 = omega arith in l) k) values
 
-    -- nor is the flag
-    pub flag_apart : (k : ℕ) → k ≡ flag_at form → contents form (set words k x) values ≡ contents form words values
-    flag_apart k is =
-        subst (λ (j : ℕ). contents form (set words j x) values ≡ contents form words values) (sym is)
-        (λ z. build (keep 24 0 (λ e. omega arith) z) (keep 24 1 (λ e. omega arith) z) (keep 24 16 (λ e. omega arith) z) (keep 24 2 (λ e. omega arith) z) (keep 24 17 (λ e. omega arith) z) (stamps_keep 24 (omega arith) z) values)
+    -- nor is the flag, or a count
+    pub spare_apart : (j k : ℕ) → IsSpare j → k ≡ slots_of form + j → contents form (set words k x) values ≡ contents form words values
+    spare_apart j k spare is =
+        subst (λ (z : ℕ). contents form (set words z x) values ≡ contents form words values) (sym is)
+        (λ z. build (keep j 0 (apart_from 0 j (λ e. omega arith) (λ e. omega arith) (λ e. omega arith) spare) z) (keep j 1 (apart_from 1 j (λ e. omega arith) (λ e. omega arith) (λ e. omega arith) spare) z)
+            (keep j 16 (apart_from 16 j (λ e. omega arith) (λ e. omega arith) (λ e. omega arith) spare) z) (keep j 2 (apart_from 2 j (λ e. omega arith) (λ e. omega arith) (λ e. omega arith) spare) z)
+            (keep j 17 (apart_from 17 j (λ e. omega arith) (λ e. omega arith) (λ e. omega arith) spare) z) (stamps_keep j (spare_small j spare) z) values)
 
   -- what is found there is what the queue has
   pub found : (words : List ℕ) (values : List (Option T)) (w : Word) → IsOwn form w → read (contents form words values) w ≡ slice_index words (slots_of form + index_of (place_of w))
@@ -211,55 +222,55 @@ module _ {T : Type 0} (form : QueueForm) where
   no_slot (x ∷ xs) zero h = absurd (omega arith)
   no_slot (x ∷ xs) (suc i) h = no_slot xs i (omega arith)
 
-  absent_take : (i : ℕ) → slots_of form ≤ i → LeavesAll {T = T} form (does (Some (did_take (At i) None)))
+  absent_take : (i : ℕ) → slots_of form ≤ i → LeavesAll {T = T} form (did_take (At i) None)
   absent_take i far c z =
       let f : length c.slots ≤ i = subst (λ (m : ℕ). m ≤ i) (sym z.slots) far in
       ((no_slot c.slots i f).0, ap (λ (l : List (Option T)). record c { slots = l }) (sym (unset c.slots i None f)))
 
-  absent_put : (i : ℕ) (v : T) → slots_of form ≤ i → LeavesAll form (does (Some (did_put (At i) v (Err v))))
+  absent_put : (i : ℕ) (v : T) → slots_of form ≤ i → LeavesAll form (did_put (At i) v (Err v))
   absent_put i v far c z =
       let f : length c.slots ≤ i = subst (λ (m : ℕ). m ≤ i) (sym z.slots) far in
       (ap is_vacant (no_slot c.slots i f).1, refl, refl)
 
-  block_take : (b i : ℕ) → LeavesAll {T = T} form (does (Some (did_take (In b i) None)))
+  block_take : (b i : ℕ) → LeavesAll {T = T} form (did_take (In b i) None)
   block_take b i c z = (
     ap (λ (bs : List (BlockCells T)). slice_index_or (block_in bs b).slots i None) (sym z.blocks),
     ap (λ (l : List (BlockCells T)). record c { blocks = l }) (z.blocks ∙ ap (λ (l : List (BlockCells T)). set l b (with_slot (block_in c.blocks b) i None)) (sym z.blocks)),
   )
 
-  block_put : (b i : ℕ) (v : T) → LeavesAll form (does (Some (did_put (In b i) v (Err v))))
+  block_put : (b i : ℕ) (v : T) → LeavesAll form (did_put (In b i) v (Err v))
   block_put b i v c z = (ap (λ (bs : List (BlockCells T)). is_vacant (slice_get (block_in bs b).slots i)) z.blocks, refl, refl)
 
-  pub none_taken : (at : Slot) → IsNoSlot form at → LeavesAll {T = T} form (does (Some (did_take at None)))
+  pub none_taken : (at : Slot) → IsNoSlot form at → LeavesAll {T = T} form (did_take at None)
   none_taken (At i) far = absent_take i far
   none_taken (In b i) far = block_take b i
 
-  pub none_put : (at : Slot) (v : T) → IsNoSlot form at → LeavesAll form (does (Some (did_put at v (Err v))))
+  pub none_put : (at : Slot) (v : T) → IsNoSlot form at → LeavesAll form (did_put at v (Err v))
   none_put (At i) v far = absent_put i v far
   none_put (In b i) v far = block_put b i v
 
   -- ---- the operations on a word that isn't there
 
   module _ (w : Word) (h : IsAbsent form w) where
-    pub absent_load : LeavesAll {T = T} form (does (Some (loaded w 0)))
+    pub absent_load : LeavesAll {T = T} form (loaded w 0)
     absent_load c z = (absent_read w c z h, refl)
 
-    pub absent_store : (x : ℕ) → LeavesAll {T = T} form (does (Some (stored w x)))
+    pub absent_store : (x : ℕ) → LeavesAll {T = T} form (stored w x)
     absent_store x c z = absent_write w x c z h
 
-    pub absent_add : (x : ℕ) → LeavesAll {T = T} form (does (Some (added w x 0)))
+    pub absent_add : (x : ℕ) → LeavesAll {T = T} form (added w x 0)
     absent_add x c z = (absent_read w c z h, absent_write w _ c z h)
 
-    pub absent_set : (x : ℕ) → LeavesAll {T = T} form (does (Some (bits_set w x 0)))
+    pub absent_set : (x : ℕ) → LeavesAll {T = T} form (bits_set w x 0)
     absent_set x c z = (absent_read w c z h, absent_write w _ c z h)
 
-    pub absent_keep : (x : ℕ) → LeavesAll {T = T} form (does (Some (bits_kept w x 0)))
+    pub absent_keep : (x : ℕ) → LeavesAll {T = T} form (bits_kept w x 0)
     absent_keep x c z = (absent_read w c z h, absent_write w _ c z h)
 
     abbrev Answers : ℕ → ℕ → Contents T → Bool → Type 0
     Answers x y c b = MatchResult (if b then Ok 0 else Err 0) (λ v. (v ≡ x) × (read c w ≡ x) × (c ≡ write c w y)) (λ v. (v ≡ read c w) × (¬ (v ≡ x)) × (c ≡ c))
 
-    pub absent_exchange : (x y : ℕ) → LeavesAll {T = T} form (does (Some (exchanged w x y (answer 0 x))))
+    pub absent_exchange : (x y : ℕ) → LeavesAll {T = T} form (exchanged w x y (answer 0 x))
     absent_exchange x y c z = dite (ℕ_discrete 0 x)
         (λ e. subst (Answers x y c) (sym (eq-eqb 0 x e)) (e, sym (absent_read w c z h) ∙ e, absent_write w y c z h))
         (λ ne. subst (Answers x y c) (sym (ne_eqb 0 x ne)) (absent_read w c z h, ne, refl))

@@ -80,6 +80,8 @@ pub mod HistoryOpening
 pub mod Guarding
 pub mod HistoryWords
 pub mod HistorySteps
+pub mod HistoryParties
+pub mod HistoryCounts
 pub mod HistoryCallsEnd
 pub mod HistoryAnswers
 mod CallBegins

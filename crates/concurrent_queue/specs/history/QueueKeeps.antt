@@ -153,7 +153,7 @@ module _ {T : Type 0} where
   comes form views c w h (inl is) = arrives moves form fresh views w c h is
   comes form views c w h (inr (a, made)) = enters_so moves form fresh views (record w { state = fresh }) w (begins a) c h refl refl made
 
-  pub queue_keeps : KeepsHistory moves enters turns counts both left parts fresh 0 history
+  pub queue_keeps : KeepsHistory {T = T} {A = Standing T} moves enters turns counts both left parts fresh 0 history
   queue_keeps = record {
     opens = λ form v has is. opens moves form fresh v is;
     same = λ form views c n m p v w h at is. same moves form fresh views p v w c h at is;
@@ -168,7 +168,7 @@ module _ {T : Type 0} where
 
   -- ---- a party whose call is under way makes what its call makes next, and goes on as that does
 
-  pub queue_may : CallsMayMove moves calls
+  pub queue_may : CallsMayMove {T = T} {A = Standing T} moves calls
   queue_may form s call next d reply under made = (after_step s next reply, (call, next, reply, under, made, refl))
 
   or_that : QueueCall T → Option (QueueCall T) → QueueCall T
@@ -179,7 +179,7 @@ module _ {T : Type 0} where
   unfolding or_that
   same_call x y e = ap (or_that x) e
 
-  pub queue_led : CallsAreLed moves calls
+  pub queue_led : CallsAreLed {T = T} {A = Standing T} moves calls
   queue_led form s t call d under (begun, next, reply, was, made, is) = (
     next,
     reply,

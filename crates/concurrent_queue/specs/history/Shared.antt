@@ -149,7 +149,7 @@ module _ {T A : Type 0} where
   abbrev pub flag_in : QueueForm → TableState T A → ℕ
   flag_in form s = slice_index s.words (flag_at form)
 
-  module _ (admits : Type 0) (is_history : HistoryOf T A) where
+  module _ (is_history : HistoryOf T A) where
     -- THE HISTORY: one has led to the cells and the counts, and it has in each slot at home what lies there, and in each that is out what
     -- its seat's view says
     pub record IsKept (form : QueueForm) (s : TableState T A) : Type 0 where
@@ -161,7 +161,7 @@ module _ {T A : Type 0} where
 
     -- THE RULE: a slot is out exactly where its guard is won, by the one seat whose view says so; and there is the history, while no foreign
     -- call was admitted if any may be
-    pub record IsRuled (form : QueueForm) (s : TableState T A) : Type 0 where
+    pub record IsRuled (admits : Type 0) (form : QueueForm) (s : TableState T A) : Type 0 where
       pub has : HasCells form
       pub slots : length s.homes ≡ slots_of form
       pub words : length s.words ≡ slots_of form + words_of form
@@ -177,8 +177,8 @@ module _ {T A : Type 0} where
         × AllStood views v.over × EachOnce ((v.who, v.state) ∷ v.over)
 
     -- where the word that was found is 0, or no foreign call may be admitted
-    abbrev pub looks : Step (Option T) → Seated T A → ℕ → Seated T A → Type 0
-    looks st m found m' = (m' ≡ m) × ((admits → found ≡ 0) → Shown m.0)
+    abbrev pub looks : Type 0 → Step (Option T) → Seated T A → ℕ → Seated T A → Type 0
+    looks admits st m found m' = (m' ≡ m) × ((admits → found ≡ 0) → Shown m.0)
 
   module _ (moves : QueueForm → A → Event T → A → Type 0) where
     -- ---- what a step tells its seat
@@ -247,9 +247,9 @@ module _ {T A : Type 0} where
   abbrev pub enters : A → Step (Option T) → Seated T A → ℕ → Seated T A → Type 0
   enters a st m found m' = (m'.0.state ≡ a) × IsNew m m'
 
-  -- the party is at this state, and nothing else of the seat has changed
-  abbrev pub turns : A → Step (Option T) → Seated T A → ℕ → Seated T A → Type 0
-  turns a st m found m' = m' ≡ (going_on m.0 a, m.1)
+  -- the party goes there, and nothing else of the seat changes
+  abbrev pub turns : (A → A) → Step (Option T) → Seated T A → ℕ → Seated T A → Type 0
+  turns to st m found m' = m' ≡ (going_on m.0 (to m.0.state), m.1)
 
   -- it is at a state to which this leads
   abbrev pub led_by : (A → A → Type 0) → Step (Option T) → Seated T A → ℕ → Seated T A → Type 0
@@ -302,6 +302,10 @@ module _ {T A : Type 0} where
 
   abbrev pub spent_view : View T A → View T A
   spent_view w = record w { over = []; spent = true }
+
+  -- what is left to the other's seat, as it was picked
+  abbrev pub spent_as : A → (View T A → View T A) → View T A
+  spent_as a to = to (first_view a Unbounded)
 
   -- ---- a party takes in what another has, and some of it goes to a new one
 

@@ -107,7 +107,7 @@ pub struct OneHistory<P> {
 impl<T, A, P: Machine<T, A>> TableRule<Option<T>, View<T, A>, QueueForm> for OneHistory<P> {
     ghost use Rattle.concurrent_queue.specs.history.Shared.{IsRuled, first_view};
 
-    ghost holds = { λ form s. IsRuled P.admits P.history form s };
+    ghost holds = { λ form s. IsRuled P.history P.admits form s };
 
     ghost first = { λ form. first_view P.opened form };
 }
@@ -217,7 +217,7 @@ pub struct Looks<P> {
 impl<T, A, P: Machine<T, A>> Play<Option<T>, View<T, A>> for Looks<P> {
     ghost use Rattle.concurrent_queue.specs.history.Shared.{looks};
 
-    ghost then = { looks P.admits P.history };
+    ghost then = { looks P.history P.admits };
 }
 
 /// An operation, which the proof of a call picks where the call passes `Brand`.
@@ -244,13 +244,13 @@ impl<T, A, P: Machine<T, A>, E: Happens<T>> Play<Option<T>, View<T, A>> for Happ
     ghost then = { makes P.moves E.deed };
 }
 
-/// A state, which the proof of a call picks where the call passes `Brand`.
-pub trait Picks<T, A, P: Machine<T, A>> {
-    ghost state: { A };
+/// Where one goes, by where one is, which the proof of a call picks where the call passes `Brand`.
+pub trait Picks<A> {
+    ghost to: { A → A };
 }
 
-impl<T, A, P: Machine<T, A>> Picks<T, A, P> for Brand {
-    ghost state = { P.first };
+impl<A> Picks<A> for Brand {
+    ghost to = { λ a. a };
 }
 
 /// A new seat, whose party is at the state that was picked.
@@ -258,21 +258,21 @@ pub struct Enters<P, E> {
     of: PhantomData<(P, E)>,
 }
 
-impl<T, A, P: Machine<T, A>, E: Picks<T, A, P>> Play<Option<T>, View<T, A>> for Enters<P, E> {
+impl<T, A, P: Machine<T, A>, E: Picks<A>> Play<Option<T>, View<T, A>> for Enters<P, E> {
     ghost use Rattle.concurrent_queue.specs.history.Shared.{enters};
 
-    ghost then = { enters E.state };
+    ghost then = { enters (E.to P.first) };
 }
 
 /// The party of a seat goes to the state that was picked, and touches nothing.
-pub struct Turns<P, E> {
-    of: PhantomData<(P, E)>,
+pub struct Turns<E> {
+    of: PhantomData<E>,
 }
 
-impl<T, A, P: Machine<T, A>, E: Picks<T, A, P>> Play<Option<T>, View<T, A>> for Turns<P, E> {
+impl<T, A, E: Picks<A>> Play<Option<T>, View<T, A>> for Turns<E> {
     ghost use Rattle.concurrent_queue.specs.history.Shared.{turns};
 
-    ghost then = { turns E.state };
+    ghost then = { turns E.to };
 }
 
 /// A counting word is read.
@@ -355,69 +355,54 @@ impl<T, A> Play<Option<T>, View<T, A>> for Wins {
     ghost then = { wins };
 }
 
-/// What is left to a seat whose party was joined into another's view, or taken in, which the proof of the join picks where it passes
-/// `Brand`.
-pub trait Spends<T, A, P: Machine<T, A>> {
-    ghost use Rattle.concurrent_queue.specs.declared.history.rule.View.{View};
-
-    ghost view: { View T A };
-}
-
-impl<T, A, P: Machine<T, A>> Spends<T, A, P> for Brand {
-    ghost use Rattle.concurrent_queue.specs.declared.cells.QueueForm.TheVariants.{Unbounded};
-    ghost use Rattle.concurrent_queue.specs.history.Shared.{first_view};
-
-    ghost view = { first_view P.first Unbounded };
-}
-
-/// One party is joined into another's view.
+/// One party is joined into another's view. What is left to the other's seat the proof of the join picks.
 pub struct Joined<P, E> {
     of: PhantomData<(P, E)>,
 }
 
-impl<T, A, P: Machine<T, A>, E: Spends<T, A, P>> Join<View<T, A>> for Joined<P, E> {
-    ghost use Rattle.concurrent_queue.specs.history.Shared.{both_views};
+impl<T, A, P: Machine<T, A>, E: Picks<View<T, A>>> Join<View<T, A>> for Joined<P, E> {
+    ghost use Rattle.concurrent_queue.specs.history.Shared.{both_views, spent_as};
 
     ghost both = { both_views };
 
-    ghost spent = { E.view };
+    ghost spent = { spent_as P.first E.to };
 }
 
-/// One party takes in what another has.
+/// One party takes in what another has, likewise.
 pub struct TakesIn<P, E> {
     of: PhantomData<(P, E)>,
 }
 
-impl<T, A, P: Machine<T, A>, E: Spends<T, A, P>> Join<View<T, A>> for TakesIn<P, E> {
-    ghost use Rattle.concurrent_queue.specs.history.Shared.{taking_in};
+impl<T, A, P: Machine<T, A>, E: Picks<View<T, A>>> Join<View<T, A>> for TakesIn<P, E> {
+    ghost use Rattle.concurrent_queue.specs.history.Shared.{taking_in, spent_as};
 
     ghost both = { taking_in P.both };
 
-    ghost spent = { E.view };
+    ghost spent = { spent_as P.first E.to };
 }
 
-/// What a party keeps and what a new one gets of what it has, which the proof of a call picks where the call passes `Brand`.
-pub trait PicksTwo<T, A, P: Machine<T, A>> {
-    ghost stays: { A };
+/// What a party keeps and what a new one gets, by what the party has, which the proof of a call picks where the call passes `Brand`.
+pub trait PicksTwo<A> {
+    ghost stays: { A → A };
 
-    ghost goes: { A };
+    ghost goes: { A → A };
 }
 
-impl<T, A, P: Machine<T, A>> PicksTwo<T, A, P> for Brand {
-    ghost stays = { P.first };
+impl<A> PicksTwo<A> for Brand {
+    ghost stays = { λ a. a };
 
-    ghost goes = { P.first };
+    ghost goes = { λ a. a };
 }
 
 /// Some of what a party has goes to a new one.
-pub struct Parted<P, E> {
-    of: PhantomData<(P, E)>,
+pub struct Parted<E> {
+    of: PhantomData<E>,
 }
 
-impl<T, A, P: Machine<T, A>, E: PicksTwo<T, A, P>> Split<View<T, A>> for Parted<P, E> {
+impl<T, A, E: PicksTwo<A>> Split<View<T, A>> for Parted<E> {
     ghost use Rattle.concurrent_queue.specs.history.Shared.{going_on, parted_view};
 
-    ghost left = { λ v. going_on v E.stays };
+    ghost left = { λ v. going_on v (E.stays v.state) };
 
-    ghost right = { λ v. parted_view v E.goes };
+    ghost right = { λ v. parted_view v (E.goes v.state) };
 }

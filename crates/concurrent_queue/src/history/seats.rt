@@ -2,11 +2,11 @@
 //! goes to another. Nothing else makes a seat that acts or lets one go, so a body that stops in the midst of a call is no program.
 
 ghost use Rattle.std.specs.Prelude.{true, false, ◌≡◌, ℕ, [], None};
-ghost use Rattle.concurrent_queue.specs.history.Shared.{Shown, both_views, left_view, spent_view};
+ghost use Rattle.concurrent_queue.specs.history.Shared.{Shown, both_views, left_view, spent_as, spent_view};
 ghost use Rattle.concurrent_queue.specs.declared.cells.QueueForm.TheVariants.{Bounded};
 
 use crate::history::rule::{
-    Enters, Joined, Looks, Machine, Names, Parted, Picks, PicksTwo, Spends, TakesIn, Turns, View,
+    Enters, Joined, Looks, Machine, Names, Parted, Picks, PicksTwo, TakesIn, Turns, View,
 };
 use crate::history::table::{CallSeat, RuledTable, flag_index};
 use atomic_table::Seat;
@@ -37,7 +37,7 @@ impl<T, A> IdleSeat<T, A> {
     /// The same seat, of which nobody knows any more whether it knows its number. It makes no operation.
     #[inline(always)]
     pub fn forget_name(self) -> NamelessSeat<T, A>
-        ensures { result.seat ≡ self.entry.seat }
+        ensures { result.seat ≡ self.seat }
     {
         let IdleSeat { seat } = self;
         NamelessSeat { seat }
@@ -45,11 +45,11 @@ impl<T, A> IdleSeat<T, A> {
 }
 
 impl<T, A, P: Machine<T, A>> RuledTable<T, A, P> {
-    /// A new party comes, at a state that the proof of the caller picks, who says what it is about. It costs a load, which makes its seat.
+    /// A new party comes, at a state that the proof of the caller picks, by the first one; the caller says what it is about. It costs a load, which makes its seat.
     #[inline(always)]
-    pub fn enter<E: Picks<T, A, P>, X>(&self, _about: &X) -> CallSeat<'_, T, A, P>
-        requires enters { P.enters self.now.table.shared.key E.state }
-        ensures state { result.seat.me.0.state ≡ E.state }
+    pub fn enter<E: Picks<A>, X>(&self, _about: &X) -> CallSeat<'_, T, A, P>
+        requires enters { P.enters self.now.table.shared.key (E.to P.first) }
+        ensures state { result.seat.me.0.state ≡ E.to P.first }
         ensures same { (result.seat.table_id ≡ self.now.table.shared.table_id) × (result.seat.me.0.form ≡ self.now.table.shared.key) }
         ensures alone { result.seat.me.0.over ≡ [] }
     {
@@ -114,10 +114,10 @@ impl<T, A, P: Machine<T, A>> RuledTable<T, A, P> {
     }
 
     /// The same, with what is left to the other's seat.
-    fn join_as<E: Spends<T, A, P>>(&self, one: &mut IdleSeat<T, A>, other: IdleSeat<T, A>)
+    fn join_as<E: Picks<View<T, A>>>(&self, one: &mut IdleSeat<T, A>, other: IdleSeat<T, A>)
         requires one { one.old.seat.table_id ≡ self.now.table.shared.table_id }
         requires other { other.seat.table_id ≡ self.now.table.shared.table_id }
-        requires spent { E.view ≡ spent_view other.seat.me.0 }
+        requires spent { spent_as P.first E.to ≡ spent_view other.seat.me.0 }
         ensures joined { one.new.seat.me.0 ≡ both_views one.old.seat.me.0 other.seat.me.0 }
         ensures same { one.new.seat.table_id ≡ one.old.seat.table_id }
     {
@@ -143,18 +143,18 @@ impl<'a, T, A, P: Machine<T, A>> CallSeat<'a, T, A, P> {
         IdleSeat { seat }
     }
 
-    /// The party makes a step that touches no cell and no count, to a state that the proof of the caller picks, who says what it is about. It
-    /// costs a load.
+    /// The party makes a step that touches no cell and no count, to a state that the proof of the caller picks, by the one where it
+    /// stands; the caller says what it is about. It costs a load.
     #[inline(always)]
-    pub fn turn<E: Picks<T, A, P>, X>(&mut self, _about: &X)
-        requires next { P.turns self.old.seat.me.0.form self.old.seat.me.0.state E.state }
-        ensures made { self.new.seat.me.0.state ≡ E.state }
+    pub fn turn<E: Picks<A>, X>(&mut self, _about: &X)
+        requires next { P.turns self.old.seat.me.0.form self.old.seat.me.0.state (E.to self.old.seat.me.0.state) }
+        ensures made { self.new.seat.me.0.state ≡ E.to self.old.seat.me.0.state }
         ensures same { (self.new.seat.table_id ≡ self.old.seat.table_id) × (self.new.seat.me.0.who ≡ self.old.seat.me.0.who) × (self.new.seat.me.0.form ≡ self.old.seat.me.0.form) × (self.new.seat.me.0.over ≡ self.old.seat.me.0.over) }
     {
         let at = flag_index(self.table);
         self.table
             .shared
-            .load::<Turns<P, E>>(&mut self.seat, at);
+            .load::<Turns<E>>(&mut self.seat, at);
     }
 
     /// As `look` of the table, of a party that acts.
@@ -180,9 +180,9 @@ impl<'a, T, A, P: Machine<T, A>> CallSeat<'a, T, A, P> {
 
     /// The same, with what is left to the other's seat.
     #[inline(always)]
-    fn take_in_as<E: Spends<T, A, P>>(&mut self, other: NamelessSeat<T, A>)
+    fn take_in_as<E: Picks<View<T, A>>>(&mut self, other: NamelessSeat<T, A>)
         requires other { other.seat.table_id ≡ self.old.seat.table_id }
-        requires spent { E.view ≡ left_view P.left other.seat.me.0 }
+        requires spent { spent_as P.first E.to ≡ left_view P.left other.seat.me.0 }
         ensures made { self.new.seat.me.0.state ≡ P.both self.old.seat.me.0.state other.seat.me.0.state }
         ensures same { (self.new.seat.table_id ≡ self.old.seat.table_id) × (self.new.seat.me.0.who ≡ self.old.seat.me.0.who) × (self.new.seat.me.0.form ≡ self.old.seat.me.0.form) × (self.new.seat.me.0.over ≡ self.old.seat.me.0.over) }
     {
@@ -192,20 +192,20 @@ impl<'a, T, A, P: Machine<T, A>> CallSeat<'a, T, A, P> {
             .join_seat::<TakesIn<P, E>>(&mut self.seat, seat);
     }
 
-    /// Some of what lies with the party goes to a new one, which has no call under way; which the proof of the caller picks, who says what it
-    /// is about. It costs a load.
+    /// Some of what lies with the party goes to a new one, which has no call under way; the proof of the caller picks what, and
+    /// the caller says what it is about. It costs a load.
     #[inline(always)]
-    pub fn part<E: PicksTwo<T, A, P>, X>(&mut self, _about: &X) -> NamelessSeat<T, A>
-        requires parts { P.parts self.old.seat.me.0.form self.old.seat.me.0.state E.stays E.goes }
-        requires rests { P.rests E.goes }
-        ensures stays { self.new.seat.me.0.state ≡ E.stays }
-        ensures goes { (result.seat.me.0.state ≡ E.goes) × (result.seat.me.0.over ≡ []) × (result.seat.me.0.form ≡ self.old.seat.me.0.form) × (result.seat.table_id ≡ self.old.seat.table_id) }
+    pub fn part<E: PicksTwo<A>, X>(&mut self, _about: &X) -> NamelessSeat<T, A>
+        requires parts { P.parts self.old.seat.me.0.form self.old.seat.me.0.state (E.stays self.old.seat.me.0.state) (E.goes self.old.seat.me.0.state) }
+        requires rests { P.rests (E.goes self.old.seat.me.0.state) }
+        ensures stays { self.new.seat.me.0.state ≡ E.stays self.old.seat.me.0.state }
+        ensures goes { (result.seat.me.0.state ≡ E.goes self.old.seat.me.0.state) × (result.seat.me.0.over ≡ []) × (result.seat.me.0.form ≡ self.old.seat.me.0.form) × (result.seat.table_id ≡ self.old.seat.table_id) }
         ensures same { (self.new.seat.table_id ≡ self.old.seat.table_id) × (self.new.seat.me.0.who ≡ self.old.seat.me.0.who) × (self.new.seat.me.0.form ≡ self.old.seat.me.0.form) × (self.new.seat.me.0.over ≡ self.old.seat.me.0.over) }
     {
         let seat = self
             .table
             .shared
-            .split_seat::<Parted<P, E>>(&mut self.seat);
+            .split_seat::<Parted<E>>(&mut self.seat);
         NamelessSeat { seat }
     }
 }

@@ -99,14 +99,14 @@ fn first_words(
     counted: u64,
 ) -> Result<Vec<u64>, AllocError>
     requires { slots ≤ 2 ^ 58 }
-    ensures { IfOk result (λ v. v.items ≡ counts_set slots counted (replicate (slots + 32) 0) ++ numbers_below stamps) }
+    ensures { IfOk result (λ v. v.items ≡ counts_set slots counted (replicate (slots + 32) 0 ++ numbers_below stamps)) }
 {
     let mut words = zeros(alloc, slots + STAMPS)?;
-    words[slots + FIRST_COUNT] = counted;
-    words[slots + SECOND_COUNT] = counted;
     for stamp in 0..stamps {
         words.push(stamp as u64)?;
     }
+    words[slots + FIRST_COUNT] = counted;
+    words[slots + SECOND_COUNT] = counted;
     Ok(words)
 }
 

@@ -36,7 +36,7 @@ pub struct Witnessed<'a, T: Drop> {
 }
 
 /// A witness of a new party that has made no call. It costs a load.
-fn witness<T: Drop>(table: &QueueTable<T>) -> Witness<T>
+fn new_witness<T: Drop>(table: &QueueTable<T>) -> Witness<T>
     ensures fresh { result.seat.me.0.state ≡ fresh }
     ensures alone { result.seat.me.0.over ≡ [] }
     ensures same { result.seat.table_id ≡ table.now.table.table.shared.table_id }
@@ -84,7 +84,8 @@ fn make<T: Drop, R: Wait>(
     let mut cells = next_cells(table, witness, &ask);
     let reply = whole::complete(rt, QueueCall::new(ask), &mut cells);
     let HistoryCells { seat } = cells;
-    (reply, seat.rest())
+    let after = seat.rest();
+    (reply, after)
 }
 
 /// The same of a call that waits for nobody.
@@ -122,7 +123,7 @@ impl<'a, T: Drop> Witnessed<'a, T> {
         ensures alone { (view_of result).over ≡ [] }
         ensures same { table_of result ≡ Some table.now.table.table.shared.table_id }
     {
-        let witness = witness(table);
+        let witness = new_witness(table);
         Witnessed { table, witness }
     }
 

@@ -59,7 +59,7 @@ fn answers_are_right<R: Wait>(rt: &R, alloc: Global) -> bool {
     let (displaced, calls) = calls.force_push(rt, 2);
     let (held, calls) = calls.len(rt);
     let (popped, calls) = calls.pop(rt);
-    let (closed, calls) = calls.close(rt);
+    let (closed, calls) = calls.close();
     let mut calls = calls;
     let told = calls.look();
     let mut call = QueueCall::is_closed();

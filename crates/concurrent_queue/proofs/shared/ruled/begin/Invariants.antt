@@ -1,4 +1,5 @@
+use Rattle.concurrent_queue.specs.history.Runs.{begun}
 use Rattle.concurrent_queue.proofs.shared.ruled.begin.Given as goal
 
-abbrev pub ghosts-begin : goal.ghosts-begin
-ghosts-begin g a = record { ask = a._about.now }
+abbrev pub ghosts-enter : goal.ghosts-enter
+ghosts-enter g a = record { to = begun a._about.now }

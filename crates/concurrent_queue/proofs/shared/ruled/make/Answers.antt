@@ -15,12 +15,12 @@ complete-reply-requires g c =
     let seat = c.call_cells-seen.result.cells.seat in
     record { stands = begun_stands seat.seat.me.0 seat.table.now.shared.table_id.slots c.args.ask (seat.seated.1 ∙ seat.bounded) c.call_cells-seen.ensures.begun c.new.result.state c.new.ensures.asked }
 
-pub end-witness-requires : goal.end-witness-requires
-end-witness-requires g c =
+pub rest-witness-requires : goal.rest-witness-requires
+rest-witness-requires g c =
     let cells = c.call_cells-seen.result.cells in
     let done = c.complete-reply.ensures in
     record {
-      ended = (cells_call_ends cells.seat.table.now.shared.table_id.slots c.args.ask c.requires.cells c.new.result c.new.ensures.asked c.call_cells-seen.ensures.begun.0 cells c.complete-reply.result.1
+      rests = (cells_call_ends cells.seat.table.now.shared.table_id.slots c.args.ask c.requires.cells c.new.result c.new.ensures.asked c.call_cells-seen.ensures.begun.0 cells c.complete-reply.result.1
           c.complete-reply.result.0 (cells.seat.seated.1 ∙ cells.seat.bounded) c.call_cells-seen.ensures.begun.1 done.cells done.answers).2;
     }
 

@@ -13,12 +13,12 @@ complete_question-reply-requires g c =
     let seat = c.call_cells-seen.result.cells.seat in
     record { words = c.requires.words; stands = begun_stands seat.seat.me.0 seat.table.now.shared.table_id.slots c.args.ask (seat.seated.1 ∙ seat.bounded) c.call_cells-seen.ensures.begun (Asked c.args.ask) refl }
 
-pub end-witness-requires : goal.end-witness-requires
-end-witness-requires g c =
+pub rest-witness-requires : goal.rest-witness-requires
+rest-witness-requires g c =
     let cells = c.call_cells-seen.result.cells in
     let done = c.complete_question-reply.ensures in
     record {
-      ended = (cells_call_ends cells.seat.table.now.shared.table_id.slots c.args.ask (asks_cells c.args.ask c.in_default.not-Capacity) (asking c.args.ask) refl c.call_cells-seen.ensures.begun.0 cells c.complete_question-reply.result.1
+      rests = (cells_call_ends cells.seat.table.now.shared.table_id.slots c.args.ask (asks_cells c.args.ask c.in_default.not-Capacity) (asking c.args.ask) refl c.call_cells-seen.ensures.begun.0 cells c.complete_question-reply.result.1
           c.complete_question-reply.result.0 (cells.seat.seated.1 ∙ cells.seat.bounded) c.call_cells-seen.ensures.begun.1 done.cells done.answers).2;
     }
 

@@ -1,7 +1,7 @@
 use Rattle.std.proofs.Common.{arith, ◌≡◌, ap, ◌∙◌, ◌∷◌, sym, ℕ, List}
 use Rattle.std.specs.Prelude.{Option, Some}
 use Rattle.atomic_table.specs.Table.{rest}
-use Rattle.concurrent_queue.specs.history.Runs.{moves, fresh}
+use Rattle.concurrent_queue.specs.history.QueueKeeps.{queue_keeps}
 use Rattle.concurrent_queue.specs.history.Shared.{slot_in}
 use Rattle.concurrent_queue.proofs.HistorySteps.{guard_there, wins_so, returns_so}
 use Rattle.concurrent_queue.proofs.history.foreign.ForeignSeat.put_into.Goals as goal
@@ -10,7 +10,7 @@ pub compare_exchange-requires : goal.compare_exchange-requires
 compare_exchange-requires g c =
     let p = c.args.self.now in
     let k = p.table.now.shared.key in
-    (p.seated.0, guard_there k _ _ _ p.slots p.words c.requires.there, wins_so moves fresh k _ _ _ p.foreign p.live _ p.slots c.requires.there p.free.0)
+    (p.seated.0, guard_there k _ _ _ p.slots p.words c.requires.there, wins_so queue_keeps (Unit {0}) k tt _ _ _ p.foreign p.live _ p.slots c.requires.there p.free.0)
 
 pub store-requires : goal.store-requires
 store-requires g c =
@@ -23,7 +23,7 @@ store-requires g c =
     let now = e.3 in (
       e.0 ∙ (t.0 ∙ p.seated.0),
       guard_there k _ _ _ p.slots p.words c.requires.there,
-      returns_so moves fresh k _ _ _ (ap (λ m. m.0.foreign) now ∙ (ap (λ m. m.0.foreign) took.1 ∙ p.foreign)) (ap (λ m. m.0.spent) now ∙ (ap (λ m. m.0.spent) took.1 ∙ p.live)) _ _ _ p.slots c.requires.there (ap (λ m. m.1) now)
+      returns_so queue_keeps (Unit {0}) k tt _ _ _ (ap (λ m. m.0.foreign) now ∙ (ap (λ m. m.0.foreign) took.1 ∙ p.foreign)) (ap (λ m. m.0.spent) now ∙ (ap (λ m. m.0.spent) took.1 ∙ p.live)) _ _ _ p.slots c.requires.there (ap (λ m. m.1) now)
           (ap (λ m. slot_in m.0.held) now ∙ ap (λ m. slot_in m.0.held) took.1),
     )
 
@@ -46,6 +46,6 @@ store-requires-in-Some g c =
     let b = c.exchange-back.ensures in (
       b.0 ∙ (e.0 ∙ (t.0 ∙ p.seated.0)),
       guard_there k _ _ _ p.slots p.words c.requires.there,
-      returns_so moves fresh k _ _ _ (ap (λ m. m.0.foreign) b.3 ∙ (ap (λ m. m.0.foreign) e.3 ∙ (ap (λ m. m.0.foreign) took.1 ∙ p.foreign))) (ap (λ m. m.0.spent) b.3 ∙ (ap (λ m. m.0.spent) e.3 ∙ (ap (λ m. m.0.spent) took.1 ∙ p.live))) _ _ _ p.slots c.requires.there (ap (λ m. m.1) b.3)
+      returns_so queue_keeps (Unit {0}) k tt _ _ _ (ap (λ m. m.0.foreign) b.3 ∙ (ap (λ m. m.0.foreign) e.3 ∙ (ap (λ m. m.0.foreign) took.1 ∙ p.foreign))) (ap (λ m. m.0.spent) b.3 ∙ (ap (λ m. m.0.spent) e.3 ∙ (ap (λ m. m.0.spent) took.1 ∙ p.live))) _ _ _ p.slots c.requires.there (ap (λ m. m.1) b.3)
           (ap (λ m. slot_in m.0.held) b.3 ∙ (ap (λ m. slot_in m.0.held) e.3 ∙ ap (λ m. slot_in m.0.held) took.1)),
     )

@@ -1,5 +1,5 @@
 use Rattle.std.proofs.Common.{arith, ◌≡◌, ap, ◌∙◌}
-use Rattle.concurrent_queue.specs.history.Runs.{moves, fresh}
+use Rattle.concurrent_queue.specs.history.QueueKeeps.{queue_keeps}
 use Rattle.concurrent_queue.specs.history.Shared.{slot_in}
 use Rattle.concurrent_queue.proofs.HistorySteps.{guard_there, wins_so, returns_so}
 use Rattle.concurrent_queue.proofs.history.foreign.ForeignSeat.take_from.Goals as goal
@@ -8,7 +8,7 @@ pub compare_exchange-requires : goal.compare_exchange-requires
 compare_exchange-requires g c =
     let p = c.args.self.now in
     let k = p.table.now.shared.key in
-    (p.seated.0, guard_there k _ _ _ p.slots p.words c.requires.there, wins_so moves fresh k _ _ _ p.foreign p.live _ p.slots c.requires.there p.free.0)
+    (p.seated.0, guard_there k _ _ _ p.slots p.words c.requires.there, wins_so queue_keeps (Unit {0}) k tt _ _ _ p.foreign p.live _ p.slots c.requires.there p.free.0)
 
 pub store-requires : goal.store-requires
 store-requires g c =
@@ -21,6 +21,6 @@ store-requires g c =
     let now = e.3 in (
       e.0 ∙ (t.0 ∙ p.seated.0),
       guard_there k _ _ _ p.slots p.words c.requires.there,
-      returns_so moves fresh k _ _ _ (ap (λ m. m.0.foreign) now ∙ (ap (λ m. m.0.foreign) took.1 ∙ p.foreign)) (ap (λ m. m.0.spent) now ∙ (ap (λ m. m.0.spent) took.1 ∙ p.live)) _ _ _ p.slots c.requires.there (ap (λ m. m.1) now)
+      returns_so queue_keeps (Unit {0}) k tt _ _ _ (ap (λ m. m.0.foreign) now ∙ (ap (λ m. m.0.foreign) took.1 ∙ p.foreign)) (ap (λ m. m.0.spent) now ∙ (ap (λ m. m.0.spent) took.1 ∙ p.live)) _ _ _ p.slots c.requires.there (ap (λ m. m.1) now)
           (ap (λ m. slot_in m.0.held) now ∙ ap (λ m. slot_in m.0.held) took.1),
     )

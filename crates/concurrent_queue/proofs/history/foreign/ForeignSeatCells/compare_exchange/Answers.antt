@@ -1,6 +1,6 @@
 use Rattle.std.specs.Prelude.{◌==◌}
 use prog.Atomic.{either}
-use Rattle.concurrent_queue.specs.history.Runs.{moves, fresh}
+use Rattle.concurrent_queue.specs.history.QueueKeeps.{queue_keeps}
 use Rattle.concurrent_queue.proofs.HistorySteps.{passes_so}
 use Rattle.concurrent_queue.proofs.HistoryWords.{behind_guards}
 use Rattle.concurrent_queue.proofs.history.foreign.ForeignSeatCells.compare_exchange.Goals as goal
@@ -10,4 +10,4 @@ compare_exchange-found-requires g c =
     let p = c.args.self.now in
     let i = c.in-Some.ensures in
     let b = behind_guards p.table.now.shared.key c.args.at _ i.0 i.1 in
-    (p.seated.0, i.2, passes_so moves fresh p.table.now.shared.key _ _ _ p.foreign p.live _ (λ n. either (n == c.args.expected) c.args.next n) b.0 b.1)
+    (p.seated.0, i.2, passes_so queue_keeps (Unit {0}) p.table.now.shared.key tt _ _ _ p.foreign p.live _ (λ n. either (n == c.args.expected) c.args.next n) b.0 b.1)

@@ -1,7 +1,5 @@
-use Rattle.std.specs.Prelude.{Some}
-use Rattle.concurrent_queue.specs.Bridge.{does}
 use Rattle.concurrent_queue.specs.Deeds.{bits_kept}
 use Rattle.concurrent_queue.proofs.history.table.CallSeat.fetch_and.Given as goal
 
 abbrev pub ghosts-happen : goal.ghosts-happen
-ghosts-happen g a = record { event = does (Some (bits_kept a._about.now a._and.now 0)) }
+ghosts-happen g a = record { deed = bits_kept a._about.now a._and.now 0 }

@@ -6,7 +6,7 @@ pub fetch_or-requires : goal.fetch_or-requires
 fetch_or-requires g c =
     let p = c.args.self.now in
     let i = c.in-Some.ensures in
-    (p.seated.0, i.2, sets_so _ _ _ _ _ _ _ _ p.slots i.0 i.1 p.live c.args.bits c.requires.next)
+    (p.seated.0, i.2, sets_so g.P.Machine.keeps _ _ _ _ _ _ _ p.slots i.0 i.1 p.live c.args.bits c.requires.next)
 
 pub happen-requires : goal.happen-requires
 happen-requires g c = record { quiet = absent_set _ c.args.at c.in-None.ensures c.args.bits; next = c.requires.next 0 }

@@ -1,7 +1,5 @@
-use Rattle.std.specs.Prelude.{Some}
-use Rattle.concurrent_queue.specs.Bridge.{does}
 use Rattle.concurrent_queue.specs.Deeds.{loaded}
 use Rattle.concurrent_queue.proofs.history.table.CallSeat.load.Given as goal
 
 abbrev pub ghosts-happen : goal.ghosts-happen
-ghosts-happen g a = record { event = does (Some (loaded a._about.now 0)) }
+ghosts-happen g a = record { deed = loaded a._about.now 0 }

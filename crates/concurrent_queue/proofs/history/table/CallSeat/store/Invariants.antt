@@ -1,7 +1,5 @@
-use Rattle.std.specs.Prelude.{Some}
-use Rattle.concurrent_queue.specs.Bridge.{does}
 use Rattle.concurrent_queue.specs.Deeds.{stored}
 use Rattle.concurrent_queue.proofs.history.table.CallSeat.store.Given as goal
 
 abbrev pub ghosts-happen : goal.ghosts-happen
-ghosts-happen g a = record { event = does (Some (stored a._about.now a._and.now)) }
+ghosts-happen g a = record { deed = stored a._about.now a._and.now }

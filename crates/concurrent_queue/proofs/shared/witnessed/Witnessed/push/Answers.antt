@@ -1,45 +1,54 @@
-use Rattle.std.proofs.Common.{◌∙◌, Some, ap, refl, sym}
+use Rattle.std.proofs.Common.{[], ◌∷◌, ◌++◌, ◌∙◌, Some, ap, refl}
 use Rattle.concurrent_queue.specs.Bridge.{asking}
+use Rattle.concurrent_queue.specs.history.Runs.{begun}
 use Rattle.concurrent_queue.specs.declared.call.QueueAsk.TheVariants.{Push}
+use Rattle.concurrent_queue.specs.declared.call.QueueReply.TheVariants as reply
 use Rattle.concurrent_queue.proofs.CallBegins.{begun_stands}
 use Rattle.concurrent_queue.proofs.HistoryCallsEnd.{cells_call_ends}
 use Rattle.concurrent_queue.specs.declared.queue_call.CallState.TheVariants.{Asked}
 use Rattle.concurrent_queue.proofs.shared.witnessed.Witnessed.push.Goals as goal
 
+pub turn-requires : goal.turn-requires
+turn-requires g c = record { next = ((Push c.args.value), (ap (λ s. s.me.0.state.call) c.go_on-seat.ensures.same ∙ c.args.self.rests, refl)) }
+
 pub push-answer-requires : goal.push-answer-requires
 push-answer-requires g c =
-    let b = c.begin_again-seat.ensures in
-    let seat = c.begin_again-seat.result in
-    let a = (Push c.args.value) in
-    record { stands = begun_stands seat.seat.me.0 c.args.self.table.now.table.table.shared.table_id.slots a (b.same.1 ∙ c.args.self.table.now.table.bounded) (c.args.self.witness.seat.me.0.state, b.begun) (Asked a) refl }
+    let t = c.turn.ensures in
+    let s = c.go_on-seat.ensures in
+    record { stands = begun_stands c.turn.new.self.seat.me.0 c.args.self.table.now.table.table.shared.table_id.slots (Push c.args.value) (t.same.2 ∙ (s.form ∙ c.args.self.table.now.table.bounded)) (c.go_on-seat.result.seat.me.0.state, t.made) (Asked (Push c.args.value)) refl }
 
-pub end-witness-requires : goal.end-witness-requires
-end-witness-requires g c =
-    let b = c.begin_again-seat.ensures in
+pub rest-witness-requires : goal.rest-witness-requires
+rest-witness-requires g c =
+    let t = c.turn.ensures in
+    let s = c.go_on-seat.ensures in
     let done = c.push-answer.ensures in
-    let a = (Push c.args.value) in
-    let e = cells_call_ends c.args.self.table.now.table.table.shared.table_id.slots a tt (asking a) refl c.args.self.witness.seat.me.0.state _ _ _ (b.same.1 ∙ c.args.self.table.now.table.bounded) b.begun done.walked done.answers in
-    record { ended = e.2 }
+    let e = cells_call_ends c.args.self.table.now.table.table.shared.table_id.slots (Push c.args.value) tt (asking (Push c.args.value)) refl c.go_on-seat.result.seat.me.0.state _ _ _ (t.same.2 ∙ (s.form ∙ c.args.self.table.now.table.bounded)) t.made done.walked done.answers in
+    record { rests = e.2 }
 
 pub invariant_of-result : goal.invariant_of-result
 invariant_of-result g c =
-    let b = c.begin_again-seat.ensures in
+    let t = c.turn.ensures in
+    let s = c.go_on-seat.ensures in
     let done = c.push-answer.ensures in
-    let a = (Push c.args.value) in
-    let e = cells_call_ends c.args.self.table.now.table.table.shared.table_id.slots a tt (asking a) refl c.args.self.witness.seat.me.0.state _ _ _ (b.same.1 ∙ c.args.self.table.now.table.bounded) b.begun done.walked done.answers in
-    record { same = ap (λ s. s.table_id) c.end-witness.ensures ∙ (e.1.0 ∙ b.same.0) }
+    let e = cells_call_ends c.args.self.table.now.table.table.shared.table_id.slots (Push c.args.value) tt (asking (Push c.args.value)) refl c.go_on-seat.result.seat.me.0.state _ _ _ (t.same.2 ∙ (s.form ∙ c.args.self.table.now.table.bounded)) t.made done.walked done.answers in
+    let end = c.rest-witness.ensures in
+    record { same = ap (λ x. x.table_id) end ∙ (e.1.0 ∙ (t.same.0 ∙ (ap (λ x. x.table_id) s.same ∙ c.args.self.same))); rests = ap (λ x. x.me.0.state.call) end ∙ e.2 }
 
 pub returns : goal.returns
 returns g c =
-    let b = c.begin_again-seat.ensures in
+    let t = c.turn.ensures in
+    let s = c.go_on-seat.ensures in
     let done = c.push-answer.ensures in
-    let a = (Push c.args.value) in
-    let e = cells_call_ends c.args.self.table.now.table.table.shared.table_id.slots a tt (asking a) refl c.args.self.witness.seat.me.0.state _ _ _ (b.same.1 ∙ c.args.self.table.now.table.bounded) b.begun done.walked done.answers in
-    let end = c.end-witness.ensures in
+    let e = cells_call_ends c.args.self.table.now.table.table.shared.table_id.slots (Push c.args.value) tt (asking (Push c.args.value)) refl c.go_on-seat.result.seat.me.0.state _ _ _ (t.same.2 ∙ (s.form ∙ c.args.self.table.now.table.bounded)) t.made done.walked done.answers in
+    let end = c.rest-witness.ensures in
     record {
       called = (
-        ap (λ s. s.me.0.state.asked) end ∙ e.3,
-        ap (λ s. s.me.0.state.replies) end ∙ e.4,
-        (ap (λ s. Some s.table_id) end ∙ ap Some (e.1.0 ∙ (b.same.0 ∙ sym c.args.self.same)), ap (λ s. s.me.0.who) end ∙ (e.1.1 ∙ b.same.2), ap (λ s. s.me.0.over) end ∙ (e.1.2 ∙ b.same.3)),
+        ap (λ x. x.me.0.state.asked) end ∙ (e.3 ∙ ap (λ x. (begun (Push c.args.value) x.me.0.state).asked) s.same),
+        ap (λ x. x.me.0.state.replies) end ∙ (e.4 ∙ ap (λ x. x.me.0.state.replies ++ reply.Push c.push-answer.result.0 ∷ []) s.same),
+        (
+          ap (λ x. Some x.table_id) end ∙ ap Some (e.1.0 ∙ (t.same.0 ∙ ap (λ x. x.table_id) s.same)),
+          ap (λ x. x.me.0.who) end ∙ (e.1.1 ∙ (t.same.1 ∙ ap (λ x. x.me.0.who) s.same)),
+          ap (λ x. x.me.0.over) end ∙ (e.1.2 ∙ (t.same.3 ∙ ap (λ x. x.me.0.over) s.same)),
+        ),
       );
     }
