@@ -1,6 +1,7 @@
 -- `Party` says what a party's machine does, and `Steps` how it goes on; `History` what a history is, and `Keeps` what keeps it. `Says` is
 -- what follows of it, `Accounts` whose its messages are, `Handles` what its counts are, and `Registrations` who listens on its lists;
--- `InHand` says what a call has in hand at each of its steps. `Row` are histories with calls in them.
+-- `InHand` says what a call has in hand at each of its steps. `Row` are histories with calls in them. `Machine` is a party as the machine
+-- of the queue's table, in whose rule the history is.
 pub mod Party
 pub mod Steps
 pub mod History
