@@ -1,13 +1,17 @@
 //! Laws of every history of a channel's cells. Each is the contract of a function that does nothing.
 
 ghost use Rattle.channel_history.specs.Accounts.{HistoriesAreAccounted};
+ghost use Rattle.channel_history.specs.Cells.{ViewsKeepWhatCellsAsk};
 ghost use Rattle.channel_history.specs.Handles.{HandlesAreCounted};
 ghost use Rattle.channel_history.specs.InHand.{CallsHoldTheirOwn};
 ghost use Rattle.channel_history.specs.Keeps.{DeedsDo, OpensWell, QueueOperationsKeep, SectionsKeep, CountOperationsKeep, BeginningsKeep, ArrivalsKeep, EndingsKeep, JoinsKeep, SplitsKeep};
+ghost use Rattle.channel_history.specs.QueueCells.{QueueCallsMove, QueueCallsAreDeeds};
 ghost use Rattle.channel_history.specs.Registrations.{PendingWaitRightly, RegistrationsAreLive};
 ghost use Rattle.channel_history.specs.Row.{ASenderIsClonedAndDropped, OneSenderIsCounted};
+ghost use Rattle.channel_history.specs.Sections.{SectionsAct};
 ghost use Rattle.channel_history.specs.Says.{EachMomentIsSaid, HistoriesAreRuns, NobodyIsMissedAtRest};
 ghost use Rattle.channel_history.specs.Steps.{PartiesGoOn};
+ghost use Rattle.channel_history.specs.WholeCalls.{CallsGoByTheirViews};
 
 /// What a party does next, step by step: it begins a call, its call makes an act at once or after steps that touch nothing, and its call
 /// ends, perhaps by such steps.
@@ -110,4 +114,28 @@ pub fn registrations_are_live<T, W>()
 /// it makes.
 pub fn calls_hold_their_own<T, W>()
     ensures holds { CallsHoldTheirOwn T W }
+{}
+
+/// Cells that go by the view of a seat, allow just what its call does next and do it, keep what `ChannelCells` asks of cells.
+pub fn views_keep_what_cells_ask<T, W>()
+    ensures keeps { ViewsKeepWhatCellsAsk T W }
+{}
+
+/// A call of the queue within a call of a channel with a bound: each of its operations moves the view on and is its party's next act, and
+/// all of them, from its question to its answer, are one deed of the channel's call. An operation that a slot refused is none.
+pub fn calls_of_the_queue_are_deeds<T, W, C>()
+    ensures moves { QueueCallsMove T W }
+    ensures whole { QueueCallsAreDeeds T W C }
+{}
+
+/// A section on a list, and an operation on a count, that a call's view allows is its party's next act, and leaves with its seat what the
+/// laws of such acts ask.
+pub fn sections_act<T, W>()
+    ensures acts { SectionsAct T W }
+{}
+
+/// A call begins where its party has none under way; and one that was walked to its answer has ended with this answer, its party has
+/// asked and was given it, and what lies with the seat is what the call leaves to its operation and what it made.
+pub fn calls_go_by_their_views<T, W, X>()
+    ensures calls { CallsGoByTheirViews T W X }
 {}

@@ -1,0 +1,90 @@
+-- A call of a channel from its beginning to its end, over cells that go by the view of its seat.
+use Rattle.std.specs.Prelude.{◌≡◌, ◌≢◌, ℕ, true, List, [], ◌∷◌, ◌++◌, None, Some}
+use Rattle.concurrent_queue.specs.Bridge.{asking}
+use Rattle.concurrent_queue.specs.Replies.{is_bounded}
+use Rattle.concurrent_queue.specs.declared.cells.QueueForm.{QueueForm}
+use Rattle.concurrent_queue.specs.declared.queue_call.QueueCall.{QueueCall}
+use Rattle.channel_calls.specs.Asks.{first}
+use Rattle.channel_calls.specs.Deeds.{Deed}
+use Rattle.channel_calls.specs.Stands.{BeginsHere}
+use Rattle.channel_calls.specs.Walks.{Takes, WalkedFrom}
+use Rattle.channel_calls.specs.Walks as walks
+use Rattle.channel_calls.specs.declared.ask.ChannelAsk.{ChannelAsk}
+use Rattle.channel_calls.specs.declared.ask.ChannelAsk.TheVariants as ask
+use Rattle.channel_calls.specs.declared.reply.Reply.{Reply}
+use Rattle.channel_calls.specs.declared.reply.Reply.TheVariants as reply
+use Rattle.channel_calls.specs.declared.stage.NextStep.{NextStep}
+use Rattle.channel_calls.specs.declared.stage.NextStep.TheVariants.{Tries, Works, Ends as Answers}
+use Rattle.channel_calls.specs.declared.stage.Returned.{Returned}
+use Rattle.channel_calls.specs.declared.stage.Side.{Side}
+use Rattle.channel_calls.specs.declared.stage.Stage.{Stage}
+use Rattle.channel_calls.specs.declared.stage.Stage.TheVariants.{Trying, Working, Finished}
+use Rattle.channel_history.specs.Cells.{Stands, Did}
+use Rattle.channel_history.specs.InHand.{kept_on, lent_by, handles_lent}
+use Rattle.channel_history.specs.Party.{Begins, Ends}
+use Rattle.channel_history.specs.Steps.{begun}
+use Rattle.channel_history.specs.declared.party.Standing.{Standing}
+
+module _ {T W : Type 0} where
+  -- where a call stands that has just taken this turn
+  abbrev pub stage_of : NextStep T W → Stage (QueueCall T) T W
+  stage_of (Tries a purpose) = Trying (asking a) purpose
+  stage_of (Works w) = Working w
+  stage_of (Answers r kept) = Finished kept
+
+  -- this may be asked by whoever has this seat: it has no call under way, and what lies with it is what the call is lent. The question for
+  -- the capacity touches no cell, and is no call of a history
+  pub record MayAsk (form : QueueForm) (s : Standing T W) (a : ChannelAsk T W) : Type 0 where
+    pub bounded : is_bounded form ≡ true
+    pub asks : a ≢ ask.Capacity
+    pub idle : s.stage ≡ None
+    pub lists : s.own.lists ≡ []
+    pub listeners : s.own.listeners ≡ lent_by a
+    pub handles : s.own.handles ≡ handles_lent a
+
+  -- and so it begins
+  abbrev pub asked_by : Standing T W → ChannelAsk T W → Standing T W
+  asked_by s a = begun s a (stage_of (first a))
+
+  pub record BeginsSo (form : QueueForm) (s : Standing T W) (a : ChannelAsk T W) : Type 0 where
+    pub takes : Takes (first a) (stage_of (first a)) None
+    pub begins : Begins form s a (asked_by s a)
+    pub stands : BeginsHere (Stands form) (first a) (asked_by s a)
+
+  -- the handle that a call is to make which asks this, and that it made where it was answered so
+  abbrev pub handle_wanted : ChannelAsk T W → List Side
+  handle_wanted (ask.CloneHandle side) = side ∷ []
+  handle_wanted (ask.Upgrade side) = side ∷ []
+  handle_wanted a = []
+
+  abbrev pub if_made : Reply T → List Side → List Side
+  if_made reply.Made sides = sides
+  if_made r sides = []
+
+  -- a party that stood so has asked this and was answered so, and stands so since: it has ended its call, or ends it by a step that does
+  -- nothing. With its seat lies what the call left to its operation, and what it made
+  pub record HasAnswered (form : QueueForm) (s : Standing T W) (a : ChannelAsk T W) (r : Reply T) (kept : Returned T) (now : Standing T W) : Type 0 where
+    pub rests : Standing T W
+    pub ends : Ends form now rests
+    pub own : rests.own ≡ now.own
+    pub asked : rests.asked ≡ s.asked ++ a ∷ []
+    pub given : rests.given ≡ s.given ++ record { reply = r; kept = kept } ∷ []
+    pub lists : rests.own.lists ≡ []
+    pub listeners : rests.own.listeners ≡ kept_on r kept.key
+    pub handles : rests.own.handles ≡ if_made r (handle_wanted a)
+
+  -- it has asked this and wasn't answered yet: the call stands at this stage
+  pub record HasAsked (form : QueueForm) (s : Standing T W) (a : ChannelAsk T W) (at : Stage (QueueCall T) T W) (now : Standing T W) : Type 0 where
+    pub stands : Stands form at now
+    pub asked : now.asked ≡ s.asked ++ a ∷ []
+    pub given : now.given ≡ s.given
+
+-- a call begins, and is walked to its answer, or so far: over anything by whose view its deeds are done
+pub record CallsGoByTheirViews (T W X : Type 0) : Type 0 where
+  pub begins : (form : QueueForm) (s : Standing T W) (a : ChannelAsk T W) → MayAsk form s a → BeginsSo form s a
+  pub ends : (form : QueueForm) (of : X → Standing T W) (did : Deed T W → X → X → Type 0) (s : Standing T W) (a : ChannelAsk T W) (x y : X) (r : Reply T) (kept : Returned T)
+      → ((d : Deed T W) (b c : X) → did d b c → Did form d (of b) (of c)) → MayAsk form s a → of x ≡ asked_by s a → WalkedFrom did (first a) x r kept y
+      → HasAnswered form s a r kept (of y)
+  pub led : (form : QueueForm) (of : X → Standing T W) (did : Deed T W → X → X → Type 0) (s : Standing T W) (a : ChannelAsk T W) (x y : X) (n : ℕ) (b c : Stage (QueueCall T) T W)
+      → ((d : Deed T W) (e f : X) → did d e f → Did form d (of e) (of f)) → MayAsk form s a → of x ≡ asked_by s a → Takes (first a) b None → walks.Leads did n x b y c
+      → HasAsked form s a c (of y)
