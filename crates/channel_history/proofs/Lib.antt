@@ -18,6 +18,8 @@ mod Splitting
 mod Row
 pub mod Machine
 pub mod ListTurns
+pub mod CallSections
+pub mod CallEnds
 mod ByViews
 mod Asking
 mod Replying

@@ -21,3 +21,5 @@ pub mod Cells
 pub mod QueueCells
 pub mod Sections
 pub mod WholeCalls
+pub mod CallSections
+pub mod CallEnds
