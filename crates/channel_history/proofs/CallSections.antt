@@ -54,7 +54,7 @@ module _ {T W : Type 0} where
   no_list form d s t did = ap (λ (x : Standing T W). x.own.lists) did.left
 
   module _ (act : SectionsAct T W) (form : QueueForm) (line : WaitList) where
-    left_with : Listeners W → ListView Unit W
+    abbrev left_with : Listeners W → ListView Unit W
     left_with lists = record new_list { lists = lists }
 
     -- a deed on a list that may be done, and changes the list so, is a turn of the party, which its cells say they did
