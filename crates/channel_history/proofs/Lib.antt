@@ -24,3 +24,6 @@ mod RowFacts
 mod Accounting
 mod Accounts
 mod Runs
+pub mod Turns
+pub mod Stages
+pub mod Cells
