@@ -28,3 +28,6 @@ mod RowFacts
 mod Accounting
 mod Accounts
 mod Runs
+pub mod Turns
+pub mod Stages
+pub mod Cells
