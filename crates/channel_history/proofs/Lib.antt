@@ -18,6 +18,8 @@ mod Splitting
 mod Row
 pub mod Machine
 pub mod ListTurns
+pub mod CallSections
+pub mod CallEnds
 mod ByViews
 mod Asking
 mod Replying
@@ -26,3 +28,6 @@ mod RowFacts
 mod Accounting
 mod Accounts
 mod Runs
+pub mod Turns
+pub mod Stages
+pub mod Cells

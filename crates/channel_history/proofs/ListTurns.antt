@@ -1,24 +1,27 @@
 -- A call's section on a list, as a turn of its party: the list's seat is taken into the call's before it, and parts from it after it. Each
 -- lemma of a section takes what the list's own call ensures of the list.
-use Rattle.std.proofs.Common.{◌≡◌, List, [], ◌∷◌, ◌++◌, refl, sym, ap, ◌∙◌, subst, append-nil}
-use Rattle.std.specs.Prelude.{true, Option, None, Some, Result, Ok, Err, IfOk, OnErr}
+use Rattle.std.proofs.Common.{◌≡◌, List, [], ◌∷◌, ◌++◌, refl, sym, ap, subst, append-nil}
+use Rattle.std.specs.Prelude.{true, Option, None, Result, Ok, Err, IfOk, OnErr}
 use Rattle.concurrent_queue.specs.declared.cells.QueueForm.{QueueForm}
 use Rattle.event_listener.specs.Lists.{ListView, kind_of, listened, registration, removed, removed_wakes}
 use Rattle.event_listener.specs.declared.error.ListenError.{ListenError}
 use Rattle.event_listener.specs.declared.key.Key.{Key}
 use Rattle.channel_calls.specs.Deeds.{Deed, inserted, registered, taken_off, told}
 use Rattle.channel_calls.specs.Parts.{Listeners, Registers, told_as, told_as_wakes}
-use Rattle.channel_calls.specs.declared.stage.ListenerRef.{ListenerRef}
-use Rattle.channel_calls.specs.declared.stage.Side.{Side}
 use Rattle.channel_calls.specs.declared.stage.Telling.{Telling}
 use Rattle.channel_calls.specs.declared.stage.WaitList.{WaitList}
 use Rattle.channel_steps.specs.every_run.Bridge.{on_wait_lists}
 use Rattle.channel_history.specs.Keeps.{ChangesList, Leaves}
-use Rattle.channel_history.specs.Machine.{turns, makes, both, left, parts, with_list}
+use Rattle.channel_history.specs.Machine.{new_list, turns, makes_section, both, left, parts, with_list}
 use Rattle.channel_history.specs.Party.{nothing, fresh, with_own, Makes}
 use Rattle.channel_history.specs.declared.party.Belongings.{Belongings}
 use Rattle.channel_history.specs.declared.party.Standing.{Standing}
 use Rattle.channel_history.proofs.Deeds.{deeds_do}
+
+-- what the making of a list ensures
+pub is_new : {W : Type 0} (l : ListView Unit W) → l.lists.told ≡ [] → l.lists.waiting ≡ [] → l.visits ≡ 0 → l.serials ≡ 0 → l.room ≡ 0 → l.looks ≡ 0 → l ≡ new_list
+is_new l nobody none visits serials room looks =
+    λ i. record { lists = record { told = nobody i; waiting = none i }; visits = visits i; serials = serials i; room = room i; looks = looks i }
 
 module _ {T W : Type 0} where
   -- ---- what a section does to its list
@@ -50,10 +53,8 @@ module _ {T W : Type 0} where
 
   taken_in : (line : WaitList) (l : ListView Unit W) (s : Standing T W) → s.own.lists ≡ [] → both s (with_list line l) ≡ has_list line l s
   taken_in line l s none =
-      let own : List (WaitList × ListView Unit W) → List Side → List ListenerRef → Standing T W = λ ls hs xs. with_own (record { lists = ls; handles = hs; listeners = xs }) s in
-      ap (λ (ls : List (WaitList × ListView Unit W)). own (ls ++ (line, l) ∷ []) (s.own.handles ++ []) (s.own.listeners ++ [])) none
-      ∙ (ap (λ (hs : List Side). own ((line, l) ∷ []) hs (s.own.listeners ++ [])) (append-nil s.own.handles)
-      ∙ ap (λ (xs : List ListenerRef). own ((line, l) ∷ []) s.own.handles xs) (append-nil s.own.listeners))
+      let lists : s.own.lists ++ (line, l) ∷ [] ≡ (line, l) ∷ [] = ap (λ (ls : List (WaitList × ListView Unit W)). ls ++ (line, l) ∷ []) none in
+      λ i. with_own (record { lists = lists i; handles = append-nil s.own.handles i; listeners = append-nil s.own.listeners i }) s
 
   module _ (form : QueueForm) where
     -- what was taken in parts again, and all that lies with a seat may go from it
@@ -78,7 +79,7 @@ module _ {T W : Type 0} where
       section o ((os, still, leads), leaves) changes =
           let made : Makes form (has_list line l s) (on_wait_lists o) (has_list line k t) = (os, still, record { more = leads.more; acts = leads.acts; given = leads.given; asked = leads.asked }) in
           subst (λ (x : Standing T W). turns form x (both t (with_list line k))) (sym (taken_in line l s none))
-          (subst (λ (x : Standing T W). turns form (has_list line l s) x) (sym (taken_in line k t none_left)) (makes line l k o made refl refl leaves changes))
+          (subst (λ (x : Standing T W). turns form (has_list line l s) x) (sym (taken_in line k t none_left)) (makes_section line l k o made refl refl leaves changes))
 
       pub insert_section : (r : Result Key ListenError) → MakesAndLeaves (inserted line r)
           → IfOk r (λ key. kind_of l.lists key ≡ None) → IfOk r (λ key. k.lists ≡ listened key l.lists) → OnErr r (k.lists ≡ l.lists) → IsTurn

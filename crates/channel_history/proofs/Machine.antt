@@ -1,5 +1,5 @@
 -- What a channel's parties do as the machine of a queue's table keeps their history.
-use Rattle.std.proofs.Common.{◌≡◌, ◌≢◌, ℕ, zero, suc, ◌+◌, ◌-◌, ◌<◌, ◌≤◌, ◌%◌, ◌^◌, ◌==◌, nat_lt, Bool, true, false, List, [], ◌∷◌, ◌++◌, length, set, if◌then◌else◌, inl, inr, refl, sym, ap, ◌∙◌, subst, arith, eq-eqb}
+use Rattle.std.proofs.Common.{◌≡◌, ◌≢◌, ℕ, zero, suc, ◌+◌, ◌-◌, ◌<◌, ◌≤◌, ◌%◌, ◌^◌, ◌==◌, ◌&&◌, nat_lt, Bool, true, false, List, [], ◌∷◌, ◌++◌, length, set, if◌then◌else◌, inl, inr, refl, sym, ap, ◌∙◌, subst, arith}
 use Rattle.std.proofs.lemmas.Bool.Decides.{nat_tests}
 use Rattle.std.proofs.lemmas.List.{map-set, map-append}
 use Rattle.std.specs.Prelude.{Some}
@@ -12,15 +12,20 @@ use Rattle.concurrent_queue.specs.Contents.{Contents}
 use Rattle.concurrent_queue.specs.Deeds as cell
 use Rattle.concurrent_queue.specs.Made.{new_cells}
 use Rattle.concurrent_queue.specs.declared.cells.QueueForm.{QueueForm}
+use Rattle.channel_history.specs.KeepsCopy.{Counter, First, Second}
+use Rattle.channel_history.specs.KeepsCopy.{CountStep, Read, Lower, Raise}
+use Rattle.channel_history.specs.KeepsCopy.{KeepsHistory, count_of, first_after, second_after}
 use Rattle.concurrent_queue.specs.declared.history.rule.View.{View}
-use Rattle.channel_calls.specs.Deeds.{counted, lowered, raised}
+use Rattle.channel_calls.specs.Deeds.{lowered, raised}
+use Rattle.channel_calls.specs.Parts.{count}
+use Rattle.channel_calls.specs.declared.stage.Side.{Side}
 use Rattle.channel_calls.specs.declared.stage.Side.TheVariants.{Senders, Receivers}
 use Rattle.channel_steps.specs.every_run.Bridge.{on_queue}
 use Rattle.channel_history.specs.History.{IsChannelHistory}
 use Rattle.channel_history.specs.Keeps.{IsAt, ChangesCounts, Leaves}
-use Rattle.channel_history.specs.KeepsCopy.{KeepsHistory, counted_after, count_of, first_after, second_after, Counter, First, Second, CountStep, Read, Lower, Raise}
-use Rattle.channel_history.specs.Machine.{side_of, Fits, new_list, count_deed, state_of, states, history, opened, enters, turns, begins, ends, makes, counts, both, left, parts}
+use Rattle.channel_history.specs.Machine.{side_of, Fits, new_list, count_deed, state_of, states, history, opened, enters, turns, begins_call, ends_call, makes_section, is_refused, counts, both, left, parts}
 use Rattle.channel_history.specs.Party.{nothing, fresh, with_own, standing_of, Makes}
+use Rattle.channel_history.specs.declared.party.Belongings.{Belongings}
 use Rattle.channel_history.specs.declared.party.Standing.{Standing}
 use Rattle.channel_history.proofs.Deeds.{deeds_do}
 use Rattle.channel_history.proofs.Goes.{moved}
@@ -38,6 +43,10 @@ lowered_by_one n more fits = omega arith
 
 has_room : (n k : ℕ) → n ≡ k → (n ≡ k → k < 2 ^ 64 - 1) → nat_lt n (2 ^ 64 - 1) ≡ true
 has_room n k is fits = let h = fits is in grind (arith, nat_tests)
+
+never : (b : Bool) (k : ℕ) → 2 ^ 64 - 1 ≤ k → false ≡ (b && nat_lt k (2 ^ 64 - 1))
+never false k over = refl
+never true k over = grind (arith, nat_tests)
 
 -- only what is counted is lowered, and a raise that finds its number has room
 abbrev Can : CountStep → ℕ → Type 0
@@ -60,15 +69,10 @@ module _ {T W : Type 0} where
         (moved form views (views ++ fresh ∷ []) c n m h (λ q. as_before q (ℕ_discrete q (length views))) (lie_with_new views fresh refl h.listening n m h.lie))
     enters_keep t (inr (ask, begun, none)) = arrivals_keep T W form views c n m t ask h begun none
 
-    -- ---- a step that touches no cell and no count
+  -- ---- what an operation on a count does, on a channel with these counts
 
-    module _ (p : ℕ) (s t : Standing T W) (there : IsAt views p s) where
-      pub turns_keep : turns form s t → IsChannelHistory form (set views p t) c n m
-      turns_keep (begins ask begun own) = beginnings_keep T W form views c n m p s t ask h there begun own
-      turns_keep (ends ended own) = endings_keep T W form views c n m p s t h there ended own
-      turns_keep (makes line l k o made has has' leaves changes) = sections_keep T W form views c n m p s t line l k o h there made has has' leaves changes
-
-  -- ---- an operation on a count
+  is_over : (side : Side) (k n m : ℕ) → 2 ^ 64 - 1 ≤ k → ChangesCounts {T = T} {W = W} (raised side k false) n m n m
+  is_over side k n m over parts e f = (never (count side parts.wait_lists == k) k over, (((deeds_do T W).reads n m).0 parts e f).1)
 
   raises_senders : (k n m : ℕ) (b : Bool) → (n == k) ≡ b → Can (Raise k) n → ChangesCounts {T = T} {W = W} (raised Senders k b) n m (if b then k + 1 else n) m
   raises_senders k n m true e can =
@@ -92,6 +96,18 @@ module _ {T W : Type 0} where
   changes Second (Raise k) n m can fits = raises_receivers k n m (m == k) refl can
 
   module _ (form : QueueForm) (views : List (Standing T W)) (c : Contents T) (n m : ℕ) (h : IsChannelHistory form views c n m) (p : ℕ) (s t : Standing T W) (there : IsAt views p s) where
+    -- ---- a step that touches no cell and no count
+
+    pub turns_keep : turns form s t → IsChannelHistory form (set views p t) c n m
+    turns_keep (begins_call ask begun own) = beginnings_keep T W form views c n m p s t ask h there begun own
+    turns_keep (ends_call ended own) = endings_keep T W form views c n m p s t h there ended own
+    turns_keep (makes_section line l k o made has left leaves changes) = sections_keep T W form views c n m p s t line l k o h there made has left leaves changes
+    turns_keep (is_refused side k over made own) =
+        count_operations_keep T W form views c n m n m p s t (raised side k false) h there made (ap (λ (b : Belongings W). b.lists) own)
+        (ap (λ (b : Belongings W). b.handles) own, ap (λ (b : Belongings W). b.listeners) own) (is_over side k n m over)
+
+    -- ---- an operation on a count
+
     can_be : (which : Counter) (op : CountStep) → Leaves (count_deed {T = T} {W = W} (side_of which) op (count_of which n m)) s t → Fits op (count_of which n m) → Can op (count_of which n m)
     can_be First Lower leaves fits = (handles_are_counted T W form views c n m h Senders).lowers p s t.own.handles there leaves.0
     can_be Second Lower leaves fits = (handles_are_counted T W form views c n m h Receivers).lowers p s t.own.handles there leaves.0
@@ -134,6 +150,9 @@ module _ {T W : Type 0} where
       states_more (set views p v) w ∙ (ap (λ (l : List (Standing T W)). l ++ w.state ∷ []) (states_set views p v)
       ∙ (ap (λ (x : Standing T W). set (states views) p x ++ w.state ∷ []) is ∙ ap (λ (x : Standing T W). set (states views) p s ++ x ∷ []) so))
 
+  of_states : (form : QueueForm) (c : Contents T) (n m : ℕ) (l k : List (Standing T W)) → l ≡ k → IsChannelHistory form k c n m → IsChannelHistory form l c n m
+  of_states form c n m l k is h = subst (λ (x : List (Standing T W)). IsChannelHistory form x c n m) (sym is) h
+
 -- ---- the laws
 
 module _ (T W : Type 0) (moves : QueueForm → Standing T W → Event T → Standing T W → Type 0)
@@ -141,21 +160,20 @@ module _ (T W : Type 0) (moves : QueueForm → Standing T W → Event T → Stan
   pub channel_keeps : KeepsHistory {T = T} {A = Standing T W} moves enters turns counts both left parts opened 1 history
   channel_keeps = record {
     opens = λ form v has is. subst (λ (s : Standing T W). IsChannelHistory form (s ∷ []) (new_cells form) 1 1) (sym is) (opens_well T W form new_list refl);
-    same = λ form views c n m p v w h there is. subst (λ (l : List (Standing T W)). IsChannelHistory form l c n m) (sym (states_same views p v w there is)) h;
-    arrives = λ form views c n m w h enters. subst (λ (l : List (Standing T W)). IsChannelHistory form l c n m) (sym (states_more views w)) (enters_keep form (states views) c n m h w.state enters);
+    same = λ form views c n m p v w h there is. of_states form c n m _ _ (states_same views p v w there is) h;
+    arrives = λ form views c n m w h enters. of_states form c n m _ _ (states_more views w) (enters_keep form (states views) c n m h w.state enters);
     more = λ form views c d n m p v w o h there done made.
         let made_so = as_queue form v.state w.state o made in
-        subst (λ (l : List (Standing T W)). IsChannelHistory form l d n m) (sym (states_set views p w))
-        (queue_operations_keep T W form (states views) c d n m p v.state w.state o h (is_at views p v there) made_so.0 made_so.1 done);
+        of_states form d n m _ _ (states_set views p w) (queue_operations_keep T W form (states views) c d n m p v.state w.state o h (is_at views p v there) made_so.0 made_so.1 done);
     turned = λ form views c n m p v w h there turns.
-        subst (λ (l : List (Standing T W)). IsChannelHistory form l c n m) (sym (states_set views p w)) (turns_keep form (states views) c n m h p v.state w.state (is_at views p v there) turns);
+        of_states form c n m _ _ (states_set views p w) (turns_keep form (states views) c n m h p v.state w.state (is_at views p v there) turns);
     counts_on = λ form views c n m p v w which op h there counts within.
-        subst (λ (l : List (Standing T W)). IsChannelHistory form l c (first_after which op n) (second_after which op m)) (sym (states_set views p w))
+        of_states form c (first_after which op n) (second_after which op m) _ _ (states_set views p w)
         (counts_keep form (states views) c n m h p v.state w.state (is_at views p v there) which op counts within);
     joined = λ form views c n m p q v w v' w' h at_p at_q apart is so.
-        subst (λ (l : List (Standing T W)). IsChannelHistory form l c n m) (sym (states_joined views p q v' w' (both v.state w.state) (left w.state) is so))
+        of_states form c n m _ _ (states_joined views p q v' w' (both v.state w.state) (left w.state) is so)
         (joins_keep T W form (states views) c n m p q v.state w.state h (is_at views p v at_p) (is_at views q w at_q) apart);
     parted = λ form views c n m p v v' w h there (a, b, stays, goes, cut).
-        subst (λ (l : List (Standing T W)). IsChannelHistory form l c n m) (sym (states_parted views p v' w (with_own a v.state) (with_own b fresh) stays goes))
+        of_states form c n m _ _ (states_parted views p v' w (with_own a v.state) (with_own b fresh) stays goes)
         (splits_keep T W form (states views) c n m p v.state a b h (is_at views p v there) cut);
   }

@@ -1,7 +1,10 @@
 -- A channel's parties as the machine of a queue's table: the state of each is where it stands, and the two counting words are the counts
 -- of handles. What the machine does on the cells of the queue is said elsewhere.
-use Rattle.std.specs.Prelude.{◌≡◌, ℕ, ◌-◌, ◌<◌, ◌^◌, ◌==◌, List, [], ◌∷◌, map, ◌⊎◌, None}
+use Rattle.std.specs.Prelude.{◌≡◌, ℕ, ◌-◌, ◌<◌, ◌≤◌, ◌^◌, ◌==◌, false, List, [], ◌∷◌, map, ◌⊎◌, None}
 use Rattle.concurrent_queue.specs.declared.cells.QueueForm.{QueueForm}
+use Rattle.channel_history.specs.KeepsCopy.{Counter, First, Second}
+use Rattle.channel_history.specs.KeepsCopy.{CountStep, Read, Lower, Raise}
+use Rattle.channel_history.specs.KeepsCopy.{HistoryOf}
 use Rattle.concurrent_queue.specs.declared.history.rule.View.{View}
 use Rattle.event_listener.specs.Lists.{ListView}
 use Rattle.channel_calls.specs.Deeds.{Deed, counted, lowered, raised}
@@ -13,7 +16,6 @@ use Rattle.channel_calls.specs.declared.stage.WaitList.{WaitList}
 use Rattle.channel_steps.specs.every_run.Bridge.{on_wait_lists}
 use Rattle.channel_history.specs.History.{IsChannelHistory}
 use Rattle.channel_history.specs.Keeps.{ChangesList, Leaves, opening}
-use Rattle.channel_history.specs.KeepsCopy.{HistoryOf, Counter, First, Second, CountStep, Read, Lower, Raise}
 use Rattle.channel_history.specs.Party as party
 use Rattle.channel_history.specs.Party.{nothing, fresh, with_own, standing_of, Begins, Makes, Ends}
 use Rattle.channel_history.specs.declared.party.Belongings.{Belongings}
@@ -57,12 +59,14 @@ module _ {T W : Type 0} where
   abbrev pub enters : QueueForm → Standing T W → Type 0
   enters form t = (t ≡ fresh) ⊎ ((ask : ChannelAsk T W) × Begins form fresh ask t × (t.own ≡ nothing))
 
-  -- without a cell of the queue or a count, a party begins a call, ends one, or makes a section on the list that lies with its seat
+  -- without an operation on a cell of the queue or on a count, a party begins a call, ends one, or makes a section on the list that lies
+  -- with its seat; or its call would raise a count above what a word holds, and is refused
   pub data turns (form : QueueForm) (s t : Standing T W) : Type 0 where
-    begins : (ask : ChannelAsk T W) → Begins form s ask t → t.own ≡ s.own → turns form s t
-    ends : Ends form s t → t.own ≡ s.own → turns form s t
-    makes : (line : WaitList) (l k : ListView Unit W) (o : Deed T W) → Makes form s (on_wait_lists o) t → s.own.lists ≡ (line, l) ∷ [] → t.own.lists ≡ (line, k) ∷ [] → Leaves o s t → ChangesList line o l.lists k.lists
-        → turns form s t
+    begins_call : (ask : ChannelAsk T W) → Begins form s ask t → t.own ≡ s.own → turns form s t
+    ends_call : Ends form s t → t.own ≡ s.own → turns form s t
+    makes_section : (line : WaitList) (l k : ListView Unit W) (o : Deed T W) → Makes form s (on_wait_lists o) t → s.own.lists ≡ (line, l) ∷ [] → t.own.lists ≡ (line, k) ∷ [] → Leaves o s t
+        → ChangesList line o l.lists k.lists → turns form s t
+    is_refused : (side : Side) (k : ℕ) → 2 ^ 64 - 1 ≤ k → Makes form s (on_wait_lists (raised side k false)) t → t.own ≡ s.own → turns form s t
 
   -- an operation on the word of a count, which found this number there
   abbrev pub counts : QueueForm → Standing T W → Standing T W → Counter → CountStep → ℕ → Type 0

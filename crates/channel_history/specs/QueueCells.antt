@@ -59,14 +59,13 @@ pub record QueueCallsMove (T W : Type 0) : Type 0 where
       → (next : QueueCall T) × (reply : Option (QueueReply T)) × CallMakes cell.Notes form None call (Some d) next reply × (reply ≡ None → calls form t next)
   pub acts : (form : QueueForm) (s t : Standing T W) (d : cell.Deed T) → moves form s (does (Some d)) t → Makes form s (on_queue (Some d)) t × (t.own ≡ s.own)
 
-module _ {T W C : Type 0} (form : QueueForm) (of : C → Standing T W) where
-  -- an operation on a cell moves the view on; one that a slot refused is no event, and leaves the view as it is
-  abbrev pub MovesView : (cell.Deed T → C → C → Type 0) → Type 0
-  MovesView did = (d : cell.Deed T) (a b : C) → did d a b → IsOnCell d → moves form (of a) (does (Some d)) (of b) ⊎ (IsRefused d × (of b ≡ of a))
+-- an operation on a cell moves the view on; one that a slot refused is no event, and leaves the view as it is
+abbrev pub MovesView : {T W C : Type 0} → QueueForm → (C → Standing T W) → cell.Deed T → C → C → Type 0
+MovesView form of d a b = IsOnCell d → moves form (of a) (does (Some d)) (of b) ⊎ (IsRefused d × (of b ≡ of a))
 
 -- all steps of a call of the queue, from where a call of the channel begins it to its answer, are one deed of the channel's call
 abbrev pub QueueCallsAreDeeds : Type 0 → Type 0 → Type 0 → Type 0
 QueueCallsAreDeeds T W C =
-    (form : QueueForm) (of : C → Standing T W) (did : cell.Deed T → C → C → Type 0) (call after : QueueCall T) (purpose : Purpose T W) (x : QueueReply T) (a b : C)
-    → MovesView form of did → Stands form (Trying call purpose) (of a) → MayCall form call.state x → Walked did form call a x b
+    (form : QueueForm) (of : C → Standing T W) (call after : QueueCall T) (purpose : Purpose T W) (x : QueueReply T) (a b : C)
+    → Stands form (Trying call purpose) (of a) → MayCall form call.state x → Walked (MovesView form of) form call a x b
     → Did form (queue_stepped call after (Some x)) (of a) (of b)

@@ -7,8 +7,7 @@ use Rattle.concurrent_queue.specs.declared.queue_call.QueueCall.{QueueCall}
 use Rattle.channel_calls.specs.Asks.{first}
 use Rattle.channel_calls.specs.Deeds.{Deed}
 use Rattle.channel_calls.specs.Stands.{BeginsHere}
-use Rattle.channel_calls.specs.Walks.{Takes, WalkedFrom}
-use Rattle.channel_calls.specs.Walks as walks
+use Rattle.channel_calls.specs.Walks.{Takes, Leads, WalkedFrom}
 use Rattle.channel_calls.specs.declared.ask.ChannelAsk.{ChannelAsk}
 use Rattle.channel_calls.specs.declared.ask.ChannelAsk.TheVariants as ask
 use Rattle.channel_calls.specs.declared.reply.Reply.{Reply}
@@ -24,6 +23,11 @@ use Rattle.channel_history.specs.InHand.{kept_on, lent_by, handles_lent}
 use Rattle.channel_history.specs.Party.{Begins, Ends}
 use Rattle.channel_history.specs.Steps.{begun}
 use Rattle.channel_history.specs.declared.party.Standing.{Standing}
+
+-- these handles, where it is answered that one was made
+abbrev pub if_made : {T : Type 0} → Reply T → List Side → List Side
+if_made reply.Made sides = sides
+if_made r sides = []
 
 module _ {T W : Type 0} where
   -- where a call stands that has just taken this turn
@@ -51,15 +55,12 @@ module _ {T W : Type 0} where
     pub begins : Begins form s a (asked_by s a)
     pub stands : BeginsHere (Stands form) (first a) (asked_by s a)
 
-  -- the handle that a call is to make which asks this, and that it made where it was answered so
+  -- the handle that a call is to make which asks this
   abbrev pub handle_wanted : ChannelAsk T W → List Side
   handle_wanted (ask.CloneHandle side) = side ∷ []
   handle_wanted (ask.Upgrade side) = side ∷ []
   handle_wanted a = []
 
-  abbrev pub if_made : Reply T → List Side → List Side
-  if_made reply.Made sides = sides
-  if_made r sides = []
 
   -- a party that stood so has asked this and was answered so, and stands so since: it has ended its call, or ends it by a step that does
   -- nothing. With its seat lies what the call left to its operation, and what it made
@@ -79,12 +80,14 @@ module _ {T W : Type 0} where
     pub asked : now.asked ≡ s.asked ++ a ∷ []
     pub given : now.given ≡ s.given
 
+-- a deed was done to this by its view
+abbrev pub ByView : {T W X : Type 0} → QueueForm → (X → Standing T W) → Deed T W → X → X → Type 0
+ByView form of d a b = Did form d (of a) (of b)
+
 -- a call begins, and is walked to its answer, or so far: over anything by whose view its deeds are done
 pub record CallsGoByTheirViews (T W X : Type 0) : Type 0 where
   pub begins : (form : QueueForm) (s : Standing T W) (a : ChannelAsk T W) → MayAsk form s a → BeginsSo form s a
-  pub ends : (form : QueueForm) (of : X → Standing T W) (did : Deed T W → X → X → Type 0) (s : Standing T W) (a : ChannelAsk T W) (x y : X) (r : Reply T) (kept : Returned T)
-      → ((d : Deed T W) (b c : X) → did d b c → Did form d (of b) (of c)) → MayAsk form s a → of x ≡ asked_by s a → WalkedFrom did (first a) x r kept y
-      → HasAnswered form s a r kept (of y)
-  pub led : (form : QueueForm) (of : X → Standing T W) (did : Deed T W → X → X → Type 0) (s : Standing T W) (a : ChannelAsk T W) (x y : X) (n : ℕ) (b c : Stage (QueueCall T) T W)
-      → ((d : Deed T W) (e f : X) → did d e f → Did form d (of e) (of f)) → MayAsk form s a → of x ≡ asked_by s a → Takes (first a) b None → walks.Leads did n x b y c
-      → HasAsked form s a c (of y)
+  pub ends : (form : QueueForm) (of : X → Standing T W) (s : Standing T W) (a : ChannelAsk T W) (x y : X) (r : Reply T) (kept : Returned T)
+      → MayAsk form s a → of x ≡ asked_by s a → WalkedFrom (ByView form of) (first a) x r kept y → HasAnswered form s a r kept (of y)
+  pub led : (form : QueueForm) (of : X → Standing T W) (s : Standing T W) (a : ChannelAsk T W) (x y : X) (n : ℕ) (at next : Stage (QueueCall T) T W)
+      → MayAsk form s a → of x ≡ asked_by s a → Takes (first a) at None → Leads (ByView form of) n x at y next → HasAsked form s a next (of y)
