@@ -27,3 +27,5 @@ mod Runs
 pub mod Turns
 pub mod Stages
 pub mod Cells
+pub mod Acting
+pub mod QueueCells
