@@ -29,3 +29,4 @@ pub mod Stages
 pub mod Cells
 pub mod Acting
 pub mod QueueCells
+pub mod CellActs
