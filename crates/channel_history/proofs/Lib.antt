@@ -31,3 +31,6 @@ mod Runs
 pub mod Turns
 pub mod Stages
 pub mod Cells
+pub mod Acting
+pub mod QueueCells
+pub mod CellActs

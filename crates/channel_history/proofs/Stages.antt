@@ -194,7 +194,7 @@ module _ {T W : Type 0} where
       let same : u ≡ v = cc in
       one_place v at to a b d e (seen v at stands) (seen v to (subst (λ (z : Stage (QueueCall T) T W). MayStand z to) same stand)) h g
 
-  trying_acts : (call : QueueCall T) (p : Purpose T W) → NextDeed (Trying call p) (queue_stepped call call None) (Trying call p)
+  pub trying_acts : (call : QueueCall T) (p : Purpose T W) → NextDeed (Trying call p) (queue_stepped call call None) (Trying call p)
   trying_acts call p = (mark_of_queue (mark_of call), None, (call, None, refl, refl, (refl, refl)))
 
   -- a view within a call of the queue knows its action, and what it was made for
