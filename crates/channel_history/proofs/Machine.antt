@@ -7,32 +7,32 @@ use mathlib.Core.Option.{some, some-injective, some-ne-none}
 use native.Mathlib.Decide.{ℕ_discrete}
 use lib.ListN.{get_elem?}
 use Rattle.concurrent_queue.proofs.Callers.{is_same}
-use Rattle.concurrent_queue.specs.Bridge.{Event, does}
 use Rattle.concurrent_queue.specs.Contents.{Contents}
-use Rattle.concurrent_queue.specs.Deeds as cell
 use Rattle.concurrent_queue.specs.Made.{new_cells}
 use Rattle.concurrent_queue.specs.declared.cells.QueueForm.{QueueForm}
 use Rattle.channel_history.specs.KeepsCopy.{Counter, First, Second}
 use Rattle.channel_history.specs.KeepsCopy.{CountStep, Read, Lower, Raise}
 use Rattle.channel_history.specs.KeepsCopy.{KeepsHistory, count_of, first_after, second_after}
 use Rattle.concurrent_queue.specs.declared.history.rule.View.{View}
-use Rattle.channel_calls.specs.Deeds.{lowered, raised}
+use Rattle.channel_calls.specs.Deeds.{Deed, lowered, raised}
 use Rattle.channel_calls.specs.Parts.{count}
 use Rattle.channel_calls.specs.declared.stage.Side.{Side}
 use Rattle.channel_calls.specs.declared.stage.Side.TheVariants.{Senders, Receivers}
-use Rattle.channel_steps.specs.every_run.Bridge.{on_queue}
 use Rattle.channel_history.specs.History.{IsChannelHistory}
 use Rattle.channel_history.specs.Keeps.{IsAt, ChangesCounts, Leaves}
 use Rattle.channel_history.specs.Machine.{side_of, Fits, new_list, count_deed, state_of, states, history, opened, enters, turns, begins_call, ends_call, makes_section, is_refused, counts, both, left, parts}
 use Rattle.channel_history.specs.Party.{nothing, fresh, with_own, standing_of, Makes}
 use Rattle.channel_history.specs.declared.party.Belongings.{Belongings}
+use Rattle.channel_history.specs.QueueCells.{moves}
 use Rattle.channel_history.specs.declared.party.Standing.{Standing}
+use Rattle.channel_history.proofs.CellActs.{sections_act}
 use Rattle.channel_history.proofs.Deeds.{deeds_do}
 use Rattle.channel_history.proofs.Goes.{moved}
 use Rattle.channel_history.proofs.Handles.{count_operations_keep, handles_are_counted}
 use Rattle.channel_history.proofs.Joining.{joins_keep}
 use Rattle.channel_history.proofs.Keeping.{opens_well, queue_operations_keep, beginnings_keep, arrivals_keep, endings_keep}
 use Rattle.channel_history.proofs.Lying.{lie_with_new}
+use Rattle.channel_history.proofs.QueueCells.{queue_calls_move}
 use Rattle.channel_history.proofs.Seats.{stands_past, stands_last, stands_before}
 use Rattle.channel_history.proofs.Sections.{sections_keep}
 use Rattle.channel_history.proofs.Splitting.{splits_keep}
@@ -116,9 +116,10 @@ module _ {T W : Type 0} where
 
     pub counts_keep : (which : Counter) (op : CountStep) → counts form s t which op (count_of which n m) → count_of which n m < 2 ^ 64
         → IsChannelHistory form (set views p t) c (first_after which op n) (second_after which op m)
-    counts_keep which op (made, lists, leaves, fits) within =
-        count_operations_keep T W form views c n m (first_after which op n) (second_after which op m) p s t (count_deed (side_of which) op (count_of which n m)) h there made lists leaves
-        (changes which op n m (can_be which op leaves fits) within)
+    counts_keep which op (operation, fits) within =
+        let d : Deed T W = count_deed (side_of which) op (count_of which n m) in
+        let acts = (sections_act T W).count_acts form d s t operation in
+        count_operations_keep T W form views c n m (first_after which op n) (second_after which op m) p s t d h there acts.0 acts.1 acts.2 (changes which op n m (can_be which op acts.2 fits) within)
 
   -- ---- where the parties of views stand
 
@@ -155,15 +156,14 @@ module _ {T W : Type 0} where
 
 -- ---- the laws
 
-module _ (T W : Type 0) (moves : QueueForm → Standing T W → Event T → Standing T W → Type 0)
-    (as_queue : (form : QueueForm) (s t : Standing T W) (o : cell.Deed T) → moves form s (does (Some o)) t → Makes form s (on_queue (Some o)) t × (t.own ≡ s.own)) where
+module _ {T W : Type 0} where
   pub channel_keeps : KeepsHistory {T = T} {A = Standing T W} moves enters turns counts both left parts opened 1 history
   channel_keeps = record {
     opens = λ form v has is. subst (λ (s : Standing T W). IsChannelHistory form (s ∷ []) (new_cells form) 1 1) (sym is) (opens_well T W form new_list refl);
     same = λ form views c n m p v w h there is. of_states form c n m _ _ (states_same views p v w there is) h;
     arrives = λ form views c n m w h enters. of_states form c n m _ _ (states_more views w) (enters_keep form (states views) c n m h w.state enters);
     more = λ form views c d n m p v w o h there done made.
-        let made_so = as_queue form v.state w.state o made in
+        let made_so = (queue_calls_move T W).acts form v.state w.state o made in
         of_states form d n m _ _ (states_set views p w) (queue_operations_keep T W form (states views) c d n m p v.state w.state o h (is_at views p v there) made_so.0 made_so.1 done);
     turned = λ form views c n m p v w h there turns.
         of_states form c n m _ _ (states_set views p w) (turns_keep form (states views) c n m h p v.state w.state (is_at views p v there) turns);

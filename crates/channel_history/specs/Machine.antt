@@ -18,6 +18,7 @@ use Rattle.channel_history.specs.History.{IsChannelHistory}
 use Rattle.channel_history.specs.Keeps.{ChangesList, Leaves, opening}
 use Rattle.channel_history.specs.Party as party
 use Rattle.channel_history.specs.Party.{nothing, fresh, with_own, standing_of, Begins, Makes, Ends}
+use Rattle.channel_history.specs.Sections.{CountOperation}
 use Rattle.channel_history.specs.declared.party.Belongings.{Belongings}
 use Rattle.channel_history.specs.declared.party.Standing.{Standing}
 
@@ -70,9 +71,7 @@ module _ {T W : Type 0} where
 
   -- an operation on the word of a count, which found this number there
   abbrev pub counts : QueueForm → Standing T W → Standing T W → Counter → CountStep → ℕ → Type 0
-  counts form s t which op n =
-      let o : Deed T W = count_deed (side_of which) op n in
-      Makes form s (on_wait_lists o) t × (t.own.lists ≡ s.own.lists) × Leaves o s t × Fits op n
+  counts form s t which op n = CountOperation form (count_deed (side_of which) op n) s t × Fits op n
 
   -- what lies with a party goes to another, all of it or some, and nobody has gone on
   abbrev pub both : Standing T W → Standing T W → Standing T W
