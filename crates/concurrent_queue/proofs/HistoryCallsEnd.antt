@@ -29,6 +29,7 @@ use Rattle.concurrent_queue.specs.history.Calls.{on_cell, HasNoBlocks, AsksCells
 use Rattle.concurrent_queue.specs.history.OnCells.{IsRefused}
 use Rattle.concurrent_queue.specs.history.Runs.{moves, begun, after_step}
 use Rattle.concurrent_queue.specs.declared.history.cells.HistoryCells.{HistoryCells}
+use Rattle.concurrent_queue.specs.declared.history.party.OfQueue.{OfQueue}
 use Rattle.concurrent_queue.specs.declared.history.party.Standing.{Standing}
 
 module _ {T : Type 0} where
@@ -300,11 +301,11 @@ module _ {T S : Type 0} (form_of : S → QueueForm) (of : S → Standing T) (Sam
       (walked_ends form_of of Same stays joins form call s t r f few under (subst (λ (q : QueueForm). Walked (HasMade moves form_of of Same) q call s r t) f walked))
 
 -- the same over the cells of a call's seat; its view keeps the parties that were joined in
-abbrev pub SameParty : {T : Type 0} → HistoryCells T (Standing T) → HistoryCells T (Standing T) → Type 0
+abbrev pub SameParty : {T : Type 0} → HistoryCells T (Standing T) OfQueue → HistoryCells T (Standing T) OfQueue → Type 0
 SameParty s t = (t.seat.seat.table_id ≡ s.seat.seat.table_id) × (t.seat.seat.me.0.who ≡ s.seat.seat.me.0.who) × (t.seat.seat.me.0.over ≡ s.seat.seat.me.0.over)
 
-pub cells_call_ends : {T : Type 0} (most : ℕ) (a : QueueAsk T) → AsksCells a → (call : QueueCall T) → call.state ≡ Asked a → (p : Standing T) (s t : HistoryCells T (Standing T)) (r : QueueReply T) → s.seat.seat.me.0.form ≡ Bounded most → s.seat.seat.me.0.state ≡ begun a p
-    → Walked (HasMade moves (λ (x : HistoryCells T (Standing T)). x.seat.seat.me.0.form) (λ x. x.seat.seat.me.0.state) SameParty) s.seat.seat.me.0.form call s r t → MayCall s.seat.seat.me.0.form call.state r
+pub cells_call_ends : {T : Type 0} (most : ℕ) (a : QueueAsk T) → AsksCells a → (call : QueueCall T) → call.state ≡ Asked a → (p : Standing T) (s t : HistoryCells T (Standing T) OfQueue) (r : QueueReply T) → s.seat.seat.me.0.form ≡ Bounded most → s.seat.seat.me.0.state ≡ begun a p
+    → Walked (HasMade moves (λ (x : HistoryCells T (Standing T) OfQueue). x.seat.seat.me.0.form) (λ x. x.seat.seat.me.0.state) SameParty) s.seat.seat.me.0.form call s r t → MayCall s.seat.seat.me.0.form call.state r
     → (t.seat.seat.me.0.form ≡ s.seat.seat.me.0.form) × SameParty s t × (t.seat.seat.me.0.state.call ≡ None) × (t.seat.seat.me.0.state.asked ≡ p.asked ++ a ∷ []) × (t.seat.seat.me.0.state.replies ≡ p.replies ++ r ∷ [])
 cells_call_ends {T} most a =
-    call_ends (λ (x : HistoryCells T (Standing T)). x.seat.seat.me.0.form) (λ x. x.seat.seat.me.0.state) SameParty (λ s. (refl, refl, refl)) (λ s t u p q. (q.0 ∙ p.0, q.1 ∙ p.1, q.2 ∙ p.2)) most a
+    call_ends (λ (x : HistoryCells T (Standing T) OfQueue). x.seat.seat.me.0.form) (λ x. x.seat.seat.me.0.state) SameParty (λ s. (refl, refl, refl)) (λ s t u p q. (q.0 ∙ p.0, q.1 ∙ p.1, q.2 ∙ p.2)) most a

@@ -10,10 +10,10 @@ pub returns-then-found-expected-clause-deed : goal.returns-then-found-expected-c
 returns-then-found-expected-clause-deed g c =
     let v = c.args.self.now.seat.seat.me.0 in
     let e = c.compare_exchange-found.ensures in
-    (λ _. inl (exchange_won g.P.QueueMachine.moves v.form v.state c.compare_exchange-found.new.self.seat.me.0.state c.args.at c.args.expected c.args.next c.compare_exchange-found.result c.if-found-expected.true e.made), e.same.2, (e.same.0, e.same.1, e.same.3))
+    (λ _. inl (exchange_won g.P.Machine.moves v.form v.state c.compare_exchange-found.new.self.seat.me.0.state c.args.at c.args.expected c.args.next c.compare_exchange-found.result c.if-found-expected.true e.made), e.same.2, (e.same.0, e.same.1, e.same.3))
 
 pub returns-else-found-expected-clause-deed : goal.returns-else-found-expected-clause-deed
 returns-else-found-expected-clause-deed g c =
     let v = c.args.self.now.seat.seat.me.0 in
     let e = c.compare_exchange-found.ensures in
-    (λ _. inl (exchange_lost g.P.QueueMachine.moves v.form v.state c.compare_exchange-found.new.self.seat.me.0.state c.args.at c.args.expected c.args.next c.compare_exchange-found.result c.if-found-expected.false e.made), e.same.2, (e.same.0, e.same.1, e.same.3))
+    (λ _. inl (exchange_lost g.P.Machine.moves v.form v.state c.compare_exchange-found.new.self.seat.me.0.state c.args.at c.args.expected c.args.next c.compare_exchange-found.result c.if-found-expected.false e.made), e.same.2, (e.same.0, e.same.1, e.same.3))

@@ -13,4 +13,4 @@ returns-in-Ok-clause-deed g c =
 pub returns-in-Err-clause-deed : goal.returns-in-Err-clause-deed
 returns-in-Err-clause-deed g c =
     let e = c.in-Err.ensures in
-    (λ _. put_refused g.P.QueueMachine.moves c.args.self.now.seat.seat.me c.try_put.new.self.seat.me c.args.at c.args.value _ _ e.made.0 e.made.1, e.same.2, (e.same.0, e.same.1, e.same.3))
+    (λ _. put_refused g.P.Machine.moves c.args.self.now.seat.seat.me c.try_put.new.self.seat.me c.args.at c.args.value _ _ e.made.0 e.made.1, e.same.2, (e.same.0, e.same.1, e.same.3))
