@@ -10,9 +10,11 @@ use Rattle.concurrent_queue.proofs.Callers.{is_same}
 use Rattle.concurrent_queue.specs.Contents.{Contents}
 use Rattle.concurrent_queue.specs.Made.{new_cells}
 use Rattle.concurrent_queue.specs.declared.cells.QueueForm.{QueueForm}
-use Rattle.channel_history.specs.KeepsCopy.{Counter, First, Second}
-use Rattle.channel_history.specs.KeepsCopy.{CountStep, Read, Lower, Raise}
-use Rattle.channel_history.specs.KeepsCopy.{KeepsHistory, count_of, first_after, second_after}
+use Rattle.concurrent_queue.specs.declared.history.rule.Counter.{Counter}
+use Rattle.concurrent_queue.specs.declared.history.rule.Counter.TheVariants.{First, Second}
+use Rattle.concurrent_queue.specs.declared.history.rule.CountStep.{CountStep}
+use Rattle.concurrent_queue.specs.declared.history.rule.CountStep.TheVariants.{Read, Lower, Raise}
+use Rattle.concurrent_queue.specs.history.Keeps.{KeepsHistory, count_of, first_after, second_after}
 use Rattle.concurrent_queue.specs.declared.history.rule.View.{View}
 use Rattle.channel_calls.specs.Deeds.{Deed, lowered, raised}
 use Rattle.channel_calls.specs.Parts.{count}

@@ -15,7 +15,6 @@ pub mod Registrations
 pub mod InHand
 pub mod Accounts
 pub mod Row
-pub mod KeepsCopy
 pub mod Machine
 pub mod Cells
 pub mod QueueCells

@@ -2,9 +2,11 @@
 -- of handles. What the machine does on the cells of the queue is said elsewhere.
 use Rattle.std.specs.Prelude.{◌≡◌, ℕ, ◌-◌, ◌<◌, ◌≤◌, ◌^◌, ◌==◌, false, List, [], ◌∷◌, map, ◌⊎◌, None}
 use Rattle.concurrent_queue.specs.declared.cells.QueueForm.{QueueForm}
-use Rattle.channel_history.specs.KeepsCopy.{Counter, First, Second}
-use Rattle.channel_history.specs.KeepsCopy.{CountStep, Read, Lower, Raise}
-use Rattle.channel_history.specs.KeepsCopy.{HistoryOf}
+use Rattle.concurrent_queue.specs.declared.history.rule.Counter.{Counter}
+use Rattle.concurrent_queue.specs.declared.history.rule.Counter.TheVariants.{First, Second}
+use Rattle.concurrent_queue.specs.declared.history.rule.CountStep.{CountStep}
+use Rattle.concurrent_queue.specs.declared.history.rule.CountStep.TheVariants.{Read, Lower, Raise}
+use Rattle.concurrent_queue.specs.history.Keeps.{HistoryOf}
 use Rattle.concurrent_queue.specs.declared.history.rule.View.{View}
 use Rattle.event_listener.specs.Lists.{ListView}
 use Rattle.channel_calls.specs.Deeds.{Deed, counted, lowered, raised}
