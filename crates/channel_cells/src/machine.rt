@@ -9,8 +9,8 @@ pub struct OfChannel;
 
 impl<T, W> Machine<T, Standing<T, W>> for OfChannel {
     ghost use Rattle.channel_history.specs.Party.{fresh};
-    ghost use Rattle.channel_history.specs.Cells.{moves};
-    ghost use Rattle.channel_history.specs.Machine.{opened, enters, turns, counts, both_standings, left_standing, parts, rests, history};
+    ghost use Rattle.channel_history.specs.QueueCells.{moves};
+    ghost use Rattle.channel_history.specs.Machine.{opened, enters, turns, counts, both, left, parts, rests, admits, history};
     ghost use Rattle.channel_history.proofs.Machine.{channel_keeps};
 
     ghost first = { fresh };
@@ -27,15 +27,15 @@ impl<T, W> Machine<T, Standing<T, W>> for OfChannel {
 
     ghost counts = { counts };
 
-    ghost both = { both_standings };
+    ghost both = { both };
 
-    ghost left = { left_standing };
+    ghost left = { left };
 
     ghost parts = { parts };
 
     ghost rests = { rests };
 
-    ghost admits = { ⊥ };
+    ghost admits = { admits };
 
     ghost history = { history };
 
@@ -43,7 +43,7 @@ impl<T, W> Machine<T, Standing<T, W>> for OfChannel {
 }
 
 impl<T, W> QueueMachine<T, Standing<T, W>> for OfChannel {
-    ghost use Rattle.channel_history.specs.Cells.{calls};
+    ghost use Rattle.channel_history.specs.QueueCells.{calls};
     ghost use Rattle.channel_history.proofs.QueueCells.{calls_may_move, calls_are_led};
 
     ghost calls = { calls };
