@@ -10,9 +10,8 @@ use Rattle.channel_calls.proofs.Carrying.{carried}
 use Rattle.channel_calls.proofs.Standing.{stands_on}
 use Rattle.channel_calls.specs.Asks.{first, kept_by}
 use Rattle.channel_calls.specs.Deeds.{Deed, Done}
-use Rattle.channel_calls.specs.Walks.{Takes, ChannelMakes, Leads, Walked, WalkedFrom, WalkedTo}
+use Rattle.channel_calls.specs.Walks.{ChannelMakes, Leads, WalkedFrom, WalkedTo}
 use Rattle.channel_calls.specs.declared.ask.ChannelAsk.{ChannelAsk}
-use Rattle.channel_calls.specs.declared.ask.ChannelAsk.TheVariants.{Capacity}
 use Rattle.channel_calls.specs.declared.mark.Mark.{Mark}
 use Rattle.channel_calls.specs.declared.reply.Reply.{Reply}
 use Rattle.channel_calls.specs.declared.stage.NextStep.{NextStep}
@@ -41,11 +40,8 @@ module _ {T W : Type 0} where
     gives_nothing [] more h = h.0
     gives_nothing (o ∷ os) more h = absurd h
 
-    no_end : (at : Stage (QueueCall T) T W) → None ≡ Some at → ⊥
-    no_end at e = absurd (cc)
-
     gives_one : (at : Stage (QueueCall T) T W) (os : List (Act T W)) (more : List (Completed T)) → ActsTo form (Some at) (map does os) more None → (c : Completed T) × (more ≡ c ∷ [])
-    gives_one at [] more h = absurd (no_end at h.1)
+    gives_one at [] more h = let no : None ≡ Some at = h.1 in absurd (cc)
     gives_one at (o ∷ os) more (m, next, None, makes, h) = gives_one next os more h
     gives_one at (o ∷ os) more (m, next, Some r, makes, (rest, is, h)) =
         let c : Completed T = record { reply = r; kept = kept_by next } in
@@ -87,8 +83,7 @@ module _ {T W : Type 0} where
       -- a call that was answered ends, and gives this answer
       pub answered_ends : HasEnded form gave now
       answered_ends =
-          let one = ends_give now h.rests answer h.ends in
-          (
+          let one = ends_give now h.rests answer h.ends in (
             h.rests,
             record {
               ends = h.ends;
@@ -136,7 +131,7 @@ module _ {T W : Type 0} where
 
       -- and a new party, where it is lent nothing
       pub may_ask_anew : (a : ChannelAsk T W) → LendsNothing a → MayAsk form fresh a
-      may_ask_anew a (asks, listeners, handles) = record { bounded = bounded; asks = λ e. subst (λ (x : ChannelAsk T W). IsCall x) e asks; idle = refl; lists = refl; listeners = sym listeners; handles = sym handles }
+      may_ask_anew a (asks, listeners, handles) = may_ask fresh a asks (refl, λ i. record { lists = []; handles = sym handles i; listeners = sym listeners i })
 
   -- ---- a beginning
 
@@ -182,11 +177,11 @@ module _ {T W C : Type 0} (form_in : C → QueueForm) (view : C → Standing T W
     ends_over kept x y in_form asked walk =
         let walked = walks_within did (ByView form (λ (z : X). view (of z))) (λ (z : X). (form_in (of z) ≡ form) × Same (of x) (of z)) within (first a) x r kept y (in_form, reflexive (of x)) walk in
         (calls.ends form (λ (z : X). view (of z)) s a x y r kept may asked walked.0, walked.1.0, walked.1.1)
-        where
-          within : (d : Deed T W) (b c : X) → (form_in (of b) ≡ form) × Same (of x) (of b) → did d b c → ByView form (λ (z : X). view (of z)) d b c × ((form_in (of c) ≡ form) × Same (of x) (of c))
-          within d b c (is, same) h =
-              let (done, (stays, more)) = by_view d b c h in
-              (subst (λ (f : QueueForm). Did f d (view (of b)) (view (of c))) is done, (stays ∙ is, transitive (of x) (of b) (of c) same more))
+      where
+        within : (d : Deed T W) (b c : X) → (form_in (of b) ≡ form) × Same (of x) (of b) → did d b c → ByView form (λ (z : X). view (of z)) d b c × ((form_in (of c) ≡ form) × Same (of x) (of c))
+        within d b c (is, same) h =
+            let (done, (stays, more)) = by_view d b c h in
+            (subst (λ (f : QueueForm). Did f d (view (of b)) (view (of c))) is done, (stays ∙ is, transitive (of x) (of b) (of c) same more))
 
   -- of words alone, which wake nobody
   pub words_end : CallsGoByTheirViews T W C → (kept : Returned T) (c e : C) → form_in c ≡ form → view c ≡ asked_by s a → WalkedFrom (ByViewOf form_in view Same) (first a) c r kept e → Ended kept c e

@@ -4,7 +4,7 @@
 -- of the queue's table, in whose rule the history is.
 -- `InHand` says what a call has in hand at each of its steps. `Row` are histories with calls in them. `Cells` says what the cells of a call
 -- ask and say that go by the view of its seat, `QueueCells` and `Sections` what is under them, and `WholeCalls` how a call begins and ends
--- over them.
+-- over them. `CallEnds` says how its party stands then, and how one stands that may ask.
 pub mod Party
 pub mod Steps
 pub mod History
