@@ -25,7 +25,8 @@ module _ {T W R : Type 0} where
   table_in c = c.queue.seat.seat.table_id
 
   -- the same party, on the same channel
+  abbrev pub IsSameParty : CallCells T W R → CallCells T W R → Type 0
+  IsSameParty a b = (table_in b ≡ table_in a) × (b.queue.seat.seat.me.0.who ≡ a.queue.seat.seat.me.0.who) × (b.queue.seat.seat.me.0.over ≡ a.queue.seat.seat.me.0.over)
+
   abbrev pub IsSameCall : CallCells T W R → CallCells T W R → Type 0
-  IsSameCall a b =
-      (b.channel ≡ a.channel) × (form_in b ≡ form_in a) × (table_in b ≡ table_in a) × (b.queue.seat.seat.me.0.who ≡ a.queue.seat.seat.me.0.who)
-      × (b.queue.seat.seat.me.0.over ≡ a.queue.seat.seat.me.0.over)
+  IsSameCall a b = (form_in b ≡ form_in a) × IsSameParty a b

@@ -6,7 +6,7 @@ use Rattle.concurrent_queue.specs.declared.queue_call.QueueCall.{QueueCall}
 use Rattle.channel_calls.specs.Deeds.{Deed}
 use Rattle.channel_calls.specs.Stands.{MayGoOn, GoesOn, StaysOn}
 use Rattle.channel_calls.specs.declared.stage.Stage.{Stage}
-use Rattle.channel_history.proofs.ByStage.{views_keep_what_cells_ask}
+use Rattle.channel_history.proofs.Cells.{views_keep_what_cells_ask}
 use Rattle.channel_history.specs.Cells.{Stands, May, Did}
 use Rattle.channel_cells.specs.Words.{words_view, words_form, IsSameQuestion}
 use Rattle.channel_cells.specs.declared.questions.CallWords.{CallWords}

@@ -3,7 +3,8 @@
 ghost use Rattle.std.specs.Prelude.{◌≡◌, ◌×◌, ℕ, suc, ◌<◌, ◌≤◌, ◌^◌, [], ◌∷◌, IfOk};
 ghost use Rattle.concurrent_queue.specs.declared.cells.QueueForm.TheVariants.{Bounded};
 ghost use Rattle.channel_calls.specs.declared.stage.Side.TheVariants.{Senders, Receivers};
-ghost use Rattle.channel_cells.specs.Channel.{Rests, form_of, id_of, seat_table, standing_of, view_in};
+ghost use Rattle.channel_history.specs.CallEnds.{Rests};
+ghost use Rattle.channel_cells.specs.Channel.{form_of, id_of, seat_table, standing_of, view_in};
 ghost use Rattle.channel_cells.specs.Look.{IsTold};
 ghost use Rattle.concurrent_queue.specs.history.Shared.{both_views};
 ghost use Rattle.channel_cells.specs.Lists.{line_at, opening_at, with_handles};

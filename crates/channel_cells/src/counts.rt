@@ -11,7 +11,8 @@ ghost use Rattle.channel_history.specs.InHand.{listed_on};
 ghost use Rattle.channel_history.specs.Machine.{both};
 ghost use Rattle.channel_history.specs.Party.{fresh};
 ghost use Rattle.channel_cells.specs.Calls.{HasCalled};
-ghost use Rattle.channel_cells.specs.Channel.{Rests, id_of, seat_table, standing_of};
+ghost use Rattle.channel_history.specs.CallEnds.{Rests};
+ghost use Rattle.channel_cells.specs.Channel.{id_of, seat_table, standing_of};
 
 use crate::channel::{ChannelTable, Seat};
 use channel_calls::error::HandleError;

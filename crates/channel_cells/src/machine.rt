@@ -44,11 +44,11 @@ impl<T, W> Machine<T, Standing<T, W>> for OfChannel {
 
 impl<T, W> QueueMachine<T, Standing<T, W>> for OfChannel {
     ghost use Rattle.channel_history.specs.QueueCells.{calls};
-    ghost use Rattle.channel_history.proofs.QueueCells.{calls_may_move, calls_are_led};
+    ghost use Rattle.channel_history.proofs.QueueCells.{queue_calls_move};
 
     ghost calls = { calls };
 
-    ghost may = { calls_may_move };
+    ghost may = { (queue_calls_move T W).may };
 
-    ghost led = { calls_are_led };
+    ghost led = { (queue_calls_move T W).led };
 }

@@ -9,7 +9,8 @@ ghost use Rattle.channel_calls.specs.declared.reply.Reply.TheVariants as reply;
 ghost use Rattle.channel_calls.specs.declared.stage.WaitList.TheVariants.{Sends, Receives, Streams, Closings};
 ghost use Rattle.channel_history.specs.InHand.{listed_on};
 ghost use Rattle.channel_cells.specs.Calls.{HasCalled, HasPolled};
-ghost use Rattle.channel_cells.specs.Channel.{Rests, id_of, seat_table, standing_of};
+ghost use Rattle.channel_history.specs.CallEnds.{Rests};
+ghost use Rattle.channel_cells.specs.Channel.{id_of, seat_table, standing_of};
 
 use crate::channel::{ChannelTable, Seat};
 use channel_calls::error::{RecvError, Refused};
