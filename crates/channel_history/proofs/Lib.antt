@@ -30,3 +30,4 @@ pub mod Cells
 pub mod Acting
 pub mod QueueCells
 pub mod CellActs
+pub mod WholeCalls
