@@ -6,10 +6,10 @@ use Rattle.concurrent_queue.specs.declared.cells.QueueForm.{QueueForm}
 use Rattle.concurrent_queue.specs.declared.queue_call.QueueCall.{QueueCall}
 use Rattle.channel_calls.specs.Answered.{answered_next}
 use Rattle.channel_calls.specs.Asks.{first, kept_by}
-use Rattle.channel_calls.specs.Deeds.{Deed}
+use Rattle.channel_calls.specs.Deeds.{Deed, Done}
 use Rattle.channel_calls.specs.Stands.{NotesDeed, BeginsHere}
 use Rattle.channel_calls.specs.Tracked.{unmarked}
-use Rattle.channel_calls.specs.Walks.{Takes, Heard, WorkMakes, ChannelMakes, WalkedFrom}
+use Rattle.channel_calls.specs.Walks.{Takes, Heard, WorkMakes, ChannelMakes, Walked, WalkedFrom}
 use Rattle.channel_calls.specs.Walks as walks
 use Rattle.channel_calls.specs.declared.ask.ChannelAsk.{ChannelAsk}
 use Rattle.channel_calls.specs.declared.mark.Mark.{Mark}
@@ -30,13 +30,13 @@ use Rattle.channel_history.specs.Cells.{HasEnded, MayStand, StandsAt, Stands, ow
 use Rattle.channel_history.specs.InHand.{in_hand, in_hand_after, handles_at, handles_next, handles_made, handles_after, kept_on, CallsHoldTheirOwn}
 use Rattle.channel_history.specs.Party.{with_own}
 use Rattle.channel_history.specs.Steps.{stepped, Steps, PartiesGoOn}
-use Rattle.channel_history.specs.WholeCalls.{stage_of, MayAsk, asked_by, BeginsSo, handle_wanted, if_made, HasAnswered, HasAsked, CallsGoByTheirViews}
+use Rattle.channel_history.specs.WholeCalls.{stage_of, MayAsk, asked_by, BeginsSo, handle_wanted, wanted, if_made, HasAnswered, HasAsked, CallsGoByTheirViews}
 use Rattle.channel_history.specs.declared.party.Standing.{Standing}
-use Rattle.channel_history.proofs.Cells.{views_keep_what_cells_ask}
+use Rattle.channel_history.proofs.Cells.{views_keep_what_cells_ask, CellsDid}
 use Rattle.channel_history.proofs.InHand.{calls_hold_their_own}
 use Rattle.channel_history.proofs.Stages.{Makes, Alike, same_taken, same_step, step_noted, rested, in_room_acts, shown_work, one_stage, kept_alike}
 use Rattle.channel_history.proofs.Steps.{parties_go_on}
-use Rattle.channel_history.proofs.Turns.{wanted, WantsOn, sound_taken, wants_taken, takes_on, answered_on, first_on, WorkTurns, work_turns}
+use Rattle.channel_history.proofs.Turns.{WantsOn, sound_taken, wants_taken, takes_on, answered_on, first_on, WorkTurns, work_turns}
 
 -- ---- the handles that a call makes
 
@@ -128,39 +128,36 @@ module _ {T W : Type 0} (form : QueueForm) where
         );
       }
 
+  asks_so : (s : Standing T W) (a : ChannelAsk T W) (at : Stage (QueueCall T) T W) → MayAsk form s a → Takes (first a) at None → HasAsked form s a at (asked_by s a)
+  asks_so s a at may takes =
+      let b = begins_so s a may in
+      record { stands = b.stands at takes; asked = refl; given = refl; wants = wants_taken T W form (handle_wanted a) (first a) at None (first_on T W form a may.asks).0 takes }
+
   -- ---- a step of a call under way
 
   module _ (s : Standing T W) (a : ChannelAsk T W) where
-    abbrev UnderWay : Stage (QueueCall T) T W → Standing T W → Type 0
-    UnderWay at now = Stands form at now × (now.asked ≡ s.asked ++ a ∷ []) × (now.given ≡ s.given) × (wanted at ≡ handle_wanted a)
-
-    begins_under_way : (at : Stage (QueueCall T) T W) → MayAsk form s a → Takes (first a) at None → UnderWay at (asked_by s a)
-    begins_under_way at may takes =
-        let b = begins_so s a may in
-        (b.stands at takes, refl, refl, wants_taken T W form (handle_wanted a) (first a) at None (first_on T W form a may.asks).0 takes)
-
     abbrev Next : Stage (QueueCall T) T W → Option (Reply T) → Standing T W → Type 0
-    Next next None now = UnderWay next now
+    Next next None now = HasAsked form s a next now
     Next next (Some r) now = HasAnswered form s a r (kept_by next) now
 
     -- ---- by a deed
 
-    went : (at next : Stage (QueueCall T) T W) (d : Deed T W) (m : Mark) (v w : Standing T W) → UnderWay at v → Did form d v w → Makes at (Some d) m next None → UnderWay next w
-    went at next d m v w (stands, asked, given, wants) did makes =
+    went : (at next : Stage (QueueCall T) T W) (d : Deed T W) (m : Mark) (v w : Standing T W) → HasAsked form s a at v → Did form d v w → Makes at (Some d) m next None → HasAsked form s a next w
+    went at next d m v w h did makes =
         let views : ViewsKeepWhatCellsAsk T W = views_keep_what_cells_ask T W in
-        let alike = same_step at did.at d m did.mark next did.next None did.answer (one_stage v at did.at next did.next d d stands.1 (did.stands).1 (m, None, makes) (did.mark, did.answer, did.makes)) makes did.makes in
+        let alike = same_step at did.at d m did.mark next did.next None did.answer (one_stage v at did.at next did.next d d (h.stands).1 (did.stands).1 (m, None, makes) (did.mark, did.answer, did.makes)) makes did.makes in
         let is : w ≡ with_own (own_after did.at did.next did.answer) (stepped v did.next None) = did.left ∙ ap (λ (z : Option (Reply T)). with_own (own_after did.at did.next did.answer) (stepped v did.next z)) alike.1 in
-        (
-          (views form).1 at next v w d stands did (m, None, makes),
-          ap (λ (z : Standing T W). z.asked) is ∙ asked,
-          ap (λ (z : Standing T W). z.given) is ∙ given,
-          wants_so form at (Some d) m next None makes ∙ wants,
-        )
+        record {
+          stands = (views form).1 at next v w d h.stands did (m, None, makes);
+          asked = ap (λ (z : Standing T W). z.asked) is ∙ h.asked;
+          given = ap (λ (z : Standing T W). z.given) is ∙ h.given;
+          wants = wants_so form at (Some d) m next None makes ∙ h.wants;
+        }
 
-    answers : (at next : Stage (QueueCall T) T W) (d : Deed T W) (m : Mark) (r : Reply T) (v w : Standing T W) → UnderWay at v → Did form d v w → Makes at (Some d) m next (Some r) → HasAnswered form s a r (kept_by next) w
-    answers at next d m r v w (stands, asked, given, wants) did makes =
+    answers : (at next : Stage (QueueCall T) T W) (d : Deed T W) (m : Mark) (r : Reply T) (v w : Standing T W) → HasAsked form s a at v → Did form d v w → Makes at (Some d) m next (Some r) → HasAnswered form s a r (kept_by next) w
+    answers at next d m r v w h did makes =
         let on : PartiesGoOn T W = parties_go_on T W in
-        let one = one_stage v at did.at next did.next d d stands.1 (did.stands).1 (m, Some r, makes) (did.mark, did.answer, did.makes) in
+        let one = one_stage v at did.at next did.next d d (h.stands).1 (did.stands).1 (m, Some r, makes) (did.mark, did.answer, did.makes) in
         let alike = same_step at did.at d m did.mark next did.next (Some r) did.answer one makes did.makes in
         let is : w ≡ with_own (own_after did.at did.next (Some r)) (stepped v did.next (Some r)) = did.left ∙ ap (λ (z : Option (Reply T)). with_own (own_after did.at did.next z) (stepped v did.next z)) alike.1 in
         let kept : kept_by did.next ≡ kept_by next = kept_alike next did.next alike.0 in
@@ -169,48 +166,48 @@ module _ {T W : Type 0} (form : QueueForm) where
           rests = w;
           ends = on.ended form w (ap (λ (z : Standing T W). z.stage) is);
           own = refl;
-          asked = ap (λ (z : Standing T W). z.asked) is ∙ asked;
+          asked = ap (λ (z : Standing T W). z.asked) is ∙ h.asked;
           given = ap (λ (z : Standing T W). z.given) is
-              ∙ (ap (λ (z : List (Completed T)). z ++ record { reply = r; kept = kept_by did.next } ∷ []) given ∙ ap (λ (z : Returned T). s.given ++ record { reply = r; kept = z } ∷ []) kept);
+              ∙ (ap (λ (z : List (Completed T)). z ++ record { reply = r; kept = kept_by did.next } ∷ []) h.given ∙ ap (λ (z : Returned T). s.given ++ record { reply = r; kept = z } ∷ []) kept);
           lists = ap (λ (z : Standing T W). z.own.lists) is;
           listeners = ap (λ (z : Standing T W). z.own.listeners) is ∙ ap (λ (z : Returned T). kept_on r z.key) kept;
-          handles = ap (λ (z : Standing T W). z.own.handles) is ∙ wants_so form did.at (Some d) did.mark did.next (Some r) makes_so ∙ ap (λ (z : List Side). if_made r z) (wanted_alike at did.at one ∙ wants);
+          handles = ap (λ (z : Standing T W). z.own.handles) is ∙ wants_so form did.at (Some d) did.mark did.next (Some r) makes_so ∙ ap (λ (z : List Side). if_made r z) (wanted_alike at did.at one ∙ h.wants);
         }
 
     -- ---- by a step that does nothing
 
-    rested_on : (at next : Stage (QueueCall T) T W) (m : Mark) (v : Standing T W) → UnderWay at v → Makes at None m next None → UnderWay next v
-    rested_on at next m v (stands, asked, given, wants) makes =
+    rested_on : (at next : Stage (QueueCall T) T W) (m : Mark) (v : Standing T W) → HasAsked form s a at v → Makes at None m next None → HasAsked form s a next v
+    rested_on at next m v h makes =
         let views : ViewsKeepWhatCellsAsk T W = views_keep_what_cells_ask T W in
-        ((views form).2 at next v stands (m, None, makes), asked, given, wants_so form at None m next None makes ∙ wants)
+        record { stands = (views form).2 at next v h.stands (m, None, makes); asked = h.asked; given = h.given; wants = wants_so form at None m next None makes ∙ h.wants }
 
     ended_silent : (at next : Stage (QueueCall T) T W) (m : Mark) (r : Reply T) → Makes at None m next (Some r) → HasEnded at → ⊥
     ended_silent (Trying call p) next m r h (kept, is) = cc
     ended_silent (Working w) next m r h (kept, is) = cc
     ended_silent (Finished left) next m r (e, i, j, k) ended = cc
 
-    rest_answers : (w : ListStep T W) (next : Stage (QueueCall T) T W) (m : Mark) (r : Reply T) (v : Standing T W) → UnderWay (Working w) v → v.stage ≡ Some (Working w) → WorkMakes NotesDeed w None None m next (Some r)
+    rest_answers : (w : ListStep T W) (next : Stage (QueueCall T) T W) (m : Mark) (r : Reply T) (v : Standing T W) → HasAsked form s a (Working w) v → v.stage ≡ Some (Working w) → WorkMakes NotesDeed w None None m next (Some r)
         → HasAnswered form s a r (kept_by next) v
-    rest_answers w next m r v (stands, asked, given, wants) is makes =
+    rest_answers w next m r v h is makes =
         let on : PartiesGoOn T W = parties_go_on T W in
         let hold : CallsHoldTheirOwn T W = calls_hold_their_own T W in
         let acts : ChannelMakes (Notes form) (Working w) on_nothing on_nothing m next (Some r) = idle_work w m next (Some r) makes in
         let left = hold.steps form (Working w) on_nothing m next (Some r) acts in
-        let owns = stands.2 in
+        let owns = (h.stands).2 in
         let has = owns.1 (Working w) is in
         let rests : Standing T W = stepped v next (Some r) in
         record {
           rests = rests;
           ends = on.ends form v rests rests on_nothing tt (Working w, m, next, Some r, is, acts, refl) (on.ended form rests refl);
           own = refl;
-          asked = asked;
-          given = ap (λ (z : List (Completed T)). z ++ record { reply = r; kept = kept_by next } ∷ []) given;
+          asked = h.asked;
+          given = ap (λ (z : List (Completed T)). z ++ record { reply = r; kept = kept_by next } ∷ []) h.given;
           lists = owns.0;
           listeners = has.0 ∙ sym (⊎_elim (λ e. e) (λ lost. absurd lost) left.0);
-          handles = has.1 ∙ (sym left.1 ∙ (wants_so form (Working w) None m next (Some r) makes ∙ ap (λ (z : List Side). if_made r z) wants));
+          handles = has.1 ∙ (sym left.1 ∙ (wants_so form (Working w) None m next (Some r) makes ∙ ap (λ (z : List Side). if_made r z) h.wants));
         }
 
-    rest_ends : (at next : Stage (QueueCall T) T W) (m : Mark) (r : Reply T) (v : Standing T W) → UnderWay at v → StandsAt v at → Makes at None m next (Some r) → HasAnswered form s a r (kept_by next) v
+    rest_ends : (at next : Stage (QueueCall T) T W) (m : Mark) (r : Reply T) (v : Standing T W) → HasAsked form s a at v → StandsAt v at → Makes at None m next (Some r) → HasAnswered form s a r (kept_by next) v
     rest_ends at next m r v w (inl ended) makes = absurd (ended_silent at next m r makes ended)
     rest_ends (Trying call p) next m r v w (inr (u, is, k)) (after, o, e, i, h) = absurd cc
     rest_ends (Finished kept) next m r v w (inr (u, is, k)) makes = absurd (ended_silent (Finished kept) next m r makes (kept, refl))
@@ -220,37 +217,67 @@ module _ {T W : Type 0} (form : QueueForm) where
         (λ ended. absurd (ended_silent (Working x) next m r makes ended))
         (rested u (Working x) before)
 
-    -- ---- over anything by whose view deeds are done
+    -- ---- over anything by whose view deeds are done, as long as this holds of it
 
-    module _ {X : Type 0} (of : X → Standing T W) (did : Deed T W → X → X → Type 0) (by_view : (d : Deed T W) (b c : X) → did d b c → Did form d (of b) (of c)) where
-      step : (at next : Stage (QueueCall T) T W) (x y : X) (m : Mark) (r : Option (Reply T)) → UnderWay at (of x) → ChannelMakes did at x y m next r → Next next r (of y)
-      step at next x y m r w h = noted r (step_noted did at x y m next r h) where
-        noted : (o : Option (Reply T)) → ((d : Deed T W) × did d x y × Makes at (Some d) m next o) ⊎ ((y ≡ x) × Makes at None m next o) → Next next o (of y)
-        noted None (inl (d, made, makes)) = went at next d m (of x) (of y) w (by_view d x y made) makes
-        noted (Some o) (inl (d, made, makes)) = answers at next d m o (of x) (of y) w (by_view d x y made) makes
-        noted None (inr (same, makes)) = subst (λ (z : X). UnderWay next (of z)) (sym same) (rested_on at next m (of x) w makes)
-        noted (Some o) (inr (same, makes)) = subst (λ (z : X). HasAnswered form s a o (kept_by next) (of z)) (sym same) (rest_ends at next m o (of x) w w.0.1 makes)
+    module _ {X : Type 0} (of : X → Standing T W) (Good : X → Type 0) (did : Deed T W → X → X → Type 0) (by_view : (d : Deed T W) (b c : X) → Good b → did d b c → Did form d (of b) (of c) × Good c) where
+      step : (at next : Stage (QueueCall T) T W) (x y : X) (m : Mark) (r : Option (Reply T)) → Good x → HasAsked form s a at (of x) → ChannelMakes did at x y m next r → Next next r (of y) × Good y
+      step at next x y m r good h makes = ⊎_elim
+          (λ (p : (d : Deed T W) × did d x y × Makes at (Some d) m next r). let by = by_view p.0 x y good p.1 in (by_deed r p.0 by.0 p.2, by.1))
+          (λ (p : (y ≡ x) × Makes at None m next r). subst (λ (z : X). Next next r (of z) × Good z) (sym p.0) (by_rest r p.1, good))
+          (step_noted did at x y m next r makes)
+        where
+          by_deed : (o : Option (Reply T)) (d : Deed T W) → Did form d (of x) (of y) → Makes at (Some d) m next o → Next next o (of y)
+          by_deed None d made k = went at next d m (of x) (of y) h made k
+          by_deed (Some o) d made k = answers at next d m o (of x) (of y) h made k
 
-      leads : (n : ℕ) (x y : X) (at next : Stage (QueueCall T) T W) → UnderWay at (of x) → walks.Leads did n x at y next → UnderWay next (of y)
-      leads zero x y at next w (same, stays) = subst (λ (z : X). UnderWay next (of z)) (sym same) (subst (λ (z : Stage (QueueCall T) T W). UnderWay z (of x)) (sym stays) w)
-      leads (suc n) x y at next w (z, mid, m, h, l) = leads n z y mid next (step at mid x z m None w h) l
+          by_rest : (o : Option (Reply T)) → Makes at None m next o → Next next o (of x)
+          by_rest None k = rested_on at next m (of x) h k
+          by_rest (Some o) k = rest_ends at next m o (of x) h (h.stands).1 k
 
-      module _ (may : MayAsk form s a) (x : X) (begun : of x ≡ asked_by s a) where
-        starts : (at : Stage (QueueCall T) T W) → Takes (first a) at None → UnderWay at (of x)
-        starts at takes = subst (λ (z : Standing T W). UnderWay at z) (sym begun) (begins_under_way at may takes)
+      -- A CALL THAT IS LED ON
+      pub call_led : (n : ℕ) (x y : X) (at next : Stage (QueueCall T) T W) → Good x → HasAsked form s a at (of x) → walks.Leads did n x at y next → HasAsked form s a next (of y) × Good y
+      call_led zero x y at next good h (same, stays) =
+          subst (λ (z : X). HasAsked form s a next (of z) × Good z) (sym same) (subst (λ (z : Stage (QueueCall T) T W). HasAsked form s a z (of x)) (sym stays) h, good)
+      call_led (suc n) x y at next good h (z, mid, m, makes, l) = let one = step at mid x z m None good h makes in call_led n z y mid next one.1 one.0 l
 
-        -- A CALL THAT WAS LED SO FAR
-        pub call_led : (y : X) (n : ℕ) (at next : Stage (QueueCall T) T W) → Takes (first a) at None → walks.Leads did n x at y next → HasAsked form s a next (of y)
-        call_led y n at next takes path = let w = leads n x y at next (starts at takes) path in record { stands = w.0; asked = w.1; given = w.2 }
-
-        -- A CALL THAT HAS ANSWERED
-        pub call_ends : (y : X) (r : Reply T) (kept : Returned T) → WalkedFrom did (first a) x r kept y → HasAnswered form s a r kept (of y)
-        call_ends y r kept (at, takes, (n, z, last, m, next, path, h, is)) =
-            subst (λ (k : Returned T). HasAnswered form s a r k (of y)) (sym is) (step last next z y m (Some r) (leads n x z at last (starts at takes) path) h)
+      -- A CALL THAT IS WALKED TO ITS ANSWER
+      pub call_ends : (x y : X) (at : Stage (QueueCall T) T W) (r : Reply T) (kept : Returned T) → Good x → HasAsked form s a at (of x) → Walked did at x r kept y → HasAnswered form s a r kept (of y) × Good y
+      call_ends x y at r kept good h (n, z, last, m, next, path, makes, is) =
+          let before = call_led n x z at last good h path in
+          subst (λ (k : Returned T). HasAnswered form s a r k (of y) × Good y) (sym is) (step last next z y m (Some r) before.1 before.0 makes)
 
 pub calls_go_by_their_views : (T W X : Type 0) → CallsGoByTheirViews T W X
 calls_go_by_their_views T W X = record {
   begins = λ form s a may. begins_so form s a may;
-  ends = λ form of s a x y r kept may begun walked. call_ends form s a of (λ d b c. Did form d (of b) (of c)) (λ d b c h. h) may x begun y r kept walked;
-  led = λ form of s a x y n at next may begun takes path. call_led form s a of (λ d b c. Did form d (of b) (of c)) (λ d b c h. h) may x begun y n at next takes path;
+  asked = λ form s a at may takes. asks_so form s a at may takes;
+  led = λ form of s a x y n at next h path. (call_led form s a of (λ z. Unit {0}) (λ d b c. Did form d (of b) (of c)) (λ d b c good did. (did, tt)) n x y at next tt h path).0;
+  ends = λ form of s a x y at r kept h walked. (call_ends form s a of (λ z. Unit {0}) (λ d b c. Did form d (of b) (of c)) (λ d b c good did. (did, tt)) x y at r kept tt h walked).0;
 }
+
+-- ---- of cells with such a view, and of cells with a sink
+
+module _ {T W C : Type 0} (form_of : C → QueueForm) (of : C → Standing T W) (Same : C → C → Type 0) (stays : (c : C) → Same c c) (joins : (c d e : C) → Same c d → Same d e → Same c e) where
+  -- the cells are the same, by whatever is known of that, and of the same form
+  abbrev pub AreStill : C → C → Type 0
+  AreStill c d = (form_of d ≡ form_of c) × Same c d
+
+  stills : (c : C) (d : Deed T W) (a b : C) → AreStill c a → CellsDid form_of of Same d a b → Did (form_of c) d (of a) (of b) × AreStill c b
+  stills c d a b still did = (subst (λ (f : QueueForm). Did f d (of a) (of b)) still.0 did.0, (did.1 ∙ still.0, joins c a b still.1 did.2))
+
+  -- a call that begins on cells, and is walked to its answer
+  pub cells_end : (s : Standing T W) (a : ChannelAsk T W) (c e : C) (r : Reply T) (kept : Returned T) → MayAsk (form_of c) s a → of c ≡ asked_by s a → WalkedFrom (CellsDid form_of of Same) (first a) c r kept e
+      → HasAnswered (form_of c) s a r kept (of e) × AreStill c e
+  cells_end s a c e r kept may begun (at, takes, walked) =
+      call_ends (form_of c) s a of (λ z. AreStill c z) (CellsDid form_of of Same) (λ d b z still did. stills c d b z still did) c e at r kept (refl, stays c)
+      (subst (λ (z : Standing T W). HasAsked (form_of c) s a at z) (sym begun) (asks_so (form_of c) s a at may takes)) walked
+
+  module _ {S : Type 0} (wakes : S → W → S → Type 0) where
+    abbrev pub CellsDone : Deed T W → C × S → C × S → Type 0
+    CellsDone d b e = Done (CellsDid form_of of Same) wakes d b e
+
+    -- and one that wakes others on its way
+    pub sinks_end : (s : Standing T W) (a : ChannelAsk T W) (c e : C × S) (r : Reply T) (kept : Returned T) → MayAsk (form_of c.0) s a → of c.0 ≡ asked_by s a → WalkedFrom CellsDone (first a) c r kept e
+        → HasAnswered (form_of c.0) s a r kept (of e.0) × AreStill c.0 e.0
+    sinks_end s a c e r kept may begun (at, takes, walked) =
+        call_ends (form_of c.0) s a (λ z. of z.0) (λ z. AreStill c.0 z.0) CellsDone (λ d b z still done. stills c.0 d b.0 z.0 still done.0) c e at r kept (refl, stays c.0)
+        (subst (λ (z : Standing T W). HasAsked (form_of c.0) s a at z) (sym begun) (asks_so (form_of c.0) s a at may takes)) walked
