@@ -19,9 +19,10 @@ use Rattle.channel_history.specs.Cells.{HasEnded, MayStand, StandsAt, Owns, Soun
 use Rattle.channel_history.specs.InHand.{in_hand, handles_at, handles_after}
 use Rattle.channel_history.specs.Party.{with_own}
 use Rattle.channel_history.specs.Steps.{stepped}
+use Rattle.channel_history.specs.WholeCalls.{wanted}
 use Rattle.channel_history.specs.declared.party.Standing.{Standing}
 use Rattle.channel_history.proofs.Stages.{Alike, Makes, same_step, rested, in_room_acts, ended_rests, shown_work, one_stage, answered_end}
-use Rattle.channel_history.proofs.Turns.{wanted, sound_taken, answered_on, WorkTurns, work_turns}
+use Rattle.channel_history.proofs.Turns.{sound_taken, answered_on, WorkTurns, work_turns}
 
 module _ {T W : Type 0} (form : QueueForm) where
   -- ---- what a step leaves is sound

@@ -34,3 +34,4 @@ pub mod Cells
 pub mod Acting
 pub mod QueueCells
 pub mod CellActs
+pub mod WholeCalls

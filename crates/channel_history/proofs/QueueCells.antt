@@ -228,7 +228,7 @@ module _ {T W : Type 0} where
 
 -- ---- all operations of a call
 
-module _ {T W C : Type 0} (form : QueueForm) (of : C → Standing T W) (did : cell.Deed T → C → C → Type 0) (moved : (d : cell.Deed T) (a b : C) → did d a b → MovesView form of d a b) (first : C) (p : Purpose T W) where
+module _ {T W C : Type 0} (form : QueueForm) (of : C → Standing T W) (Good : C → Type 0) (did : cell.Deed T → C → C → Type 0) (moved : (d : cell.Deed T) (a b : C) → Good a → did d a b → MovesView form of d a b × Good b) (first : C) (p : Purpose T W) where
   -- the call of the channel stands within its call of the queue, which stands at this action; since the first operation nothing else of it
   -- has changed
   abbrev AtWalk : C → CallState T → Type 0
@@ -278,36 +278,43 @@ module _ {T W C : Type 0} (form : QueueForm) (of : C → Standing T W) (did : ce
       (subst (λ (z : CallState T). After e z None) (sym stays.0)
       (call, subst (λ (z : Standing T W). StandsWithin form call p z) (sym is) within, stands ∙ sym (settled form at none), v, is ∙ since))
 
-  deed_made : (c e : C) (at : CallState T) (d : cell.Deed T) (r : CallStep T) → HasNoBlocks at → AtWalk c at → did d c e → StateMakes cell.Notes form None at (Some d) r → After e r.action r.reply
+  deed_made : (c e : C) (at : CallState T) (d : cell.Deed T) (r : CallStep T) → HasNoBlocks at → AtWalk c at → MovesView form of d c e → StateMakes cell.Notes form None at (Some d) r → After e r.action r.reply
   deed_made c e at d r none w made n = ⊎_elim
       (λ (h : moves form (of c) (does (Some d)) (of e)). by_deed c e at d r w h n)
       (λ (h : IsRefused d × (of e ≡ of c)). refused c e at d r none w h n)
-      (moved d c e made (on_cell form at d r none n))
+      (made (on_cell form at d r none n))
 
-  rested : (c e : C) (at : CallState T) (r : CallStep T) → HasNoBlocks at → AtWalk c at → e ≡ c → RestsAt at r → After e r.action r.reply
-  rested c e at r none w same (inl (goes, stays)) =
-      subst (λ (o : Option (QueueReply T)). After e r.action o) (sym goes)
-      (subst (λ (z : C). AtWalk z (standing form r.action)) (sym same) (subst (λ (z : CallState T). AtWalk c z) (sym (ap (λ (z : CallState T). standing form z) stays ∙ settled form at none)) w))
-  rested c e at r none w same (inr (o, answers)) = subst (λ (x : Option (QueueReply T)). After e r.action x) (sym answers) (inr (o, refl))
+  rested : (c : C) (at : CallState T) (r : CallStep T) → HasNoBlocks at → AtWalk c at → RestsAt at r → After c r.action r.reply
+  rested c at r none w (inl (goes, stays)) =
+      subst (λ (o : Option (QueueReply T)). After c r.action o) (sym goes) (subst (λ (z : CallState T). AtWalk c z) (sym (ap (λ (z : CallState T). standing form z) stays ∙ settled form at none)) w)
+  rested c at r none w (inr (o, answers)) = subst (λ (x : Option (QueueReply T)). After c r.action x) (sym answers) (inr (o, refl))
 
   none_at : (c : C) (at : CallState T) → AtWalk c at → HasNoBlocks at
   none_at c at (call, within, stands, v, since) = subst (λ (z : CallState T). HasNoBlocks z) stands within.2
 
-  step : (c e : C) (at : CallState T) (r : CallStep T) → AtWalk c (standing form at) → StateMakes did form c at e r → After e r.action r.reply
-  step c e at r w h =
+  step : (c e : C) (at : CallState T) (r : CallStep T) → Good c → AtWalk c (standing form at) → StateMakes did form c at e r → After e r.action r.reply × Good e
+  step c e at r good w h =
       let noted = note_state did form c (standing form at) e r (at_standing did form at c e r h) in
       by noted.0 noted.1 noted.2
     where
-      by : (o : Option (cell.Deed T)) → StateMakes cell.Notes form None (standing form at) o r → Along did (o ∷ []) c e → After e r.action r.reply
-      by None n same = rested c e (standing form at) r (none_at c (standing form at) w) w same (state_rests form (standing form at) r (none_at c (standing form at) w) n)
-      by (Some d) n (m, made, same) = deed_made c e (standing form at) d r (none_at c (standing form at) w) w (subst (λ (z : C). did d c z) (sym same) made) n
+      by : (o : Option (cell.Deed T)) → StateMakes cell.Notes form None (standing form at) o r → Along did (o ∷ []) c e → After e r.action r.reply × Good e
+      by None n same =
+          let none = none_at c (standing form at) w in
+          subst (λ (z : C). After z r.action r.reply × Good z) (sym same) (rested c (standing form at) r none w (state_rests form (standing form at) r none n), good)
+      by (Some d) n (m, made, same) =
+          let on = moved d c e good (subst (λ (z : C). did d c z) (sym same) made) in
+          (deed_made c e (standing form at) d r (none_at c (standing form at) w) w on.0 n, on.1)
 
-  walk : (n : ℕ) (c e : C) (at to : CallState T) → AtWalk c (standing form at) → Leads (StateMakes did form) n c at e to → AtWalk e (standing form to)
-  walk zero c e at to w (same, stays) = subst (λ (z : C). AtWalk z (standing form to)) (sym same) (subst (λ (z : CallState T). AtWalk c (standing form z)) (sym stays) w)
-  walk (suc n) c e at to w (x, y, (m, h), l) = walk n x e y to (step c x at (record { action = y; mark = m; reply = None }) w h) l
+  walk : (n : ℕ) (c e : C) (at to : CallState T) → Good c → AtWalk c (standing form at) → Leads (StateMakes did form) n c at e to → AtWalk e (standing form to) × Good e
+  walk zero c e at to good w (same, stays) = subst (λ (z : C). AtWalk z (standing form to) × Good z) (sym same) (subst (λ (z : CallState T). AtWalk c (standing form z)) (sym stays) w, good)
+  walk (suc n) c e at to good w (x, y, (m, h), l) =
+      let one = step c x at (record { action = y; mark = m; reply = None }) good w h in
+      walk n x e y to one.1 one.0 l
 
-  heard_last : (call : QueueCall T) (e : C) (x : QueueReply T) → AtWalk first (standing form call.state) → Walked did form call first x e → Heeds e x ⊎ ((o : Option ℕ) × (x ≡ Cap o))
-  heard_last call e x w (n, (y, at, z, m, l, h)) = step y e at (record { action = z; mark = m; reply = Some x }) (walk n first y call.state at w l) h
+  heard_last : (call : QueueCall T) (e : C) (x : QueueReply T) → Good first → AtWalk first (standing form call.state) → Walked did form call first x e → (Heeds e x ⊎ ((o : Option ℕ) × (x ≡ Cap o))) × Good e
+  heard_last call e x good w (n, (y, at, z, m, l, h)) =
+      let before = walk n first y call.state at good w l in
+      step y e at (record { action = z; mark = m; reply = Some x }) before.1 before.0 h
 
   -- ---- is one deed of the channel's call
 
@@ -341,12 +348,11 @@ module _ {T W C : Type 0} (form : QueueForm) (of : C → Standing T W) (did : ce
           ∙ sym (hands form (of first) call p within).1
 
   -- A CALL OF THE QUEUE that is made whole
-  pub queue_call_done : (call after : QueueCall T) (x : QueueReply T) (e : C) → Stands form (Trying call p) (of first) → MayCall form call.state x → Walked did form call first x e
-      → Did form (queue_stepped call after (Some x)) (of first) (of e)
-  queue_call_done call after x e stands may walked = ⊎_elim
-      (λ (h : Heeds e x). did_whole call after x e stands may h)
-      (λ (h : (o : Option ℕ) × (x ≡ Cap o)). absurd (never h.0 h.1))
-      (heard_last call e x start walked)
+  pub queue_call_done : (call after : QueueCall T) (x : QueueReply T) (e : C) → Good first → Stands form (Trying call p) (of first) → MayCall form call.state x → Walked did form call first x e
+      → Did form (queue_stepped call after (Some x)) (of first) (of e) × Good e
+  queue_call_done call after x e good stands may walked =
+      let last = heard_last call e x good start walked in
+      (⊎_elim (λ (h : Heeds e x). did_whole call after x e stands may h) (λ (h : (o : Option ℕ) × (x ≡ Cap o)). absurd (never h.0 h.1)) last.0, last.1)
     where
       sound : (a : QueueAsk T) × IsAsking call a × AsksCells a × ((y : QueueReply T) → MayCall form call.state y → IsOfKind p y)
       sound = stands.3
@@ -361,4 +367,22 @@ module _ {T W C : Type 0} (form : QueueForm) (of : C → Standing T W) (did : ce
           shown (inr (v, is, k)) = (v, restaged (of first) v is)
 
 pub queue_calls_are_deeds : (T W C : Type 0) → QueueCallsAreDeeds T W C
-queue_calls_are_deeds T W C form of call after p x a b stands may walked = queue_call_done form of (λ d c e. MovesView form of d c e) (λ d c e h. h) a p call after x b stands may walked
+queue_calls_are_deeds T W C form of call after p x a b stands may walked = (queue_call_done form of (λ z. Unit {0}) (λ d c e. MovesView form of d c e) (λ d c e good h. (h, tt)) a p call after x b tt stands may walked).0
+
+-- ---- of cells of the queue with such a view
+
+module _ {T W C : Type 0} (form_of : C → QueueForm) (of : C → Standing T W) (Same : C → C → Type 0) (stays : (c : C) → Same c c) (joins : (c d e : C) → Same c d → Same d e → Same c e) (did : cell.Deed T → C → C → Type 0) where
+  -- each operation moves the view on or was refused, on the same cells, of the same form
+  abbrev pub CellsMove : Type 0
+  CellsMove = (d : cell.Deed T) (a b : C) → did d a b → MovesView (form_of a) of d a b × (form_of b ≡ form_of a) × Same a b
+
+  pub cells_call_done : CellsMove → (call after : QueueCall T) (p : Purpose T W) (x : QueueReply T) (a b : C) → Stands (form_of a) (Trying call p) (of a) → MayCall (form_of a) call.state x → Walked did (form_of a) call a x b
+      → Did (form_of a) (queue_stepped call after (Some x)) (of a) (of b) × (form_of b ≡ form_of a) × Same a b
+  cells_call_done moved call after p x a b stands may walked =
+      let done = queue_call_done (form_of a) of (λ z. (form_of z ≡ form_of a) × Same a z) did by a p call after x b (refl, stays a) stands may walked in
+      (done.0, (done.1).0, (done.1).1)
+    where
+      by : (d : cell.Deed T) (c e : C) → (form_of c ≡ form_of a) × Same a c → did d c e → MovesView (form_of a) of d c e × ((form_of e ≡ form_of a) × Same a e)
+      by d c e still made =
+          let on = moved d c e made in
+          (subst (λ (f : QueueForm). MovesView f of d c e) still.0 on.0, (on.1 ∙ still.0, joins a c e still.1 on.2))

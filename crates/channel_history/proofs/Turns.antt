@@ -53,24 +53,7 @@ use Rattle.channel_calls.specs.declared.stage.Waiting.{Waiting}
 use Rattle.channel_calls.specs.declared.stage.Waiting.TheVariants as waiting
 use Rattle.channel_history.specs.Cells.{Sound}
 use Rattle.channel_history.specs.InHand.{IsOfKind, handles_next}
-use Rattle.channel_history.specs.WholeCalls.{stage_of, handle_wanted, if_made}
-
--- ---- a handle is wanted
-
-module _ {T W : Type 0} where
-  abbrev wanted_by : Purpose T W → List Side
-  wanted_by (purpose.Upgrade side) = side ∷ []
-  wanted_by p = []
-
-  abbrev wanted_at : ListStep T W → List Side
-  wanted_at (work.Load side making) = side ∷ []
-  wanted_at (work.Raise side n making) = side ∷ []
-  wanted_at w = []
-
-  abbrev pub wanted : Stage (QueueCall T) T W → List Side
-  wanted (Trying call p) = wanted_by p
-  wanted (Working w) = wanted_at w
-  wanted (Finished kept) = []
+use Rattle.channel_history.specs.WholeCalls.{stage_of, handle_wanted, wanted_by, wanted_at, wanted, if_made}
 
 none_made : {T : Type 0} → (r : Reply T) → if_made r [] ≡ []
 none_made reply.Made = refl

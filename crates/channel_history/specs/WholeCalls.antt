@@ -7,13 +7,17 @@ use Rattle.concurrent_queue.specs.declared.queue_call.QueueCall.{QueueCall}
 use Rattle.channel_calls.specs.Asks.{first}
 use Rattle.channel_calls.specs.Deeds.{Deed}
 use Rattle.channel_calls.specs.Stands.{BeginsHere}
-use Rattle.channel_calls.specs.Walks.{Takes, Leads, WalkedFrom}
+use Rattle.channel_calls.specs.Walks.{Takes, Leads, Walked}
 use Rattle.channel_calls.specs.declared.ask.ChannelAsk.{ChannelAsk}
 use Rattle.channel_calls.specs.declared.ask.ChannelAsk.TheVariants as ask
 use Rattle.channel_calls.specs.declared.reply.Reply.{Reply}
 use Rattle.channel_calls.specs.declared.reply.Reply.TheVariants as reply
+use Rattle.channel_calls.specs.declared.stage.ListStep.{ListStep}
+use Rattle.channel_calls.specs.declared.stage.ListStep.TheVariants as work
 use Rattle.channel_calls.specs.declared.stage.NextStep.{NextStep}
 use Rattle.channel_calls.specs.declared.stage.NextStep.TheVariants.{Tries, Works, Ends as Answers}
+use Rattle.channel_calls.specs.declared.stage.Purpose.{Purpose}
+use Rattle.channel_calls.specs.declared.stage.Purpose.TheVariants as purpose
 use Rattle.channel_calls.specs.declared.stage.Returned.{Returned}
 use Rattle.channel_calls.specs.declared.stage.Side.{Side}
 use Rattle.channel_calls.specs.declared.stage.Stage.{Stage}
@@ -62,6 +66,21 @@ module _ {T W : Type 0} where
   handle_wanted a = []
 
 
+  -- and that a call at this stage is still to make
+  abbrev pub wanted_by : Purpose T W → List Side
+  wanted_by (purpose.Upgrade side) = side ∷ []
+  wanted_by p = []
+
+  abbrev pub wanted_at : ListStep T W → List Side
+  wanted_at (work.Load side making) = side ∷ []
+  wanted_at (work.Raise side n making) = side ∷ []
+  wanted_at w = []
+
+  abbrev pub wanted : Stage (QueueCall T) T W → List Side
+  wanted (Trying call p) = wanted_by p
+  wanted (Working w) = wanted_at w
+  wanted (Finished kept) = []
+
   -- a party that stood so has asked this and was answered so, and stands so since: it has ended its call, or ends it by a step that does
   -- nothing. With its seat lies what the call left to its operation, and what it made
   pub record HasAnswered (form : QueueForm) (s : Standing T W) (a : ChannelAsk T W) (r : Reply T) (kept : Returned T) (now : Standing T W) : Type 0 where
@@ -74,20 +93,22 @@ module _ {T W : Type 0} where
     pub listeners : rests.own.listeners ≡ kept_on r kept.key
     pub handles : rests.own.handles ≡ if_made r (handle_wanted a)
 
-  -- it has asked this and wasn't answered yet: the call stands at this stage
+  -- it has asked this and wasn't answered yet: its call stands at this stage, and is still to make the handle that it wants
   pub record HasAsked (form : QueueForm) (s : Standing T W) (a : ChannelAsk T W) (at : Stage (QueueCall T) T W) (now : Standing T W) : Type 0 where
     pub stands : Stands form at now
     pub asked : now.asked ≡ s.asked ++ a ∷ []
     pub given : now.given ≡ s.given
+    pub wants : wanted at ≡ handle_wanted a
 
 -- a deed was done to this by its view
 abbrev pub ByView : {T W X : Type 0} → QueueForm → (X → Standing T W) → Deed T W → X → X → Type 0
 ByView form of d a b = Did form d (of a) (of b)
 
--- a call begins, and is walked to its answer, or so far: over anything by whose view its deeds are done
+-- a call begins, is walked so far, and is walked to its answer: over anything by whose view its deeds are done
 pub record CallsGoByTheirViews (T W X : Type 0) : Type 0 where
   pub begins : (form : QueueForm) (s : Standing T W) (a : ChannelAsk T W) → MayAsk form s a → BeginsSo form s a
-  pub ends : (form : QueueForm) (of : X → Standing T W) (s : Standing T W) (a : ChannelAsk T W) (x y : X) (r : Reply T) (kept : Returned T)
-      → MayAsk form s a → of x ≡ asked_by s a → WalkedFrom (ByView form of) (first a) x r kept y → HasAnswered form s a r kept (of y)
+  pub asked : (form : QueueForm) (s : Standing T W) (a : ChannelAsk T W) (at : Stage (QueueCall T) T W) → MayAsk form s a → Takes (first a) at None → HasAsked form s a at (asked_by s a)
   pub led : (form : QueueForm) (of : X → Standing T W) (s : Standing T W) (a : ChannelAsk T W) (x y : X) (n : ℕ) (at next : Stage (QueueCall T) T W)
-      → MayAsk form s a → of x ≡ asked_by s a → Takes (first a) at None → Leads (ByView form of) n x at y next → HasAsked form s a next (of y)
+      → HasAsked form s a at (of x) → Leads (ByView form of) n x at y next → HasAsked form s a next (of y)
+  pub ends : (form : QueueForm) (of : X → Standing T W) (s : Standing T W) (a : ChannelAsk T W) (x y : X) (at : Stage (QueueCall T) T W) (r : Reply T) (kept : Returned T)
+      → HasAsked form s a at (of x) → Walked (ByView form of) at x r kept y → HasAnswered form s a r kept (of y)
