@@ -7,7 +7,7 @@ use mathlib.Core.Option as home
 use mathlib.Core.Logic.{dite}
 use native.Mathlib.Decide.{ℕ_discrete}
 use lib.ListN.{get_elem?}
-use Rattle.atomic_table.specs.Table.{step, keeps, Allows, Enters, Joins, Splits}
+use Rattle.atomic_table.specs.Table.{step, keeps, carried_after, Allows, Enters, Joins, Splits}
 use Rattle.atomic_table.proofs.Lists as lists
 use Rattle.atomic_table.proofs.Lists.{at_set}
 use Rattle.concurrent_queue.specs.Bridge.{Event}
@@ -114,6 +114,13 @@ module _ {T A : Type 0} {moves : QueueForm → A → Event T → A → Type 0} {
             (λ q. laws.turned form s.views (contents form s.words q.values) (count_in form s.words First) (count_in form s.words Second) id me.0 w q.history at (steps.of_form laws admits form s id me.0 (λ (f : QueueForm). turns f me.0.state w.state) r at go)),
         refl,
       )
+
+  -- where it is said by a relation alone
+  pub led_so : (slots id k : ℕ) (me : M) (to : A → A → Type 0) → me.0.spent ≡ false → (a : A) × turns me.0.form me.0.state a × to me.0.state a → Allows R slots id me k (λ n. n) (rule.led_by to (step slots k 0 0 home.none) me)
+  led_so slots id k me to live (a, go, so) s r wide at small =
+      let done = turns_so slots id k me (λ _. a) live go s r wide at small in
+      let after : (done.0, carried_after me.1 done.1) ≡ (going_on me.0 a, me.1) = done.4 in
+      (done.0, done.1, done.2, done.3, (subst (λ (m : Seated T A). to me.0.state m.0.state) (sym after) so, after ∙ ap (λ (m : Seated T A). (going_on me.0 m.0.state, me.1)) (sym after)))
 
   -- a view changes, and its party stands where it stood
   same : (s : S) (id : ℕ) (v w : View T A) → get_elem? s.views id ≡ home.some v → w.state ≡ v.state → (q : K s) → H (set s.views id w) s.words q.values
