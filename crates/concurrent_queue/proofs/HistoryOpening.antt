@@ -21,7 +21,6 @@ use Rattle.concurrent_queue.specs.history.Shared.{slots_of, stamps_of, words_of,
 use Rattle.concurrent_queue.specs.declared.history.rule.Counter.{Counter}
 use Rattle.concurrent_queue.specs.declared.history.rule.Counter.TheVariants.{First, Second}
 use Rattle.concurrent_queue.specs.declared.history.rule.CountStep.{CountStep}
-use Rattle.concurrent_queue.specs.declared.history.rule.View.{View}
 use Rattle.concurrent_queue.proofs.HistoryWords as words
 
 none_some : {X : Type 0} (x : X) → None ≢ Some x

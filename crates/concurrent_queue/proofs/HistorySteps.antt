@@ -1,7 +1,7 @@
 -- Each kind of step on cells keeps the rule: one lemma for all operations on a word, one for an operation that leaves all cells as they
 -- are, three for a slot, and those of foreign calls.
-use Rattle.std.proofs.Common.{◌≡◌, ◌≢◌, ℕ, zero, suc, ◌+◌, ◌-◌, ◌<◌, ◌≤◌, eqb, inl, inr, ⊎_elim, Bool, true, false, List, [], ◌∷◌, ◌++◌, length, map, get_or, set, refl, sym, ap, ◌∙◌, subst, arith, eq-eqb, ne_eqb, length-set, get_or-set_other, get_or-set_same, ◌%◌, ◌^◌}
-use Rattle.std.proofs.lemmas.List.{map-set, map-append, set-get_or}
+use Rattle.std.proofs.Common.{◌≡◌, ◌≢◌, ℕ, zero, suc, ◌+◌, ◌-◌, ◌<◌, ◌≤◌, eqb, inl, inr, ⊎_elim, Bool, true, false, List, [], ◌∷◌, length, map, get_or, set, refl, sym, ap, ◌∙◌, subst, arith, eq-eqb, ne_eqb, length-set, get_or-set_other, get_or-set_same, ◌%◌, ◌^◌}
+use Rattle.std.proofs.lemmas.List.{map-set, set-get_or}
 use Rattle.std.specs.Prelude.{Option, None, Some, Result, Ok, Err, MatchResult, slice_index, slice_index_or, slice_get, if◌then◌else◌, bit_and, bit_or}
 use mathlib.Core.Option as home
 use mathlib.Core.Option.{some-injective, some-ne-none}
@@ -482,6 +482,7 @@ module _ {T A : Type 0} {moves : QueueForm → A → Event T → A → Type 0} {
       -- the history is nobody's concern any more
       over : (s : S) → R s → get_elem? s.views id ≡ home.some me.0 → Unflagged s → ⊥
       over s r at none = r.seated.admitted id me.0 at strange (none may)
+
       -- any operation on a word of the queue
       pub passes_so : (k : ℕ) (f : ℕ → ℕ) → slots_of form ≤ k → ((j : ℕ) → IsSpare j → k ≢ slots_of form + j) → Allows R slots id me k f (λ _ m. m ≡ me)
       passes_so k f behind apart s r wide at small =

@@ -14,7 +14,7 @@ use Rattle.concurrent_queue.specs.declared.cells.Slot.{Slot}
 use Rattle.concurrent_queue.specs.declared.cells.Slot.TheVariants.{At, In}
 use Rattle.concurrent_queue.specs.declared.cells.Word.{Word}
 use Rattle.concurrent_queue.specs.declared.cells.Word.TheVariants.{State, Head, Tail, Stamp, HeadBlock, TailBlock, Next, Reads, Written}
-use Rattle.concurrent_queue.specs.history.Shared.{slots_of, stamps_of, words_of, flag_at, few_word, own_word, IsOwn, IsAbsent, IsNoSlot, answer, contents, HasSize, LeavesAll}
+use Rattle.concurrent_queue.specs.history.Shared.{slots_of, stamps_of, words_of, few_word, own_word, IsOwn, IsAbsent, IsNoSlot, answer, contents, HasSize, LeavesAll}
 
 none_some : {X : Type 0} (x : X) → Some x ≢ None
 none_some x e = absurd (cc)
@@ -169,8 +169,8 @@ module _ {T : Type 0} (form : QueueForm) where
     spare_apart j k spare is =
         subst (λ (z : ℕ). contents form (set words z x) values ≡ contents form words values) (sym is)
         (λ z. build (keep j 0 (apart_from 0 j (λ e. omega arith) (λ e. omega arith) (λ e. omega arith) spare) z) (keep j 1 (apart_from 1 j (λ e. omega arith) (λ e. omega arith) (λ e. omega arith) spare) z)
-            (keep j 16 (apart_from 16 j (λ e. omega arith) (λ e. omega arith) (λ e. omega arith) spare) z) (keep j 2 (apart_from 2 j (λ e. omega arith) (λ e. omega arith) (λ e. omega arith) spare) z)
-            (keep j 17 (apart_from 17 j (λ e. omega arith) (λ e. omega arith) (λ e. omega arith) spare) z) (stamps_keep j (spare_small j spare) z) values)
+        (keep j 16 (apart_from 16 j (λ e. omega arith) (λ e. omega arith) (λ e. omega arith) spare) z) (keep j 2 (apart_from 2 j (λ e. omega arith) (λ e. omega arith) (λ e. omega arith) spare) z)
+        (keep j 17 (apart_from 17 j (λ e. omega arith) (λ e. omega arith) (λ e. omega arith) spare) z) (stamps_keep j (spare_small j spare) z) values)
 
   -- what is found there is what the queue has
   pub found : (words : List ℕ) (values : List (Option T)) (w : Word) → IsOwn form w → read (contents form words values) w ≡ slice_index words (slots_of form + index_of (place_of w))

@@ -172,10 +172,7 @@ pub(crate) fn see_cells<'a, T: Drop, R: Wait, S>(
 
 /// The cells of a call of a queue with a bound, seen by this trace.
 #[inline(always)]
-pub(crate) fn see_call<T: Drop, S>(
-    cells: QueueCells<'_, T>,
-    trace: S,
-) -> Seen<QueueCells<'_, T>, S>
+pub(crate) fn see_call<T: Drop, S>(cells: QueueCells<'_, T>, trace: S) -> Seen<QueueCells<'_, T>, S>
     ensures cells { result.cells ≡ cells.entry }
     ensures trace { result.trace ≡ trace }
 {

@@ -3,8 +3,8 @@
 
 ghost use Rattle.std.specs.Prelude.{◌≡◌};
 
-use crate::history::laws::histories_are_runs;
 use crate::history::cells::{HistoryCells, QueueMachine};
+use crate::history::laws::histories_are_runs;
 use crate::history::rule::Machine;
 use crate::history::seats::IdleSeat;
 use crate::history::table::{CallSeat, RuledTable};

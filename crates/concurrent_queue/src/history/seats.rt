@@ -152,9 +152,7 @@ impl<'a, T, A, P: Machine<T, A>> CallSeat<'a, T, A, P> {
         ensures same { (self.new.seat.table_id ≡ self.old.seat.table_id) × (self.new.seat.me.0.who ≡ self.old.seat.me.0.who) × (self.new.seat.me.0.form ≡ self.old.seat.me.0.form) × (self.new.seat.me.0.over ≡ self.old.seat.me.0.over) }
     {
         let at = flag_index(self.table);
-        self.table
-            .shared
-            .load::<Turns<E>>(&mut self.seat, at);
+        self.table.shared.load::<Turns<E>>(&mut self.seat, at);
     }
 
     /// As `look` of the table, of a party that acts.
@@ -202,10 +200,7 @@ impl<'a, T, A, P: Machine<T, A>> CallSeat<'a, T, A, P> {
         ensures goes { (result.seat.me.0.state ≡ E.goes self.old.seat.me.0.state) × (result.seat.me.0.over ≡ []) × (result.seat.me.0.form ≡ self.old.seat.me.0.form) × (result.seat.table_id ≡ self.old.seat.table_id) }
         ensures same { (self.new.seat.table_id ≡ self.old.seat.table_id) × (self.new.seat.me.0.who ≡ self.old.seat.me.0.who) × (self.new.seat.me.0.form ≡ self.old.seat.me.0.form) × (self.new.seat.me.0.over ≡ self.old.seat.me.0.over) }
     {
-        let seat = self
-            .table
-            .shared
-            .split_seat::<Parted<E>>(&mut self.seat);
+        let seat = self.table.shared.split_seat::<Parted<E>>(&mut self.seat);
         NamelessSeat { seat }
     }
 }

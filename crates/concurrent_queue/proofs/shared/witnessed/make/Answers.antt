@@ -1,8 +1,4 @@
-use Rattle.std.proofs.Common.{◌∙◌, ap, subst}
-use Rattle.concurrent_queue.specs.Replies.{MayCall}
-use Rattle.concurrent_queue.specs.declared.cells.QueueForm.{QueueForm}
-use Rattle.concurrent_queue.specs.declared.queue_call.CallState.{CallState}
-use Rattle.concurrent_queue.specs.declared.queue_call.CallState.TheVariants.{Asked}
+use Rattle.std.proofs.Common.{◌∙◌, ap}
 use Rattle.concurrent_queue.proofs.CallBegins.{begun_stands}
 use Rattle.concurrent_queue.proofs.HistoryCallsEnd.{cells_call_ends}
 use Rattle.concurrent_queue.proofs.shared.witnessed.make.Goals as goal

@@ -1,4 +1,4 @@
-use Rattle.std.proofs.Common.{ap, ◌∙◌, inl, refl}
+use Rattle.std.proofs.Common.{inl, refl}
 use Rattle.concurrent_queue.proofs.shared.witnessed.new_witness.Goals as goal
 
 pub enter-seat-requires : goal.enter-seat-requires
