@@ -63,31 +63,29 @@ module _ {T W : Type 0} where
 
     -- ---- as an act of its party
 
-    noted : (d e : Deed T W) → Some d ≡ Some e → IsNoStep d → Notes form e on_nothing (on_wait_lists d)
-    noted d e h plain = by e (same_deed d e h) where
-      by : (x : Deed T W) → d ≡ x → Notes form x on_nothing (on_wait_lists d)
-      by (queue_stepped call after o) is = absurd (subst (λ (z : Deed T W). IsNoStep z) is plain)
-      by x is = ap (λ (z : Deed T W). on_wait_lists z) is
+    abbrev Acted : ListStep T W → Deed T W → Mark → Stage (QueueCall T) T W → Option (Reply T) → Type 0
+    Acted w d m next r = WorkMakes (Notes form) w on_nothing (on_wait_lists d) m next r
 
-    leaves_off : (held : Option ListenerRef) (d : Deed T W) → IsNoStep d → LeavesOff (NotesDeed {T = T} {W = W}) held None (Some d) → LeavesOff (Notes form) held on_nothing (on_wait_lists d)
-    leaves_off None d plain h = absurd cc
-    leaves_off (Some held) d plain (names, h) = (names, noted d _ h plain)
+    same_act : (d e : Deed T W) → Some d ≡ Some e → on_wait_lists d ≡ on_wait_lists e
+    same_act d e h = ap (λ (z : Deed T W). on_wait_lists z) (same_deed d e h)
 
-    work_acts : (w : ListStep T W) (d : Deed T W) (m : Mark) (next : Stage (QueueCall T) T W) (r : Option (Reply T)) → IsNoStep d → WorkMakes NotesDeed w None (Some d) m next r
-        → WorkMakes (Notes form) w on_nothing (on_wait_lists d) m next r
-    work_acts (TellReceive e) d m next r plain (names, h, k) = (names, noted d _ h plain, k)
-    work_acts (TellStreams e) d m next r plain (names, h, k) = (names, noted d _ h plain, k)
-    work_acts (TellSend e) d m next r plain (names, h, k) = (names, noted d _ h plain, k)
-    work_acts (TellSends n e) d m next r plain (names, h, k) = (names, noted d _ h plain, k)
-    work_acts (TakeRoom n) d m next r plain (turn, h, room, k) = absurd cc
-    work_acts (TellAll line c) d m next r plain (names, h, k) = (names, noted d _ h plain, k)
-    work_acts (Insert w task) d m next r plain (x, h, k) = (x, noted d _ h plain, k)
-    work_acts (Register w key task) d m next r plain (x, h, k) = (x, noted d _ h plain, k)
-    work_acts (Leave e) d m next r plain (h, k) = (leaves_off e.held d plain h, k)
-    work_acts (Lower side key) d m next r plain (n, h, k) = (n, noted d _ h plain, k)
-    work_acts (Count side) d m next r plain (n, h, k) = (n, noted d _ h plain, k)
-    work_acts (Load side making) d m next r plain (n, h, k) = (n, noted d _ h plain, k)
-    work_acts (Raise side n making) d m next r plain (b, h, k) = (b, noted d _ h plain, k)
+    work_acts : (w : ListStep T W) (d : Deed T W) (m : Mark) (next : Stage (QueueCall T) T W) (r : Option (Reply T)) → WorkMakes NotesDeed w None (Some d) m next r → Acted w d m next r
+    work_acts (TellReceive e) d m next r (names, h, k) = (names, same_act d _ h, k)
+    work_acts (TellStreams e) d m next r (names, h, k) = (names, same_act d _ h, k)
+    work_acts (TellSend e) d m next r (names, h, k) = (names, same_act d _ h, k)
+    work_acts (TellSends n e) d m next r (names, h, k) = (names, same_act d _ h, k)
+    work_acts (TakeRoom n) d m next r (turn, h, room, k) = absurd cc
+    work_acts (TellAll line c) d m next r (names, h, k) = (names, same_act d _ h, k)
+    work_acts (Insert w task) d m next r (x, h, k) = (x, same_act d _ h, k)
+    work_acts (Register w key task) d m next r (x, h, k) = (x, same_act d _ h, k)
+    work_acts (Leave e) d m next r (h, k) = (by e.held h, k) where
+      by : (held : Option ListenerRef) → LeavesOff (NotesDeed {T = T} {W = W}) held None (Some d) → LeavesOff (Notes form) held on_nothing (on_wait_lists d)
+      by None h = absurd cc
+      by (Some held) (names, h) = (names, same_act d _ h)
+    work_acts (Lower side key) d m next r (n, h, k) = (n, same_act d _ h, k)
+    work_acts (Count side) d m next r (n, h, k) = (n, same_act d _ h, k)
+    work_acts (Load side making) d m next r (n, h, k) = (n, same_act d _ h, k)
+    work_acts (Raise side n making) d m next r (b, h, k) = (b, same_act d _ h, k)
 
     abbrev ActsSo : Standing T W → Stage (QueueCall T) T W → Deed T W → Stage (QueueCall T) T W → Option (Reply T) → Type 0
     ActsSo s at d next r =
@@ -98,7 +96,7 @@ module _ {T W : Type 0} where
     acts s (Finished kept) next d m r plain stands (e, i, j, k) = absurd cc
     acts s (Working w) next d m r plain stands h =
         let hold : CallsHoldTheirOwn T W = calls_hold_their_own T W in
-        let made : ChannelMakes (Notes form) (Working w) on_nothing (on_wait_lists d) m next r = work_acts w d m next r plain h in
+        let made : ChannelMakes (Notes form) (Working w) on_nothing (on_wait_lists d) m next r = work_acts w d m next r h in
         let left = hold.steps form (Working w) (on_wait_lists d) m next r made in
         let there = comes form s (Working w) next d stands.1 (m, r, h) in
         (

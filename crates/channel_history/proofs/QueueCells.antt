@@ -42,7 +42,7 @@ use Rattle.channel_calls.specs.declared.stage.Stage.{Stage}
 use Rattle.channel_calls.specs.declared.stage.Stage.TheVariants as stage
 use Rattle.channel_calls.specs.declared.stage.Stage.TheVariants.{Trying, Working}
 use Rattle.channel_steps.specs.every_run.Bridge.{on_queue, on_nothing, Notes}
-use Rattle.channel_history.specs.Cells.{StandsAt, Owns, Stands, own_after, Did}
+use Rattle.channel_history.specs.Cells.{StandsAt, Owns, Stands, May, own_after, Did}
 use Rattle.channel_history.specs.InHand.{IsOfKind, by_purpose, in_hand, in_hand_after, handles_at, handles_after, CallsHoldTheirOwn}
 use Rattle.channel_history.specs.Party.{with_own, Makes}
 use Rattle.channel_history.specs.QueueCells.{StandsWithin, calls, Operates, moves, MovesView, QueueCallsMove, QueueCallsAreDeeds}
@@ -51,7 +51,7 @@ use Rattle.channel_history.specs.declared.party.Belongings.{Belongings}
 use Rattle.channel_history.specs.declared.party.Standing.{Standing}
 use Rattle.channel_history.proofs.Acting.{staged, stepped_again, stepped_own, Comes, comes, acts_on, same_hand}
 use Rattle.channel_history.proofs.InHand.{calls_hold_their_own}
-use Rattle.channel_history.proofs.Stages.{one_call, trying_acts}
+use Rattle.channel_history.proofs.Stages.{one_call, steps_at, trying_acts}
 use Rattle.channel_history.proofs.Turns.{takes_some}
 
 module _ {T : Type 0} where
@@ -201,8 +201,14 @@ module _ {T W : Type 0} (form : QueueForm) where
         ap (λ (z : Standing T W). z.own) h.left ∙ stepped_own s h.next h.answer,
       )
 
+  allowed : (s : Standing T W) (call after : QueueCall T) (o : Option (QueueReply T)) → May form (queue_stepped call after o) s → (p : Purpose T W) × Stands form (Trying call p) s
+  allowed s call after o (at, next, stands, (m, r, makes)) =
+      let tries = steps_at at next call after o m r makes in
+      (tries.0, subst (λ (z : Stage (QueueCall T) T W). Stands form z s) tries.1 stands)
+
 pub queue_calls_move : (T W : Type 0) → QueueCallsMove T W
 queue_calls_move T W = record {
+  allowed = λ form s call after o may. allowed form s call after o may;
   within = λ form s call p stands. (p, begins_within form s call p stands);
   may = λ form s call next d reply within makes. may_move form s call next d reply within makes;
   led = λ form s t call d within move. led_on form s t call d within move;
