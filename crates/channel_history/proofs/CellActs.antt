@@ -1,5 +1,5 @@
 -- Sections on a list and operations on a count, by the view of the seat of their call.
-use Rattle.std.proofs.Common.{◌≡◌, ◌⊎◌, inl, inr, ⊎_elim, List, [], ◌∷◌, ◌++◌, refl, sym, ap, ◌∙◌, subst, append-nil}
+use Rattle.std.proofs.Common.{◌≡◌, inl, inr, ⊎_elim, List, [], ◌∷◌, ◌++◌, refl, sym, ap, ◌∙◌, subst, append-nil}
 use Rattle.std.specs.Prelude.{Option, None, Some}
 use Rattle.concurrent_queue.specs.declared.cells.QueueForm.{QueueForm}
 use Rattle.concurrent_queue.specs.declared.queue_call.QueueCall.{QueueCall}
@@ -16,13 +16,13 @@ use Rattle.channel_calls.specs.declared.stage.Side.{Side}
 use Rattle.channel_calls.specs.declared.stage.Stage.{Stage}
 use Rattle.channel_calls.specs.declared.stage.Stage.TheVariants.{Trying, Working, Finished}
 use Rattle.channel_calls.specs.declared.stage.WaitList.{WaitList}
-use Rattle.channel_steps.specs.every_run.Bridge.{Act, on_wait_lists, on_nothing, Notes}
+use Rattle.channel_steps.specs.every_run.Bridge.{on_wait_lists, on_nothing, Notes}
 use Rattle.channel_history.specs.Cells.{StandsAt, Stands, May, Completes, own_after, Did}
 use Rattle.channel_history.specs.InHand.{in_hand, in_hand_after, handles_at, handles_after, CallsHoldTheirOwn}
 use Rattle.channel_history.specs.Keeps.{LeavesHandles, LeavesListeners, Leaves}
 use Rattle.channel_history.specs.Party.{both, with_own}
 use Rattle.channel_history.specs.Party as party
-use Rattle.channel_history.specs.Sections.{just_list, holding, IsOnList, IsOnCount, Section, CountOperation, SectionsAct}
+use Rattle.channel_history.specs.Sections.{just_list, holding, IsOnList, IsOnCount, CountOperation, SectionsAct}
 use Rattle.channel_history.specs.Steps.{stepped}
 use Rattle.channel_history.specs.declared.party.Belongings.{Belongings}
 use Rattle.channel_history.specs.declared.party.Standing.{Standing}
@@ -98,10 +98,9 @@ module _ {T W : Type 0} where
         let hold : CallsHoldTheirOwn T W = calls_hold_their_own T W in
         let made : ChannelMakes (Notes form) (Working w) on_nothing (on_wait_lists d) m next r = work_acts w d m next r h in
         let left = hold.steps form (Working w) (on_wait_lists d) m next r made in
-        let there = comes form s (Working w) next d stands.1 (m, r, h) in
-        (
+        let there = comes form s (Working w) next d stands.1 (m, r, h) in (
           acts_on form s there.0 next (on_wait_lists d) m r there.2
-          (subst (λ (z : Stage (QueueCall T) T W). ChannelMakes (Notes form) z on_nothing (on_wait_lists d) m next r) (sym (shown_work there.0 w there.1)) made),
+              (subst (λ (z : Stage (QueueCall T) T W). ChannelMakes (Notes form) z on_nothing (on_wait_lists d) m next r) (sym (shown_work there.0 w there.1)) made),
           subst (λ (z : List Side). LeavesHandles d z (handles_after (Working w) next r)) (sym (has stands.1).1) left.1,
           subst (λ (z : List ListenerRef). LeavesListeners d z (in_hand_after next r)) (sym (has stands.1).0) (⊎_elim (λ l. l) (λ lost. absurd lost) left.0),
         )
