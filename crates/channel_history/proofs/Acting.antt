@@ -1,5 +1,5 @@
 -- What a call does next by the view of its seat is its party's next act, at once or after the step by which it takes its room.
-use Rattle.std.proofs.Common.{◌≡◌, ◌⊎◌, inl, inr, ⊎_elim, ℕ, suc, [], refl, sym, ap, ◌∙◌, subst}
+use Rattle.std.proofs.Common.{◌≡◌, ◌⊎◌, inl, inr, ℕ, suc, refl, sym, ap, ◌∙◌}
 use Rattle.std.specs.Prelude.{Option, None, Some}
 use Rattle.concurrent_queue.specs.Bridge.{asking}
 use Rattle.concurrent_queue.specs.declared.call.QueueAsk.TheVariants.{Pop}

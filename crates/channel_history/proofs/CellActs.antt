@@ -1,5 +1,5 @@
 -- Sections on a list and operations on a count, by the view of the seat of their call.
-use Rattle.std.proofs.Common.{◌≡◌, ◌⊎◌, inl, inr, ⊎_elim, List, [], ◌∷◌, ◌++◌, refl, sym, ap, ◌∙◌, subst, append-nil}
+use Rattle.std.proofs.Common.{◌≡◌, inl, inr, ⊎_elim, List, [], ◌∷◌, ◌++◌, refl, sym, ap, ◌∙◌, subst, append-nil}
 use Rattle.std.specs.Prelude.{Option, None, Some}
 use Rattle.concurrent_queue.specs.declared.cells.QueueForm.{QueueForm}
 use Rattle.concurrent_queue.specs.declared.queue_call.QueueCall.{QueueCall}
@@ -16,13 +16,13 @@ use Rattle.channel_calls.specs.declared.stage.Side.{Side}
 use Rattle.channel_calls.specs.declared.stage.Stage.{Stage}
 use Rattle.channel_calls.specs.declared.stage.Stage.TheVariants.{Trying, Working, Finished}
 use Rattle.channel_calls.specs.declared.stage.WaitList.{WaitList}
-use Rattle.channel_steps.specs.every_run.Bridge.{Act, on_wait_lists, on_nothing, Notes}
+use Rattle.channel_steps.specs.every_run.Bridge.{on_wait_lists, on_nothing, Notes}
 use Rattle.channel_history.specs.Cells.{StandsAt, Stands, May, Completes, own_after, Did}
 use Rattle.channel_history.specs.InHand.{in_hand, in_hand_after, handles_at, handles_after, CallsHoldTheirOwn}
 use Rattle.channel_history.specs.Keeps.{LeavesHandles, LeavesListeners, Leaves}
 use Rattle.channel_history.specs.Party.{both, with_own}
 use Rattle.channel_history.specs.Party as party
-use Rattle.channel_history.specs.Sections.{just_list, holding, IsOnList, IsOnCount, Section, CountOperation, SectionsAct}
+use Rattle.channel_history.specs.Sections.{just_list, holding, IsOnList, IsOnCount, CountOperation, SectionsAct}
 use Rattle.channel_history.specs.Steps.{stepped}
 use Rattle.channel_history.specs.declared.party.Belongings.{Belongings}
 use Rattle.channel_history.specs.declared.party.Standing.{Standing}
@@ -63,31 +63,29 @@ module _ {T W : Type 0} where
 
     -- ---- as an act of its party
 
-    noted : (d e : Deed T W) → Some d ≡ Some e → IsNoStep d → Notes form e on_nothing (on_wait_lists d)
-    noted d e h plain = by e (same_deed d e h) where
-      by : (x : Deed T W) → d ≡ x → Notes form x on_nothing (on_wait_lists d)
-      by (queue_stepped call after o) is = absurd (subst (λ (z : Deed T W). IsNoStep z) is plain)
-      by x is = ap (λ (z : Deed T W). on_wait_lists z) is
+    abbrev Acted : ListStep T W → Deed T W → Mark → Stage (QueueCall T) T W → Option (Reply T) → Type 0
+    Acted w d m next r = WorkMakes (Notes form) w on_nothing (on_wait_lists d) m next r
 
-    leaves_off : (held : Option ListenerRef) (d : Deed T W) → IsNoStep d → LeavesOff (NotesDeed {T = T} {W = W}) held None (Some d) → LeavesOff (Notes form) held on_nothing (on_wait_lists d)
-    leaves_off None d plain h = absurd cc
-    leaves_off (Some held) d plain (names, h) = (names, noted d _ h plain)
+    same_act : (d e : Deed T W) → Some d ≡ Some e → on_wait_lists d ≡ on_wait_lists e
+    same_act d e h = ap (λ (z : Deed T W). on_wait_lists z) (same_deed d e h)
 
-    work_acts : (w : ListStep T W) (d : Deed T W) (m : Mark) (next : Stage (QueueCall T) T W) (r : Option (Reply T)) → IsNoStep d → WorkMakes NotesDeed w None (Some d) m next r
-        → WorkMakes (Notes form) w on_nothing (on_wait_lists d) m next r
-    work_acts (TellReceive e) d m next r plain (names, h, k) = (names, noted d _ h plain, k)
-    work_acts (TellStreams e) d m next r plain (names, h, k) = (names, noted d _ h plain, k)
-    work_acts (TellSend e) d m next r plain (names, h, k) = (names, noted d _ h plain, k)
-    work_acts (TellSends n e) d m next r plain (names, h, k) = (names, noted d _ h plain, k)
-    work_acts (TakeRoom n) d m next r plain (turn, h, room, k) = absurd cc
-    work_acts (TellAll line c) d m next r plain (names, h, k) = (names, noted d _ h plain, k)
-    work_acts (Insert w task) d m next r plain (x, h, k) = (x, noted d _ h plain, k)
-    work_acts (Register w key task) d m next r plain (x, h, k) = (x, noted d _ h plain, k)
-    work_acts (Leave e) d m next r plain (h, k) = (leaves_off e.held d plain h, k)
-    work_acts (Lower side key) d m next r plain (n, h, k) = (n, noted d _ h plain, k)
-    work_acts (Count side) d m next r plain (n, h, k) = (n, noted d _ h plain, k)
-    work_acts (Load side making) d m next r plain (n, h, k) = (n, noted d _ h plain, k)
-    work_acts (Raise side n making) d m next r plain (b, h, k) = (b, noted d _ h plain, k)
+    work_acts : (w : ListStep T W) (d : Deed T W) (m : Mark) (next : Stage (QueueCall T) T W) (r : Option (Reply T)) → WorkMakes NotesDeed w None (Some d) m next r → Acted w d m next r
+    work_acts (TellReceive e) d m next r (names, h, k) = (names, same_act d _ h, k)
+    work_acts (TellStreams e) d m next r (names, h, k) = (names, same_act d _ h, k)
+    work_acts (TellSend e) d m next r (names, h, k) = (names, same_act d _ h, k)
+    work_acts (TellSends n e) d m next r (names, h, k) = (names, same_act d _ h, k)
+    work_acts (TakeRoom n) d m next r (turn, h, room, k) = absurd cc
+    work_acts (TellAll line c) d m next r (names, h, k) = (names, same_act d _ h, k)
+    work_acts (Insert w task) d m next r (x, h, k) = (x, same_act d _ h, k)
+    work_acts (Register w key task) d m next r (x, h, k) = (x, same_act d _ h, k)
+    work_acts (Leave e) d m next r (h, k) = (by e.held h, k) where
+      by : (held : Option ListenerRef) → LeavesOff (NotesDeed {T = T} {W = W}) held None (Some d) → LeavesOff (Notes form) held on_nothing (on_wait_lists d)
+      by None h = absurd cc
+      by (Some held) (names, h) = (names, same_act d _ h)
+    work_acts (Lower side key) d m next r (n, h, k) = (n, same_act d _ h, k)
+    work_acts (Count side) d m next r (n, h, k) = (n, same_act d _ h, k)
+    work_acts (Load side making) d m next r (n, h, k) = (n, same_act d _ h, k)
+    work_acts (Raise side n making) d m next r (b, h, k) = (b, same_act d _ h, k)
 
     abbrev ActsSo : Standing T W → Stage (QueueCall T) T W → Deed T W → Stage (QueueCall T) T W → Option (Reply T) → Type 0
     ActsSo s at d next r =
@@ -98,12 +96,11 @@ module _ {T W : Type 0} where
     acts s (Finished kept) next d m r plain stands (e, i, j, k) = absurd cc
     acts s (Working w) next d m r plain stands h =
         let hold : CallsHoldTheirOwn T W = calls_hold_their_own T W in
-        let made : ChannelMakes (Notes form) (Working w) on_nothing (on_wait_lists d) m next r = work_acts w d m next r plain h in
+        let made : ChannelMakes (Notes form) (Working w) on_nothing (on_wait_lists d) m next r = work_acts w d m next r h in
         let left = hold.steps form (Working w) (on_wait_lists d) m next r made in
-        let there = comes form s (Working w) next d stands.1 (m, r, h) in
-        (
+        let there = comes form s (Working w) next d stands.1 (m, r, h) in (
           acts_on form s there.0 next (on_wait_lists d) m r there.2
-          (subst (λ (z : Stage (QueueCall T) T W). ChannelMakes (Notes form) z on_nothing (on_wait_lists d) m next r) (sym (shown_work there.0 w there.1)) made),
+              (subst (λ (z : Stage (QueueCall T) T W). ChannelMakes (Notes form) z on_nothing (on_wait_lists d) m next r) (sym (shown_work there.0 w there.1)) made),
           subst (λ (z : List Side). LeavesHandles d z (handles_after (Working w) next r)) (sym (has stands.1).1) left.1,
           subst (λ (z : List ListenerRef). LeavesListeners d z (in_hand_after next r)) (sym (has stands.1).0) (⊎_elim (λ l. l) (λ lost. absurd lost) left.0),
         )

@@ -1,27 +1,27 @@
 -- Cells that go by the view of a seat keep what `ChannelCells` asks.
-use Rattle.std.proofs.Common.{◌≡◌, ◌⊎◌, inl, inr, ⊎_elim, [], refl, sym, ap, ◌∙◌, subst}
-use Rattle.std.specs.Prelude.{true, false, Option, None, Some}
+use Rattle.std.proofs.Common.{◌≡◌, inl, inr, ⊎_elim, refl, sym, ap, ◌∙◌, subst}
+use Rattle.std.specs.Prelude.{Option, None, Some}
 use Rattle.concurrent_queue.specs.declared.call.QueueReply.{QueueReply}
 use Rattle.concurrent_queue.specs.declared.cells.QueueForm.{QueueForm}
 use Rattle.concurrent_queue.specs.declared.queue_call.QueueCall.{QueueCall}
 use Rattle.channel_calls.specs.Answered.{answered_next}
 use Rattle.channel_calls.specs.Deeds.{Deed, stepped as queue_stepped}
-use Rattle.channel_calls.specs.Stands.{NotesDeed, NoDeed, MayGoOn, GoesOn, StaysOn}
+use Rattle.channel_calls.specs.Stands.{NoDeed, MayGoOn, GoesOn, StaysOn}
 use Rattle.channel_calls.specs.Tracked.{unmarked}
-use Rattle.channel_calls.specs.Walks.{Heard, WorkMakes}
+use Rattle.channel_calls.specs.Walks.{Heard}
 use Rattle.channel_calls.specs.declared.mark.Mark.{Mark}
 use Rattle.channel_calls.specs.declared.reply.Reply.{Reply}
 use Rattle.channel_calls.specs.declared.stage.ListStep.{ListStep}
 use Rattle.channel_calls.specs.declared.stage.ListStep.TheVariants.{Raise}
 use Rattle.channel_calls.specs.declared.stage.Stage.{Stage}
 use Rattle.channel_calls.specs.declared.stage.Stage.TheVariants.{Trying, Working, Finished}
-use Rattle.channel_history.specs.Cells.{HasEnded, MayStand, StandsAt, Owns, Sound, Stands, May, Completes, own_after, Did, ViewsKeepWhatCellsAsk}
+use Rattle.channel_history.specs.Cells.{HasEnded, StandsAt, Owns, Sound, Stands, May, Completes, own_after, Did, ViewsKeepWhatCellsAsk}
 use Rattle.channel_history.specs.InHand.{in_hand, handles_at, handles_after}
 use Rattle.channel_history.specs.Party.{with_own}
 use Rattle.channel_history.specs.Steps.{stepped}
 use Rattle.channel_history.specs.WholeCalls.{wanted}
 use Rattle.channel_history.specs.declared.party.Standing.{Standing}
-use Rattle.channel_history.proofs.Stages.{Alike, Makes, same_step, rested, in_room_acts, ended_rests, shown_work, one_stage, answered_end}
+use Rattle.channel_history.proofs.Stages.{Makes, same_step, rested, in_room_acts, ended_rests, shown_work, one_stage, answered_end}
 use Rattle.channel_history.proofs.Turns.{sound_taken, answered_on, WorkTurns, work_turns}
 
 module _ {T W : Type 0} (form : QueueForm) where

@@ -26,32 +26,30 @@ use Rattle.concurrent_queue.specs.declared.queue_call.QueueCall.{QueueCall}
 use Rattle.concurrent_queue.specs.declared.single.SingleAction.{SingleAction}
 use Rattle.concurrent_queue.specs.declared.single.SingleAction.TheVariants as single
 use Rattle.concurrent_queue.specs.history.Calls.{on_cell, HasNoBlocks, AsksCells, refused_stays, still_none}
-use Rattle.concurrent_queue.specs.history.OnCells.{IsOnCell, IsRefused}
+use Rattle.concurrent_queue.specs.history.OnCells.{IsRefused}
 use Rattle.concurrent_queue.specs.history.StepTypes.{SingleStep, RingStep, CallStep}
 use Rattle.concurrent_queue.proofs.Noted.{note_state}
 use Rattle.channel_calls.specs.Answered.{answered_next}
 use Rattle.channel_calls.specs.Deeds.{stepped as queue_stepped}
 use Rattle.channel_calls.specs.Marks.{mark_of_queue}
-use Rattle.channel_calls.specs.Stands.{NextDeed}
 use Rattle.channel_calls.specs.Tracked.{at_state, unmarked}
 use Rattle.channel_calls.specs.Walks.{Takes, Heard, ChannelMakes}
 use Rattle.channel_calls.specs.declared.reply.Reply.{Reply}
 use Rattle.channel_calls.specs.declared.stage.Purpose.{Purpose}
-use Rattle.channel_calls.specs.declared.stage.Side.{Side}
 use Rattle.channel_calls.specs.declared.stage.Stage.{Stage}
 use Rattle.channel_calls.specs.declared.stage.Stage.TheVariants as stage
 use Rattle.channel_calls.specs.declared.stage.Stage.TheVariants.{Trying, Working}
 use Rattle.channel_steps.specs.every_run.Bridge.{on_queue, on_nothing, Notes}
-use Rattle.channel_history.specs.Cells.{StandsAt, Owns, Stands, own_after, Did}
+use Rattle.channel_history.specs.Cells.{StandsAt, Owns, Stands, May, own_after, Did}
 use Rattle.channel_history.specs.InHand.{IsOfKind, by_purpose, in_hand, in_hand_after, handles_at, handles_after, CallsHoldTheirOwn}
 use Rattle.channel_history.specs.Party.{with_own, Makes}
 use Rattle.channel_history.specs.QueueCells.{StandsWithin, calls, Operates, moves, MovesView, QueueCallsMove, QueueCallsAreDeeds}
 use Rattle.channel_history.specs.Steps.{stepped}
 use Rattle.channel_history.specs.declared.party.Belongings.{Belongings}
 use Rattle.channel_history.specs.declared.party.Standing.{Standing}
-use Rattle.channel_history.proofs.Acting.{staged, stepped_again, stepped_own, Comes, comes, acts_on, same_hand}
+use Rattle.channel_history.proofs.Acting.{staged, stepped_again, stepped_own, comes, acts_on, same_hand}
 use Rattle.channel_history.proofs.InHand.{calls_hold_their_own}
-use Rattle.channel_history.proofs.Stages.{one_call, trying_acts}
+use Rattle.channel_history.proofs.Stages.{one_call, steps_at, trying_acts}
 use Rattle.channel_history.proofs.Turns.{takes_some}
 
 module _ {T : Type 0} where
@@ -152,9 +150,12 @@ module _ {T W : Type 0} (form : QueueForm) where
       (has.0 ∙ hand.0, has.1 ∙ hand.1)
 
   owns_staged : (s : Standing T W) (after : QueueCall T) (p : Purpose T W) → s.own.lists ≡ [] → (s.own.listeners ≡ by_purpose p) × (s.own.handles ≡ []) → Owns (staged s (Trying after p))
-  owns_staged s after p none has = (none, λ shown e.
-      let same : Trying after p ≡ shown = cc in
-      (has.0 ∙ ap (λ (z : Stage (QueueCall T) T W). in_hand z) same, has.1 ∙ ap (λ (z : Stage (QueueCall T) T W). handles_at z) same))
+  owns_staged s after p none has = (
+    none,
+    λ shown e.
+        let same : Trying after p ≡ shown = cc in
+        (has.0 ∙ ap (λ (z : Stage (QueueCall T) T W). in_hand z) same, has.1 ∙ ap (λ (z : Stage (QueueCall T) T W). handles_at z) same),
+  )
 
   goes_within : (s t : Standing T W) (call : QueueCall T) (p : Purpose T W) (d : cell.Deed T) → StandsWithin form call p s → (h : Operates form d s t) → h.reply ≡ None
       → StandsWithin form h.after p t × (t ≡ staged s (Trying h.after p))
@@ -165,8 +166,7 @@ module _ {T W : Type 0} (form : QueueForm) where
       h.left ∙ (ap (λ (z : Option (Reply T)). stepped s h.next z) heard.1 ∙ ap (λ (z : Stage (QueueCall T) T W). staged s z) heard.0) in
       let acts = at_standing cell.Notes form call.state None (Some d) (next_of h.after h.reply) by.0 in
       let left : HasNoBlocks (h.after).state = still_none form (standing form call.state) d (next_of h.after h.reply) within.2 acts in
-      let owns = within.1 in
-      (
+      let owns = within.1 in (
         subst (λ (z : Standing T W). StandsWithin form h.after p z) (sym is) (
           inr (Trying h.after p, refl, inl refl),
           owns_staged s h.after p owns.0 (hands s call p within),
@@ -193,16 +193,21 @@ module _ {T W : Type 0} (form : QueueForm) where
       let there = comes form s (Trying h.call h.purpose) (Trying h.call h.purpose) (queue_stepped h.call h.call None) (h.stands).0 (trying_acts h.call h.purpose) in
       let here = at_purpose h.call h.purpose there.0 there.1 in
       let made : CallMakes cell.Notes form None here.0 (Some d) h.after h.reply = subst (λ (z : CallState T). StateMakes cell.Notes form None z (Some d) (next_of h.after h.reply)) (sym here.2) h.makes in
-      let makes : ChannelMakes (Notes form) (Trying here.0 h.purpose) on_nothing (on_queue (Some d)) (mark_of_queue (mark_of h.after)) h.next h.answer = (h.after, h.reply, (Some d, made, refl), refl, h.heard) in
-      (
+      let makes : ChannelMakes (Notes form) (Trying here.0 h.purpose) on_nothing (on_queue (Some d)) (mark_of_queue (mark_of h.after)) h.next h.answer = (h.after, h.reply, (Some d, made, refl), refl, h.heard) in (
         subst (λ (z : Standing T W). Makes form s (on_queue (Some d)) z) (sym h.left)
-        (acts_on form s there.0 h.next (on_queue (Some d)) (mark_of_queue (mark_of h.after)) h.answer there.2
-        (subst (λ (z : Stage (QueueCall T) T W). ChannelMakes (Notes form) z on_nothing (on_queue (Some d)) (mark_of_queue (mark_of h.after)) h.next h.answer) (sym here.1) makes)),
+            (acts_on form s there.0 h.next (on_queue (Some d)) (mark_of_queue (mark_of h.after)) h.answer there.2
+            (subst (λ (z : Stage (QueueCall T) T W). ChannelMakes (Notes form) z on_nothing (on_queue (Some d)) (mark_of_queue (mark_of h.after)) h.next h.answer) (sym here.1) makes)),
         ap (λ (z : Standing T W). z.own) h.left ∙ stepped_own s h.next h.answer,
       )
 
+  allowed : (s : Standing T W) (call after : QueueCall T) (o : Option (QueueReply T)) → May form (queue_stepped call after o) s → (p : Purpose T W) × Stands form (Trying call p) s
+  allowed s call after o (at, next, stands, (m, r, makes)) =
+      let tries = steps_at at next call after o m r makes in
+      (tries.0, subst (λ (z : Stage (QueueCall T) T W). Stands form z s) tries.1 stands)
+
 pub queue_calls_move : (T W : Type 0) → QueueCallsMove T W
 queue_calls_move T W = record {
+  allowed = λ form s call after o may. allowed form s call after o may;
   within = λ form s call p stands. (p, begins_within form s call p stands);
   may = λ form s call next d reply within makes. may_move form s call next d reply within makes;
   led = λ form s t call d within move. led_on form s t call d within move;
@@ -362,9 +367,9 @@ module _ {T W C : Type 0} (form : QueueForm) (of : C → Standing T W) (Good : C
 
       start : AtWalk first (standing form call.state)
       start = let v = shown stands.1 in (call, begins_within form (of first) call p stands, refl, v.0, v.1) where
-          shown : StandsAt (of first) (Trying call p) → (v : Stage (QueueCall T) T W) × (of first ≡ staged (of first) v)
-          shown (inl (kept, e)) = absurd cc
-          shown (inr (v, is, k)) = (v, restaged (of first) v is)
+        shown : StandsAt (of first) (Trying call p) → (v : Stage (QueueCall T) T W) × (of first ≡ staged (of first) v)
+        shown (inl (kept, e)) = absurd cc
+        shown (inr (v, is, k)) = (v, restaged (of first) v is)
 
 pub queue_calls_are_deeds : (T W C : Type 0) → QueueCallsAreDeeds T W C
 queue_calls_are_deeds T W C form of call after p x a b stands may walked = (queue_call_done form of (λ z. Unit {0}) (λ d c e. MovesView form of d c e) (λ d c e good h. (h, tt)) a p call after x b tt stands may walked).0

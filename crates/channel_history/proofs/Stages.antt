@@ -194,6 +194,31 @@ module _ {T W : Type 0} where
       let same : u ≡ v = cc in
       one_place v at to a b d e (seen v at stands) (seen v to (subst (λ (z : Stage (QueueCall T) T W). MayStand z to) same stand)) h g
 
+  no_step : (w : ListStep T W) (next : Stage (QueueCall T) T W) (call after : QueueCall T) (o : Option (QueueReply T)) (m : Mark) (r : Option (Reply T)) → WorkMakes NotesDeed w None (Some (queue_stepped call after o)) m next r → ⊥
+  no_step (TellReceive e) next call after o m r (names, h, k) = cc
+  no_step (TellStreams e) next call after o m r (names, h, k) = cc
+  no_step (TellSend e) next call after o m r (names, h, k) = cc
+  no_step (TellSends n e) next call after o m r (names, h, k) = cc
+  no_step (TakeRoom n) next call after o m r (turn, h, room, k) = cc
+  no_step (TellAll line c) next call after o m r (names, h, k) = cc
+  no_step (Insert w task) next call after o m r (x, h, k) = cc
+  no_step (Register w key task) next call after o m r (x, h, k) = cc
+  no_step (Leave e) next call after o m r (h, k) = by e.held h where
+    by : (held : Option ListenerRef) → Leaves (NotesDeed {T = T} {W = W}) held None (Some (queue_stepped call after o)) → ⊥
+    by None h = cc
+    by (Some held) (names, h) = cc
+  no_step (Lower side key) next call after o m r (n, h, k) = cc
+  no_step (Count side) next call after o m r (n, h, k) = cc
+  no_step (Load side making) next call after o m r (n, h, k) = cc
+  no_step (Raise side n making) next call after o m r (b, h, k) = cc
+
+  -- only who tries does a step of the queue's call
+  pub steps_at : (at next : Stage (QueueCall T) T W) (call after : QueueCall T) (o : Option (QueueReply T)) (m : Mark) (r : Option (Reply T)) → Makes at (Some (queue_stepped call after o)) m next r
+      → (p : Purpose T W) × (at ≡ Trying call p)
+  steps_at (Trying other p) next call after o m r (then, x, e, k, h) = let same : other ≡ call = cc in (p, ap (λ (z : QueueCall T). Trying z p) same)
+  steps_at (Working w) next call after o m r h = absurd (no_step w next call after o m r h)
+  steps_at (Finished kept) next call after o m r (e, i, j, k) = absurd cc
+
   pub trying_acts : (call : QueueCall T) (p : Purpose T W) → NextDeed (Trying call p) (queue_stepped call call None) (Trying call p)
   trying_acts call p = (mark_of_queue (mark_of call), None, (call, None, refl, refl, (refl, refl)))
 

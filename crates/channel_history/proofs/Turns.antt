@@ -3,7 +3,6 @@ use Rattle.std.proofs.Common.{◌≡◌, ◌≢◌, ◌⊎◌, inl, inr, ℕ, ze
 use Rattle.std.specs.Prelude.{Option, None, Some, Result, Ok, Err}
 use Rattle.concurrent_queue.specs.Bridge.{asking}
 use Rattle.concurrent_queue.specs.Replies.{MayAnswer, MayCall}
-use Rattle.concurrent_queue.specs.declared.call.QueueAsk.{QueueAsk}
 use Rattle.concurrent_queue.specs.declared.call.QueueAsk.TheVariants as queue_ask
 use Rattle.concurrent_queue.specs.declared.call.QueueMark.TheVariants.{Nothing}
 use Rattle.concurrent_queue.specs.declared.call.QueueReply.{QueueReply}
@@ -23,7 +22,7 @@ use Rattle.channel_calls.specs.Asks.{first, asks_listener, begins}
 use Rattle.channel_calls.specs.Deeds.{Deed}
 use Rattle.channel_calls.specs.Several.{Gathered, with_one}
 use Rattle.channel_calls.specs.Stands.{NotesDeed}
-use Rattle.channel_calls.specs.Turns.{most, leaving, nothing_kept, dropper, closer_ending, ends_by, refused_next, told_all_next, TakesRoom, room_next, lowered_next, counted_next, loaded_next, inserted_next, registered_next, answer_of, line_of, ask_of, again}
+use Rattle.channel_calls.specs.Turns.{most, leaving, nothing_kept, dropper, closer_ending, ends_by, refused_next, told_all_next, TakesRoom, room_next, lowered_next, counted_next, loaded_next, inserted_next, registered_next, answer_of, again}
 use Rattle.channel_calls.specs.Walks.{Takes, WorkMakes}
 use Rattle.channel_calls.specs.declared.ask.ChannelAsk.{ChannelAsk}
 use Rattle.channel_calls.specs.declared.ask.ChannelAsk.TheVariants as ask
@@ -52,7 +51,7 @@ use Rattle.channel_calls.specs.declared.stage.WaitList.TheVariants.{Sends, Recei
 use Rattle.channel_calls.specs.declared.stage.Waiting.{Waiting}
 use Rattle.channel_calls.specs.declared.stage.Waiting.TheVariants as waiting
 use Rattle.channel_history.specs.Cells.{Sound}
-use Rattle.channel_history.specs.InHand.{IsOfKind, handles_next}
+use Rattle.channel_history.specs.InHand.{IsOfKind}
 use Rattle.channel_history.specs.WholeCalls.{stage_of, handle_wanted, wanted_by, wanted_at, wanted, if_made}
 
 none_made : {T : Type 0} → (r : Reply T) → if_made r [] ≡ []

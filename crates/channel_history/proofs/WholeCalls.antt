@@ -1,5 +1,5 @@
 -- A call from its beginning to its end, by the view of its seat.
-use Rattle.std.proofs.Common.{◌≡◌, ◌⊎◌, inl, inr, ⊎_elim, ℕ, zero, suc, true, List, [], ◌∷◌, ◌++◌, refl, sym, ap, ◌∙◌, subst}
+use Rattle.std.proofs.Common.{◌≡◌, inl, inr, ⊎_elim, ℕ, zero, suc, List, [], ◌∷◌, ◌++◌, refl, sym, ap, ◌∙◌, subst}
 use Rattle.std.specs.Prelude.{Option, None, Some}
 use Rattle.concurrent_queue.specs.declared.call.QueueReply.{QueueReply}
 use Rattle.concurrent_queue.specs.declared.cells.QueueForm.{QueueForm}
@@ -7,7 +7,7 @@ use Rattle.concurrent_queue.specs.declared.queue_call.QueueCall.{QueueCall}
 use Rattle.channel_calls.specs.Answered.{answered_next}
 use Rattle.channel_calls.specs.Asks.{first, kept_by}
 use Rattle.channel_calls.specs.Deeds.{Deed, Done}
-use Rattle.channel_calls.specs.Stands.{NotesDeed, BeginsHere}
+use Rattle.channel_calls.specs.Stands.{NotesDeed}
 use Rattle.channel_calls.specs.Tracked.{unmarked}
 use Rattle.channel_calls.specs.Walks.{Takes, Heard, WorkMakes, ChannelMakes, Walked, WalkedFrom}
 use Rattle.channel_calls.specs.Walks as walks
@@ -26,15 +26,15 @@ use Rattle.channel_calls.specs.declared.stage.Stage.{Stage}
 use Rattle.channel_calls.specs.declared.stage.Stage.TheVariants.{Trying, Working, Finished}
 use Rattle.channel_calls.specs.declared.whole.Completed.{Completed}
 use Rattle.channel_steps.specs.every_run.Bridge.{on_nothing, Notes}
-use Rattle.channel_history.specs.Cells.{HasEnded, MayStand, StandsAt, Stands, own_after, Did, ViewsKeepWhatCellsAsk}
-use Rattle.channel_history.specs.InHand.{in_hand, in_hand_after, handles_at, handles_next, handles_made, handles_after, kept_on, CallsHoldTheirOwn}
+use Rattle.channel_history.specs.Cells.{HasEnded, StandsAt, own_after, Did, ViewsKeepWhatCellsAsk}
+use Rattle.channel_history.specs.InHand.{in_hand, handles_at, handles_made, handles_after, kept_on, CallsHoldTheirOwn}
 use Rattle.channel_history.specs.Party.{with_own}
-use Rattle.channel_history.specs.Steps.{stepped, Steps, PartiesGoOn}
+use Rattle.channel_history.specs.Steps.{stepped, PartiesGoOn}
 use Rattle.channel_history.specs.WholeCalls.{stage_of, MayAsk, asked_by, BeginsSo, handle_wanted, wanted, if_made, HasAnswered, HasAsked, CallsGoByTheirViews}
 use Rattle.channel_history.specs.declared.party.Standing.{Standing}
 use Rattle.channel_history.proofs.Cells.{views_keep_what_cells_ask, CellsDid}
 use Rattle.channel_history.proofs.InHand.{calls_hold_their_own}
-use Rattle.channel_history.proofs.Stages.{Makes, Alike, same_taken, same_step, step_noted, rested, in_room_acts, shown_work, one_stage, kept_alike}
+use Rattle.channel_history.proofs.Stages.{Makes, same_taken, same_step, step_noted, rested, in_room_acts, shown_work, one_stage, kept_alike}
 use Rattle.channel_history.proofs.Steps.{parties_go_on}
 use Rattle.channel_history.proofs.Turns.{WantsOn, sound_taken, wants_taken, takes_on, answered_on, first_on, WorkTurns, work_turns}
 
@@ -121,9 +121,12 @@ module _ {T W : Type 0} (form : QueueForm) where
         stands = λ other turn. (
           may.bounded,
           inr (at, refl, inl (same_taken (first a) at other None None takes turn).0),
-          (may.lists, λ shown e.
-              let same : at ≡ shown = cc in
-              ((may.listeners ∙ sym own.0) ∙ ap (λ (z : Stage (QueueCall T) T W). in_hand z) same, (may.handles ∙ sym own.1) ∙ ap (λ (z : Stage (QueueCall T) T W). handles_at z) same)),
+          (
+            may.lists,
+            λ shown e.
+                let same : at ≡ shown = cc in
+                ((may.listeners ∙ sym own.0) ∙ ap (λ (z : Stage (QueueCall T) T W). in_hand z) same, (may.handles ∙ sym own.1) ∙ ap (λ (z : Stage (QueueCall T) T W). handles_at z) same),
+          ),
           sound_taken T W form (handle_wanted a) (first a) other None turns.0 turn,
         );
       }

@@ -17,7 +17,7 @@ use Rattle.channel_calls.specs.declared.stage.Purpose.{Purpose}
 use Rattle.channel_calls.specs.declared.stage.Stage.{Stage}
 use Rattle.channel_calls.specs.declared.stage.Stage.TheVariants.{Trying}
 use Rattle.channel_steps.specs.every_run.Bridge.{on_queue}
-use Rattle.channel_history.specs.Cells.{StandsAt, Owns, Stands, Did}
+use Rattle.channel_history.specs.Cells.{StandsAt, Owns, Stands, May, Did}
 use Rattle.channel_history.specs.Party.{Makes}
 use Rattle.channel_history.specs.Steps.{stepped}
 use Rattle.channel_history.specs.declared.party.Standing.{Standing}
@@ -49,8 +49,11 @@ module _ {T W : Type 0} where
   moves form s (does (Some d)) t = Operates form d s t
   moves form s e t = ⊥
 
--- what a call of the queue makes next may be made, and leads it on; and it is the next act of its party
+-- where a step of the queue's call may be done, the call of the channel stands within it; what it makes next may be made, and leads it
+-- on; and that is the next act of its party
 pub record QueueCallsMove (T W : Type 0) : Type 0 where
+  pub allowed : (form : QueueForm) (s : Standing T W) (call after : QueueCall T) (o : Option (QueueReply T)) → May form (queue_stepped call after o) s
+      → (purpose : Purpose T W) × Stands form (Trying call purpose) s
   pub within : (form : QueueForm) (s : Standing T W) (call : QueueCall T) (purpose : Purpose T W) → Stands form (Trying call purpose) s → calls form s call
   pub may : (form : QueueForm) (s : Standing T W) (call next : QueueCall T) (d : cell.Deed T) (reply : Option (QueueReply T))
       → calls form s call → CallMakes cell.Notes form None call (Some d) next reply → (t : Standing T W) × moves form s (does (Some d)) t

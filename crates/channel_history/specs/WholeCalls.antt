@@ -1,5 +1,5 @@
 -- A call of a channel from its beginning to its end, over cells that go by the view of its seat.
-use Rattle.std.specs.Prelude.{◌≡◌, ◌≢◌, ℕ, true, List, [], ◌∷◌, ◌++◌, None, Some}
+use Rattle.std.specs.Prelude.{◌≡◌, ◌≢◌, ℕ, true, List, [], ◌∷◌, ◌++◌, None}
 use Rattle.concurrent_queue.specs.Bridge.{asking}
 use Rattle.concurrent_queue.specs.Replies.{is_bounded}
 use Rattle.concurrent_queue.specs.declared.cells.QueueForm.{QueueForm}
@@ -64,7 +64,6 @@ module _ {T W : Type 0} where
   handle_wanted (ask.CloneHandle side) = side ∷ []
   handle_wanted (ask.Upgrade side) = side ∷ []
   handle_wanted a = []
-
 
   -- and that a call at this stage is still to make
   abbrev pub wanted_by : Purpose T W → List Side
