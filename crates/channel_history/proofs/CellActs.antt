@@ -143,5 +143,5 @@ sections_act T W = record {
   count_goes = λ form d s on may. let h = goes form d s (on_count d on) may in (h.0, (on, h.1));
   count_acts = λ form d s t h. count_acts form d s t h;
   taken_in = λ line l s none. taken_in line l s none;
-  put_back = λ form line k d s t h. ap (λ (z : Standing T W). z.own) (sym (taken_in line k t (no_lists form d s t h.1)));
+  put_back = λ form line k d s t h. (ap (λ (z : Standing T W). z.own) (sym (taken_in line k t (no_lists form d s t h.1))), refl);
 }

@@ -54,4 +54,4 @@ pub record SectionsAct (T W : Type 0) : Type 0 where
   -- the list joins the seat of the call before the section, and leaves it after
   pub taken_in : (line : WaitList) (l : ListView Unit W) (s : Standing T W) → s.own.lists ≡ [] → with_own (both s.own (just_list line l)) s ≡ holding line l s
   pub put_back : (form : QueueForm) (line : WaitList) (k : ListView Unit W) (d : Deed T W) (s t : Standing T W) → Section form line d s t
-      → let held = holding line k t in held.own ≡ both t.own (just_list line k)
+      → let held = holding line k t in (held.own ≡ both t.own (just_list line k)) × (with_own t.own held ≡ t)
