@@ -1,5 +1,4 @@
--- The end of a call: a party that was answered ends its call, and then it has given just this; and a walk of a call over anything by whose
--- view its deeds are done is such an answer.
+-- The end of a call: a party that was answered ends its call, and has given just this then; and who may begin one.
 use Rattle.std.proofs.Common.{◌≡◌, ℕ, zero, suc, true, List, [], ◌∷◌, ◌++◌, map, inr, refl, sym, ap, ◌∙◌, subst, append-nil}
 use Rattle.std.proofs.lemmas.List.{same_from_push}
 use Rattle.std.specs.Prelude.{Option, None, Some}
@@ -19,12 +18,13 @@ use Rattle.channel_calls.specs.declared.stage.Returned.{Returned}
 use Rattle.channel_calls.specs.declared.stage.Stage.{Stage}
 use Rattle.channel_calls.specs.declared.whole.Completed.{Completed}
 use Rattle.channel_steps.specs.every_run.Bridge.{Act, does, ActsTo}
-use Rattle.channel_history.specs.CallEnds.{given_then, EndsSo, HasEnded, HasGiven, IsCall, LendsNothing, Rests, ByViewOf}
+use Rattle.channel_history.specs.CallEnds.{given_then, EndsSo, HasEnded, HasGiven, IsCall, LendsNothing, Rests}
 use Rattle.channel_history.specs.Cells.{Did}
 use Rattle.channel_history.specs.InHand.{lent_by, handles_lent}
 use Rattle.channel_history.specs.Machine.{turns, begins_call, ends_call, enters, rests}
 use Rattle.channel_history.specs.Party.{fresh, asks_of, Ends}
-use Rattle.channel_history.specs.WholeCalls.{MayAsk, asked_by, HasAnswered, ByView, CallsGoByTheirViews}
+use Rattle.channel_history.specs.WholeCalls.{MayAsk, asked_by, HasAnswered}
+use Rattle.channel_history.proofs.WholeCalls.{calls_go_by_their_views}
 use Rattle.channel_history.specs.declared.party.Belongings.{Belongings}
 use Rattle.channel_history.specs.declared.party.Standing.{Standing}
 
@@ -135,63 +135,9 @@ module _ {T W : Type 0} where
 
   -- ---- a beginning
 
-  module _ {X : Type 0} (calls : CallsGoByTheirViews T W X) (form : QueueForm) where
+  module _ (form : QueueForm) where
     pub begins_turn : (s : Standing T W) (a : ChannelAsk T W) → MayAsk form s a → turns form s (asked_by s a)
-    begins_turn s a may = begins_call a (calls.begins form s a may).begins refl
+    begins_turn s a may = begins_call a ((calls_go_by_their_views T W Unit).begins form s a may).begins refl
 
     pub enters_so : (a : ChannelAsk T W) → MayAsk form fresh a → enters form (asked_by fresh a)
-    enters_so a may = inr (a, (calls.begins form fresh a may).begins, refl)
-
--- ---- walks by one relation are walks by another by which its deeds were done, while something is kept that each deed keeps
-
-module _ {T W X : Type 0} (did does : Deed T W → X → X → Type 0) (P : X → Type 0) (within : (d : Deed T W) (b c : X) → P b → did d b c → does d b c × P c) where
-  step_within : (s t : X) (m : Mark) (next : Stage (QueueCall T) T W) (r : Option (Reply T)) (at : Stage (QueueCall T) T W) → P s → ChannelMakes did at s t m next r
-      → ChannelMakes does at s t m next r × P t
-  step_within s t m next r at p step = (
-    carried did does s t s t (λ d h. (within d s t p h).0) (λ e. e) m next r at step,
-    stands_on (λ (at : Stage (QueueCall T) T W) (x : X). P x) did (λ at next s t d p h next_deed. (within d s t p h).1) (λ at next s p no_deed. p) s t m next r at p step,
-  )
-
-  pub leads_within : (n : ℕ) (s : X) (a : Stage (QueueCall T) T W) (t : X) (b : Stage (QueueCall T) T W) → P s → Leads did n s a t b → Leads does n s a t b × P t
-  leads_within zero s a t b p (e, f) = ((e, f), subst (λ (x : X). P x) (sym e) p)
-  leads_within (suc n) s a t b p (x, y, m, step, path) =
-      let one = step_within s x m y None a p step in
-      let more = leads_within n x y t b one.1 path in
-      ((x, y, m, one.0, more.0), more.1)
-
-  pub walks_within : (turn : NextStep T W) (s : X) (r : Reply T) (kept : Returned T) (t : X) → P s → WalkedFrom did turn s r kept t → WalkedFrom does turn s r kept t × P t
-  walks_within turn s r kept t p (a, takes, (n, x, b, m, c, path, last, is)) =
-      let led = leads_within n s a x b p path in
-      let one = step_within x t m c (Some r) b led.1 last in
-      ((a, takes, (n, x, b, m, c, led.0, one.0, is)), one.1)
-
--- ---- a call over anything by whose view its deeds are done
-
-module _ {T W C : Type 0} (form_in : C → QueueForm) (view : C → Standing T W) (Same : C → C → Type 0) (reflexive : (c : C) → Same c c) (transitive : (a b c : C) → Same a b → Same b c → Same a c)
-    (form : QueueForm) (s : Standing T W) (a : ChannelAsk T W) (may : MayAsk form s a) (r : Reply T) where
-  abbrev pub Ended : Returned T → C → C → Type 0
-  Ended kept c e = HasAnswered form s a r kept (view e) × (form_in e ≡ form) × Same c e
-
-  module _ {X : Type 0} (calls : CallsGoByTheirViews T W X) (of : X → C) (did : Deed T W → X → X → Type 0) (by_view : (d : Deed T W) (b c : X) → did d b c → ByViewOf form_in view Same d (of b) (of c)) where
-    ends_over : (kept : Returned T) (x y : X) → form_in (of x) ≡ form → view (of x) ≡ asked_by s a → WalkedFrom did (first a) x r kept y → Ended kept (of x) (of y)
-    ends_over kept x y in_form asked walk =
-        let walked = walks_within did (ByView form (λ (z : X). view (of z))) (λ (z : X). (form_in (of z) ≡ form) × Same (of x) (of z)) within (first a) x r kept y (in_form, reflexive (of x)) walk in
-        (calls.ends form (λ (z : X). view (of z)) s a x y r kept may asked walked.0, walked.1.0, walked.1.1)
-      where
-        within : (d : Deed T W) (b c : X) → (form_in (of b) ≡ form) × Same (of x) (of b) → did d b c → ByView form (λ (z : X). view (of z)) d b c × ((form_in (of c) ≡ form) × Same (of x) (of c))
-        within d b c (is, same) h =
-            let (done, (stays, more)) = by_view d b c h in
-            (subst (λ (f : QueueForm). Did f d (view (of b)) (view (of c))) is done, (stays ∙ is, transitive (of x) (of b) (of c) same more))
-
-  -- of words alone, which wake nobody
-  pub words_end : CallsGoByTheirViews T W C → (kept : Returned T) (c e : C) → form_in c ≡ form → view c ≡ asked_by s a → WalkedFrom (ByViewOf form_in view Same) (first a) c r kept e → Ended kept c e
-  words_end calls kept c e = ends_over calls (λ (x : C). x) (ByViewOf form_in view Same) (λ d b c h. h) kept c e
-
-  module _ {Z : Type 0} (calls : CallsGoByTheirViews T W (C × Z)) (wakes : Z → W → Z → Type 0) (c e : C) (z y : Z) (in_form : form_in c ≡ form) (asked : view c ≡ asked_by s a) where
-    -- beside a sink
-    pub call_ends : (kept : Returned T) → WalkedFrom (Done (ByViewOf form_in view Same) wakes) (first a) (c, z) r kept (e, y) → Ended kept c e
-    call_ends kept walk = ends_over calls (λ (x : C × Z). x.0) (Done (ByViewOf form_in view Same) wakes) (λ d b c h. h.0) kept (c, z) (e, y) in_form asked walk
-
-    -- whatever it left
-    pub call_ends_so : WalkedTo (Done (ByViewOf form_in view Same) wakes) (first a) (c, z) r (e, y) → (kept : Returned T) × Ended kept c e
-    call_ends_so (kept, walk) = (kept, call_ends kept walk)
+    enters_so a may = inr (a, ((calls_go_by_their_views T W Unit).begins form fresh a may).begins, refl)

@@ -62,7 +62,3 @@ module _ {T W : Type 0} where
   -- a party has no call under way, and with its seat lie these handles and listeners, and no list
   abbrev pub Rests : List Side → List ListenerRef → Standing T W → Type 0
   Rests handles listeners s = (s.stage ≡ None) × (s.own ≡ record { lists = []; handles = handles; listeners = listeners })
-
--- a deed was done to this by its view, which leaves it of the same form, and the same for the rest
-abbrev pub ByViewOf : {T W C : Type 0} → (C → QueueForm) → (C → Standing T W) → (C → C → Type 0) → Deed T W → C → C → Type 0
-ByViewOf form_in view Same d a b = Did (form_in a) d (view a) (view b) × ((form_in b ≡ form_in a) × Same a b)
