@@ -1,10 +1,8 @@
--- `Lists` says what lies behind a list's lock, `Channel` what a channel and its seats know, `Cells` what the cells of a call know, with the laws
--- that `ChannelCells` asks of them in `CellLaws`. `Calls` is what calls say of their party.
+-- `Lists` says what lies behind a list's lock, `Channel` what a channel and its seats know, `Cells` what the cells of a call know, and `Words`
+-- those of a question. `Calls` is what calls say of their party, and `Look` what a look tells.
 pub mod Lists
 pub mod Channel
 pub mod Cells
-pub mod CellLaws
-pub mod Calls
 pub mod Words
-pub mod WordLaws
+pub mod Calls
 pub mod Look

@@ -18,6 +18,3 @@ module _ {T W : Type 0} where
   -- of the same party, on the same channel
   abbrev pub IsSameTable : CallWords T W → CallWords T W → Type 0
   IsSameTable a b = words_table b ≡ words_table a
-
-  abbrev pub IsSameQuestion : CallWords T W → CallWords T W → Type 0
-  IsSameQuestion a b = (words_form b ≡ words_form a) × IsSameTable a b

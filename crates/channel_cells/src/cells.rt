@@ -86,9 +86,8 @@ pub(crate) fn counter_of(side: Side) -> Counter
 
 impl<'a, T: Drop, W: Drop, R: Wait> ChannelCells<T, W> for CallCells<'a, T, W, R> {
     ghost use Rattle.std.specs.Prelude.{◌≡◌};
-    ghost use Rattle.channel_history.specs.Cells.{Stands, May, Did};
-    ghost use Rattle.channel_cells.specs.Cells.{view_of, form_in, IsSameCall, no_parts};
-    ghost use Rattle.channel_cells.specs.CellLaws.{call_ready, call_leads, call_rests};
+    ghost use Rattle.channel_history.proofs.Cells.{CellsStand, CellsMay, CellsDid, ready, leads, rests};
+    ghost use Rattle.channel_cells.specs.Cells.{view_of, form_in, IsSameParty, no_parts};
 
     ghost known = { ⊥ };
 
@@ -96,19 +95,19 @@ impl<'a, T: Drop, W: Drop, R: Wait> ChannelCells<T, W> for CallCells<'a, T, W, R
 
     ghost has_form = { λ c f. f ≡ form_in c };
 
-    ghost did = { λ d a b. Did (form_in a) d (view_of a) (view_of b) × IsSameCall a b };
+    ghost did = { CellsDid form_in view_of IsSameParty };
 
-    ghost may = { λ d c. May (form_in c) d (view_of c) };
+    ghost may = { CellsMay form_in view_of };
 
-    ghost stands = { λ at c. Stands (form_in c) at (view_of c) };
+    ghost stands = { CellsStand form_in view_of };
 
     ghost exact = { λ unknown. absurd unknown };
 
-    ghost ready = { call_ready };
+    ghost ready = { ready form_in view_of };
 
-    ghost leads = { call_leads };
+    ghost leads = { leads form_in view_of IsSameParty };
 
-    ghost rests = { call_rests };
+    ghost rests = { rests form_in view_of };
 
     // All steps of the queue's call, up to its answer: other threads may step between them, and nothing else of this call does.
     #[inline(always)]

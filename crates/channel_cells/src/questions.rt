@@ -33,23 +33,22 @@ pub struct CallWords<'a, T: Drop, W: Drop> {
 
 impl<'a, T: Drop, W: Drop> ChannelWords<T, W> for CallWords<'a, T, W> {
     ghost use Rattle.std.specs.Prelude.{◌≡◌};
-    ghost use Rattle.channel_history.specs.Cells.{Stands, May, Did};
-    ghost use Rattle.channel_cells.specs.Words.{words_view, words_form, IsSameQuestion};
-    ghost use Rattle.channel_cells.specs.WordLaws.{words_ready, words_lead, words_rest};
+    ghost use Rattle.channel_history.proofs.Cells.{CellsStand, CellsMay, CellsDid, ready, leads, rests};
+    ghost use Rattle.channel_cells.specs.Words.{words_view, words_form, IsSameTable};
 
     ghost has_form = { λ c f. f ≡ words_form c };
 
-    ghost did = { λ d a b. Did (words_form a) d (words_view a) (words_view b) × IsSameQuestion a b };
+    ghost did = { CellsDid words_form words_view IsSameTable };
 
-    ghost may = { λ d c. May (words_form c) d (words_view c) };
+    ghost may = { CellsMay words_form words_view };
 
-    ghost stands = { λ at c. Stands (words_form c) at (words_view c) };
+    ghost stands = { CellsStand words_form words_view };
 
-    ghost ready = { words_ready };
+    ghost ready = { ready words_form words_view };
 
-    ghost leads = { words_lead };
+    ghost leads = { leads words_form words_view IsSameTable };
 
-    ghost rests = { words_rest };
+    ghost rests = { rests words_form words_view };
 
     // All steps of the question, which its second step answers at the latest.
     #[inline(always)]
