@@ -20,7 +20,7 @@
 
 mod locks;
 mod rule;
-mod waiting;
+mod word;
 
 pub use locks::{KeyedLocks, Taken};
 pub use rule::{Keeps, Ruled, Turn};

@@ -3,8 +3,8 @@
 ghost use Rattle.std.specs.Prelude.{◌≡◌, ◌*◌, ◌^◌, ◌<◌, ◌≤◌, ℕ, None, Some, length, map, IfOk};
 ghost use Rattle.keyed_lock.specs.Locked.{HasLock, KeepsFrom, holds};
 
-use crate::rule::{Gives, Keeps, LockSeat, LockTable};
-use crate::waiting::{self, FREE, SLEPT_ON, STRIDE};
+use crate::rule::{Keeps, LockSeat, LockTable};
+use crate::word::{FREE, STRIDE, put_back, wait};
 use atomic_table::Table;
 use std::alloc::{AllocError, Global};
 use std::marker::Model;
@@ -12,11 +12,11 @@ use std::sync::Wait;
 
 /// N values that threads share, each of them one thread at a time. Contracts see the locks as their key.
 #[derive(Drop)]
-pub struct KeyedLocks<X: Drop, K, I: Keeps<X, K>, const N: usize> {
+pub struct KeyedLocks<X, K, I: Keeps<X, K>, const N: usize> {
     table: LockTable<X, K, I>,
 }
 
-impl<X: Drop, K, I: Keeps<X, K>, const N: usize> Model for KeyedLocks<X, K, I, N> {
+impl<X, K, I: Keeps<X, K>, const N: usize> Model for KeyedLocks<X, K, I, N> {
     ghost Value = { K };
 
     ghost view = { λ l. l.table.shared.key };
@@ -26,7 +26,7 @@ impl<X: Drop, K, I: Keeps<X, K>, const N: usize> Model for KeyedLocks<X, K, I, N
 
 /// The value of a lock was taken, and has to be given back: a `Taken` can't be dropped. Contracts see it as the key of the locks and
 /// the number of the lock.
-pub struct Taken<'a, X: Drop, K, I: Keeps<X, K>> {
+pub struct Taken<'a, X, K, I: Keeps<X, K>> {
     table: &'a LockTable<X, K, I>,
     seat: LockSeat<X, K>,
     which: usize,
@@ -35,7 +35,7 @@ pub struct Taken<'a, X: Drop, K, I: Keeps<X, K>> {
     ghost has: { seat.me ≡ holds table.now.shared.key which None },
 }
 
-impl<'a, X: Drop, K, I: Keeps<X, K>> Model for Taken<'a, X, K, I> {
+impl<'a, X, K, I: Keeps<X, K>> Model for Taken<'a, X, K, I> {
     ghost Value = { K × ℕ };
 
     ghost view = { λ t. (t.table.now.shared.key, t.which) };
@@ -43,7 +43,7 @@ impl<'a, X: Drop, K, I: Keeps<X, K>> Model for Taken<'a, X, K, I> {
     ghost invariant = { λ t. Unit {0} };
 }
 
-impl<X: Drop, K, I: Keeps<X, K>, const N: usize> KeyedLocks<X, K, I, N> {
+impl<X, K, I: Keeps<X, K>, const N: usize> KeyedLocks<X, K, I, N> {
     /// Locks with these values, each of which keeps the fact about this key and its place. Where memory is refused the values are
     /// dropped.
     pub fn new(
@@ -51,6 +51,8 @@ impl<X: Drop, K, I: Keeps<X, K>, const N: usize> KeyedLocks<X, K, I, N> {
         values: [X; N],
         about: &K,
     ) -> Result<KeyedLocks<X, K, I, N>, AllocError>
+    where
+        X: Drop,
         requires { KeepsFrom (I.keeps about.now) 0 values }
         ensures { IfOk result (λ l. l ≡ about.now) }
     {
@@ -76,7 +78,7 @@ impl<X: Drop, K, I: Keeps<X, K>, const N: usize> KeyedLocks<X, K, I, N> {
         ensures keeps { I.keeps self.now which result.0 }
         ensures lock { result.1 ≡ (self.now, which) }
     {
-        let (value, seat) = waiting::wait(rt, &self.table.shared, which);
+        let (value, seat) = wait(rt, &self.table.shared, which);
         (
             value,
             Taken {
@@ -104,7 +106,7 @@ fn at_home<X: Drop, const N: usize>(
     Ok(slots)
 }
 
-impl<'a, X: Drop, K, I: Keeps<X, K>> Taken<'a, X, K, I> {
+impl<'a, X, K, I: Keeps<X, K>> Taken<'a, X, K, I> {
     /// Gives a value back, which keeps the fact too: the value that was taken, or another one. If a thread sleeps until the lock is
     /// free, this wakes it. It doesn't wait.
     pub fn give(self, value: X)
@@ -115,15 +117,6 @@ impl<'a, X: Drop, K, I: Keeps<X, K>> Taken<'a, X, K, I> {
             mut seat,
             which,
         } = self;
-        let locks = &table.shared;
-        // The value is put in its slot before the word says so, while no other thread reads the slot.
-        let none = locks.exchange(&mut seat, which, Some(value));
-        drop(none);
-        // A swap and not a store: it says whether somebody may sleep, at the moment at which the lock becomes free. If a load before
-        // the store said it, a thread could mark the word between them and sleep, and nobody would wake it.
-        if locks.swap::<Gives>(&mut seat, STRIDE * which, FREE) == SLEPT_ON {
-            // One thread is enough, since it marks the word again for the others.
-            locks.wake_one(STRIDE * which);
-        }
+        put_back(&table.shared, &mut seat, which, value);
     }
 }

@@ -1,6 +1,6 @@
 use Rattle.std.proofs.Common.{arith}
 use Rattle.keyed_lock.proofs.Steps.{takes_so, marks_two, has_it, took_it, took_nothing}
-use Rattle.keyed_lock.proofs.waiting.take_or_mark.Goals as goal
+use Rattle.keyed_lock.proofs.word.take_or_mark.Goals as goal
 
 pub swap-requires : goal.swap-requires
 swap-requires g c =

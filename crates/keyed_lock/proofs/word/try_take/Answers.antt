@@ -1,6 +1,6 @@
 use Rattle.std.proofs.Common.{arith}
 use Rattle.keyed_lock.proofs.Steps.{takes_so, marks_one, has_it, took_it, took_nothing}
-use Rattle.keyed_lock.proofs.waiting.try_take.Goals as goal
+use Rattle.keyed_lock.proofs.word.try_take.Goals as goal
 
 pub compare_exchange-requires : goal.compare_exchange-requires
 compare_exchange-requires g c =

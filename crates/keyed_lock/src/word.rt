@@ -1,9 +1,9 @@
-//! How a thread waits until nobody has the value of a lock.
+//! What threads do with the word of a lock: take its value, wait for it, give it back.
 
 ghost use Rattle.std.specs.Prelude.{◌≡◌, None};
 ghost use Rattle.keyed_lock.specs.Locked.{HasLock, Took, waits, holds};
 
-use crate::rule::{Keeps, LockSeat, SharedLocks, Sits, Takes};
+use crate::rule::{Gives, Keeps, LockSeat, SharedLocks, Sits, Takes};
 use std::sync::Wait;
 use std::thread;
 
@@ -17,7 +17,7 @@ pub(crate) const FREE: u64 = 0;
 const TAKEN: u64 = 1;
 
 /// The word of a lock whose value somebody has, while somebody may sleep on the word.
-pub(crate) const SLEPT_ON: u64 = 2;
+const SLEPT_ON: u64 = 2;
 
 /// How often a thread looks, and lets others run, before it sleeps: most holders give the value back sooner than a sleep would begin.
 const LOOKS: usize = 16;
@@ -128,4 +128,27 @@ fn sleep<X, K, I: Keeps<X, K>, R: Wait>(
         locks.park(rt, STRIDE * which, SLEPT_ON as u32);
     }
     unreachable!()
+}
+
+/// Gives the value back, and wakes a thread if somebody may sleep until the lock is free.
+pub(crate) fn put_back<X, K, I: Keeps<X, K>>(
+    locks: &SharedLocks<X, K, I>,
+    seat: &mut LockSeat<X, K>,
+    which: usize,
+    value: X,
+)
+    requires lock { HasLock locks.now.table_id which }
+    requires seat { (seat.old.table_id ≡ locks.now.table_id) × (seat.old.me ≡ holds locks.now.key which None) }
+    requires keeps { I.keeps locks.now.key which value }
+    ensures { seat.new.me ≡ waits locks.now.key }
+{
+    // The value is put in its slot before the word says so, while no other thread reads the slot.
+    let before = locks.exchange(seat, which, Some(value));
+    let None = before else { unreachable!() };
+    // A swap and not a store: it says whether somebody may sleep, at the moment at which the lock becomes free. If a load before
+    // the store said it, a thread could mark the word between them and sleep, and nobody would wake it.
+    if locks.swap::<Gives>(seat, STRIDE * which, FREE) == SLEPT_ON {
+        // One thread is enough, since it marks the word again for the others.
+        locks.wake_one(STRIDE * which);
+    }
 }
