@@ -2,6 +2,7 @@
 #![tactic(auto)]
 
 pub mod counters;
+pub mod drops;
 pub mod lists;
 #[cfg(test)]
 mod tests;

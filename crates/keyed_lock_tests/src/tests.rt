@@ -1,4 +1,5 @@
 use crate::counters::{self, ROUNDS, THREADS};
+use crate::drops::drops_of_three;
 use crate::lists::Lists;
 use std::test::*;
 
@@ -37,4 +38,10 @@ fn lists_lie_beside_seats_of_another_table(rt: HostRuntime) {
     let is_pushed = lists.push(&rt, 1, 5).is_ok() && lists.push(&rt, 1, 6).is_ok();
     assert!(rt; !is_pushed || lists.look(&rt, 1) == (2, 2));
     assert_eq!(rt; lists.look(&rt, 0), (0, 0));
+}
+
+// Each value is dropped once, with its locks or because there is no memory for them.
+#[test]
+fn values_are_dropped_with_their_locks(rt: HostRuntime) {
+    assert_eq!(rt; drops_of_three(rt.alloc()), 3);
 }
