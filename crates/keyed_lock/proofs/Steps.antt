@@ -1,6 +1,7 @@
 -- Each step on the word of a lock keeps the rule.
-use Rattle.std.proofs.Common.{◌≡◌, ◌≢◌, ◌⊎◌, ℕ, zero, suc, ◌+◌, ◌*◌, ◌<◌, ◌≤◌, eqb, inl, inr, ⊎_elim, List, [], ◌∷◌, length, map, replicate, get_or, set, sym, refl, ap, ◌∙◌, subst, arith, length-set, get_or-set_other, get_or-set_same}
+use Rattle.std.proofs.Common.{◌≡◌, ◌≢◌, ◌⊎◌, ℕ, zero, suc, ◌+◌, ◌*◌, ◌<◌, ◌≤◌, eqb, inl, inr, ⊎_elim, List, [], ◌∷◌, ◌++◌, length, map, replicate, take, get_or, set, sym, refl, ap, ◌∙◌, subst, arith, length-set, get_or-set_other, get_or-set_same}
 use Rattle.std.proofs.lemmas.List.{get_or-replicate, length-map, length-replicate}
+use Rattle.std.proofs.Math.Seq.{take-nil}
 use Rattle.std.specs.Prelude.{Option, Some, None}
 use mathlib.Core.Option as home
 use mathlib.Core.Option.{none, some, some-ne-none, some-injective}
@@ -235,6 +236,10 @@ module _ {X K : Type 0} (keep : K → ℕ → X → Type 0) (k : K) where
       nobody : (i j : ℕ) → get_elem? (turn k None ∷ []) j ≢ some (turn k (Some i))
       nobody i zero e = is_idle k i (some-injective _ _ e)
       nobody i (suc j) e = absurd (some-ne-none (turn k (Some i)) (sym e))
+
+pub zeros : (count room : ℕ) (old items words : List ℕ) → old ≡ [] → items ≡ take count old ++ replicate room 0 → words ≡ items → words ≡ replicate room 0
+zeros count room old items words empty filled same =
+    same ∙ filled ∙ ap (λ (l : List ℕ). take count l ++ replicate room 0) empty ∙ ap (λ (l : List ℕ). l ++ replicate room 0) (take-nil count)
 
 -- ---- what a thread has that tried to take the value
 

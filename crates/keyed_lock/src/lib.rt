@@ -23,4 +23,4 @@ mod rule;
 mod word;
 
 pub use locks::{KeyedLocks, Taken};
-pub use rule::{Keeps, Ruled, Turn};
+pub use rule::Keeps;

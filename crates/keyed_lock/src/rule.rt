@@ -16,13 +16,13 @@ pub trait Keeps<X, K> {
 }
 
 /// What a seat knows: the key, and which lock's value it has. No value is made.
-pub struct Turn<K> {
+pub(crate) struct Turn<K> {
     pub about: K,
     pub has: Option<u64>,
 }
 
 /// The rule: a value is at home, and keeps the fact, exactly while its lock's word is 0. Where it is 1 or 2 one seat has the value.
-pub struct Ruled<I> {
+pub(crate) struct Ruled<I> {
     of: PhantomData<I>,
 }
 

@@ -13,10 +13,11 @@ pub(crate) const STRIDE: usize = 16;
 /// The word of a lock whose value is at home.
 pub(crate) const FREE: u64 = 0;
 
-/// The word of a lock whose value somebody has, while nobody sleeps.
+/// The word of a lock whose value somebody has, which wakes nobody when it is given back. If threads sleep on the word nevertheless,
+/// one that was woken is about to write 2.
 const TAKEN: u64 = 1;
 
-/// The word of a lock whose value somebody has, while somebody may sleep on the word.
+/// The word of a lock whose value somebody has, while somebody may sleep on the word: a thread is woken when the value is given back.
 const SLEPT_ON: u64 = 2;
 
 /// How often a thread looks, and lets others run, before it sleeps: most holders give the value back sooner than a sleep would begin.
