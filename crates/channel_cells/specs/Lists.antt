@@ -35,6 +35,7 @@ module _ {T W : Type 0} where
   abbrev pub with_handles : List Side → Standing T W
   with_handles handles = with_lists [] handles
 
+module _ {W : Type 0} where
   -- the first so many lists of a new channel
   abbrev pub lists_at : ℕ → List (WaitList × ListView Unit W)
   lists_at zero = []
@@ -43,6 +44,7 @@ module _ {T W : Type 0} where
   lists_at (suc (suc (suc zero))) = (Sends, new_list) ∷ (Receives, new_list) ∷ (Streams, new_list) ∷ []
   lists_at n = (Sends, new_list) ∷ (Receives, new_list) ∷ (Streams, new_list) ∷ (Closings, new_list) ∷ []
 
+module _ {T W : Type 0} where
   -- the first party of a channel, with so many lists that are yet to go behind their locks
   abbrev pub opening_at : ℕ → Standing T W
   opening_at n = with_lists (lists_at n) (Senders ∷ Receivers ∷ [])

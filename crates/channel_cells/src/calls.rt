@@ -1,7 +1,7 @@
 //! How a call begins and ends on a channel's cells, and the calls that wait for no message and no place. Each is that of `channel_calls`, and
 //! gives the seat of its party, whose view says what it asked and what it was answered.
 
-ghost use Rattle.std.specs.Prelude.{◌≡◌, ◌×◌, IfErr, MatchResult, Ok, Err};
+ghost use Rattle.std.specs.Prelude.{◌≡◌, IfErr, MatchResult, Ok, Err};
 ghost use Rattle.concurrent_queue.specs.Replies.{is_bounded};
 ghost use Rattle.channel_calls.specs.Replies.{RefusesTrySend, RefusesForceSend, GivesUpTo};
 ghost use Rattle.channel_calls.specs.declared.ask.ChannelAsk.TheVariants as ask;

@@ -1,7 +1,7 @@
 //! Strong handles: each is a party of its own, with whose seat the handle lies that its count has. A clone's and an upgrade's party is that of
 //! the handle that it made; the drop of a handle is a call of its party.
 
-ghost use Rattle.std.specs.Prelude.{◌≡◌, ◌×◌, [], ◌∷◌, None, IfOk, IfErr, IfSome};
+ghost use Rattle.std.specs.Prelude.{◌≡◌, [], ◌∷◌, None, IfOk, IfErr, IfSome};
 ghost use Rattle.channel_calls.specs.Calls.{made_answer, upgraded_answer};
 ghost use Rattle.channel_calls.specs.declared.ask.ChannelAsk.TheVariants as ask;
 ghost use Rattle.channel_calls.specs.declared.reply.Reply.{Reply as Answer};

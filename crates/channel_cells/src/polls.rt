@@ -1,7 +1,7 @@
 //! Polled operations: each is a party of its own from its first poll on, with whose seat the listener lies that is listed for it. A poll is a
 //! call of this party, and so is the giving up, which the drop of an operation makes.
 
-ghost use Rattle.std.specs.Prelude.{◌≡◌, ◌×◌, [], is_some};
+ghost use Rattle.std.specs.Prelude.{◌≡◌, [], is_some};
 ghost use Rattle.channel_calls.specs.Calls.{SendsOn, send_ask, recv_ask, closed_ask, next_ask};
 ghost use Rattle.channel_calls.specs.Listed.{SendLists, is_pending};
 ghost use Rattle.channel_calls.specs.declared.ask.ChannelAsk.TheVariants as ask;

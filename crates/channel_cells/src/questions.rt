@@ -12,7 +12,7 @@ ghost use Rattle.channel_cells.specs.Words.{words_view, words_form, words_table}
 ghost use Rattle.channel_cells.specs.Channel.{form_of, id_of, seat_table, standing_of};
 
 use crate::calls::{Answers, Asks};
-use crate::cells::counter_of;
+use crate::cells::steps::counter_of;
 use crate::channel::{ChannelTable, Seat};
 use crate::machine::OfChannel;
 use channel_calls::questions;

@@ -1,0 +1,131 @@
+//! What the cells of a call do, each step as its machine does it next.
+
+ghost use Rattle.std.specs.Prelude.{◌≡◌};
+ghost use Rattle.channel_history.specs.Machine.{side_of};
+
+use crate::cells::CallCells;
+use channel_calls::cells::ChannelCells;
+use channel_calls::notices;
+use channel_calls::stage::{Side, Telling, WaitList};
+use concurrent_queue::call::QueueReply;
+use concurrent_queue::history::rule::Counter;
+use concurrent_queue::queue_call::QueueCall;
+use concurrent_queue::queue_call::whole::complete;
+use event_listener::error::ListenError;
+use event_listener::key::Key;
+use event_listener::list::List;
+use event_listener::wakes::Wakes;
+use std::marker::Brand;
+use std::sync::Wait;
+use std::{mem, thread};
+
+/// Which of the table's counts is that of these handles.
+#[inline(always)]
+pub(crate) fn counter_of(side: Side) -> Counter
+    ensures { side_of result ≡ side }
+{
+    match side {
+        Side::Senders => Counter::First,
+        Side::Receivers => Counter::Second,
+    }
+}
+
+impl<'a, T: Drop, W: Drop, R: Wait> ChannelCells<T, W> for CallCells<'a, T, W, R> {
+    ghost use Rattle.std.specs.Prelude.{◌≡◌};
+    ghost use Rattle.channel_history.proofs.Cells.{CellsStand, CellsMay, CellsDid, ready, leads, rests};
+    ghost use Rattle.channel_cells.specs.Cells.{view_of, form_in, IsSameParty, no_parts};
+
+    ghost known = { ⊥ };
+
+    ghost parts = { λ c. no_parts };
+
+    ghost has_form = { λ c f. f ≡ form_in c };
+
+    ghost did = { CellsDid form_in view_of IsSameParty };
+
+    ghost may = { CellsMay form_in view_of };
+
+    ghost stands = { CellsStand form_in view_of };
+
+    ghost exact = { λ unknown. absurd unknown };
+
+    ghost ready = { ready form_in view_of };
+
+    ghost leads = { leads form_in view_of IsSameParty };
+
+    ghost rests = { rests form_in view_of };
+
+    // All steps of the queue's call, up to its answer: other threads may step between them, and nothing else of this call does.
+    #[inline(always)]
+    fn step_queue(&mut self, call: &mut QueueCall<T>) -> Option<QueueReply<T>> {
+        let whole = mem::replace(call, QueueCall::ended());
+        Some(complete(self.rt, whole, &mut self.queue))
+    }
+
+    fn insert(&mut self, line: WaitList) -> Result<Key, ListenError> {
+        let mut section = self.enter(line);
+        let answer = section.list.insert();
+        self.queue
+            .seat
+            .turn_by::<Brand, (WaitList, Result<Key, ListenError>), List<(), W>>(
+                &(line, answer),
+                &section.list,
+            );
+        self.leave(line, section);
+        answer
+    }
+
+    // The event is told before the list is changed, while the task is at hand. Nobody sees the list until it is given back.
+    fn register(&mut self, line: WaitList, key: Key, task: W) -> Option<W> {
+        let mut section = self.enter(line);
+        self.queue
+            .seat
+            .turn_by::<Brand, (WaitList, Key), W>(&(line, key), &task);
+        let back = notices::register(&mut section.list, key, task);
+        self.leave(line, section);
+        back
+    }
+
+    fn remove<S: Wakes<W>>(&mut self, line: WaitList, key: Key, sink: &mut S) {
+        let mut section = self.enter(line);
+        let _ = section.list.remove(key, true, sink);
+        self.queue
+            .seat
+            .turn_by::<Brand, (WaitList, Key), List<(), W>>(&(line, key), &section.list);
+        self.leave(line, section);
+    }
+
+    #[inline(always)]
+    fn tell<S: Wakes<W>>(&mut self, line: WaitList, telling: Telling, sink: &mut S) {
+        let mut section = self.enter(line);
+        notices::tell(&mut section.list, telling, sink);
+        self.queue
+            .seat
+            .turn_by::<Brand, (WaitList, Telling), List<(), W>>(&(line, telling), &section.list);
+        self.leave(line, section);
+    }
+
+    fn count(&mut self, side: Side) -> usize {
+        self.queue.seat.count(counter_of(side)) as usize
+    }
+
+    fn lower(&mut self, side: Side) -> usize {
+        self.queue.seat.lower_count(counter_of(side)) as usize
+    }
+
+    // Where another handle came between, the call reads the count again, and lets others run first. One that no word can hold is refused
+    // without an operation on the count.
+    fn raise(&mut self, side: Side, from: usize) -> bool {
+        if from == usize::MAX {
+            self.queue
+                .seat
+                .turn_by::<Brand, Side, usize>(&side, &from);
+            return false;
+        }
+        let found = self.queue.seat.raise_count(counter_of(side), from as u64) as usize;
+        if found != from {
+            thread::yield_now();
+        }
+        found == from
+    }
+}

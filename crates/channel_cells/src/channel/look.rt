@@ -1,0 +1,38 @@
+//! What is told of a channel's history, to whoever has a seat of one of its parties.
+
+ghost use Rattle.std.specs.Prelude.{◌≡◌};
+ghost use Rattle.concurrent_queue.specs.history.Shared.{both_views};
+ghost use Rattle.channel_cells.specs.Channel.{id_of, seat_table, view_in};
+ghost use Rattle.channel_cells.specs.Look.{IsTold};
+
+use crate::channel::{ChannelTable, Seat};
+use channel_history::laws::{
+    each_moment_is_said, handles_are_counted, histories_are_runs, registrations_are_live,
+};
+
+impl<T: Drop, W: Drop> ChannelTable<T, W> {
+    /// At any moment, whatever other threads are in the midst of: there is one history of all that was done to this channel, in which the
+    /// party of this seat stands where its view says, with all that it asked and was answered. As long as positions last, it is a run of
+    /// which the whole headline holds. It costs a load, and waits for nobody.
+    pub fn look(&self, seat: &mut Seat<T, W>)
+        requires here { seat_table seat.old ≡ id_of self.now }
+        ensures told { IsTold (view_in seat.old) }
+        ensures kept { (view_in seat.new ≡ view_in seat.old) × (seat_table seat.new ≡ seat_table seat.old) }
+    {
+        histories_are_runs::<T, W>();
+        each_moment_is_said::<T, W>();
+        handles_are_counted::<T, W>();
+        registrations_are_live::<T, W>();
+        let _ = self.table.look(seat);
+    }
+
+    /// Takes another seat of this channel into this one, so that one look tells of both parties in one history. It costs a load.
+    pub fn join(&self, one: &mut Seat<T, W>, other: Seat<T, W>)
+        requires one { seat_table one.old ≡ id_of self.now }
+        requires other { seat_table other ≡ id_of self.now }
+        ensures joined { view_in one.new ≡ both_views (view_in one.old) (view_in other) }
+        ensures kept { seat_table one.new ≡ seat_table one.old }
+    {
+        self.table.join(one, other);
+    }
+}

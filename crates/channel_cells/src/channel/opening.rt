@@ -1,0 +1,71 @@
+//! The opening of a channel: its table, whose first party has all that is to lie with others, and the four lists, each behind its lock.
+
+ghost use Rattle.std.specs.Prelude.{◌≡◌, ℕ, suc, ◌<◌, ◌≤◌, ◌^◌, [], ◌∷◌, IfOk};
+ghost use Rattle.concurrent_queue.specs.declared.cells.QueueForm.TheVariants.{Bounded};
+ghost use Rattle.channel_calls.specs.declared.stage.Side.TheVariants.{Senders, Receivers};
+ghost use Rattle.channel_history.specs.CallEnds.{Rests};
+ghost use Rattle.channel_history.specs.CallSections.{LiesAlone};
+ghost use Rattle.channel_cells.specs.Channel.{form_of, id_of, seat_table, standing_of};
+ghost use Rattle.channel_cells.specs.Lists.{line_at, opening_at, with_handles};
+
+use crate::channel::{Calling, ChannelTable, Opened};
+use crate::lists::SeatedList;
+use channel_history::party::Standing;
+use concurrent_queue::history::seats::NamelessSeat;
+use concurrent_queue::history::table::RuledTable;
+use event_listener::list::List;
+use keyed_lock::KeyedLocks;
+use std::alloc::{AllocError, Global};
+use std::marker::Brand;
+
+/// A new list, with the seat that says that it lies here: the last one that lies with the seat of the opening.
+fn part_list<T: Drop, W: Drop>(seat: &mut Calling<'_, T, W>, alloc: Global) -> SeatedList<T, W>
+    requires left { (n : ℕ) × (n < 4) × (seat.old.seat.me.0.state ≡ opening_at (suc n)) }
+    ensures list { (n : ℕ) → n < 4 → seat.old.seat.me.0.state ≡ opening_at (suc n) → LiesAlone (line_at n) result.list.lists result.seat.seat.me.0.state × (seat.new.seat.me.0.state ≡ opening_at n) }
+    ensures table { result.seat.seat.table_id ≡ seat.old.seat.table_id }
+    ensures same { (seat.new.seat.table_id ≡ seat.old.seat.table_id) × (seat.new.seat.me.0.form ≡ seat.old.seat.me.0.form) }
+{
+    let list = List::new(alloc);
+    let apart = seat.part::<Brand, ()>(&());
+    SeatedList { list, seat: apart }
+}
+
+/// The seat of the first receiver, with whose seat that of the first sender was made.
+fn part_receiver<T: Drop, W: Drop>(
+    seat: &mut Calling<'_, T, W>,
+) -> NamelessSeat<T, Standing<T, W>>
+    requires both { seat.old.seat.me.0.state ≡ opening_at 0 }
+    ensures stays { seat.new.seat.me.0.state ≡ with_handles (Senders ∷ []) }
+    ensures goes { (result.seat.me.0.state ≡ with_handles (Receivers ∷ [])) × (result.seat.table_id ≡ seat.old.seat.table_id) }
+    ensures same { (seat.new.seat.table_id ≡ seat.old.seat.table_id) × (seat.new.seat.me.0.form ≡ seat.old.seat.me.0.form) }
+{
+    seat.part::<Brand, ()>(&())
+}
+
+impl<T: Drop, W: Drop> ChannelTable<T, W> {
+    /// A channel of at most `capacity` messages, with one sender and one receiver. `Err` where there is no memory for it; it waits for
+    /// nobody.
+    pub fn open(alloc: Global, capacity: usize) -> Result<Opened<T, W>, AllocError>
+        requires { (0 < capacity) × (capacity ≤ 2 ^ 58) }
+        ensures form { IfOk result (λ o. form_of o.channel ≡ Bounded capacity) }
+        ensures sender { IfOk result (λ o. Rests (Senders ∷ []) [] (standing_of o.sender) × (seat_table o.sender ≡ id_of o.channel)) }
+        ensures receiver { IfOk result (λ o. Rests (Receivers ∷ []) [] (standing_of o.receiver) × (seat_table o.receiver ≡ id_of o.channel)) }
+    {
+        let (table, first) = RuledTable::new(alloc, capacity, 1)?;
+        let mut seat = table.go_on(first);
+        let closings = part_list(&mut seat, alloc);
+        let streams = part_list(&mut seat, alloc);
+        let receives = part_list(&mut seat, alloc);
+        let sends = part_list(&mut seat, alloc);
+        let receiver = part_receiver(&mut seat);
+        let sender = seat.rest();
+        let receiver = table.name(receiver);
+        let lists = KeyedLocks::new(alloc, [sends, receives, streams, closings], &table)?;
+        let channel = ChannelTable { table, lists };
+        Ok(Opened {
+            channel,
+            sender,
+            receiver,
+        })
+    }
+}
