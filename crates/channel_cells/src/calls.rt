@@ -7,8 +7,8 @@ ghost use Rattle.channel_calls.specs.Replies.{RefusesTrySend, RefusesForceSend, 
 ghost use Rattle.channel_calls.specs.declared.ask.ChannelAsk.TheVariants as ask;
 ghost use Rattle.channel_calls.specs.declared.reply.Reply.TheVariants as reply;
 ghost use Rattle.channel_history.specs.Party.{fresh};
-ghost use Rattle.channel_history.specs.WholeCalls.{MayAsk, asked_by};
-ghost use Rattle.channel_cells.specs.Calls.{HasCalled, many_reply};
+ghost use Rattle.channel_history.specs.WholeCalls.{MayAsk};
+ghost use Rattle.channel_cells.specs.Calls.{HasBegun, HasCalled, many_reply};
 ghost use Rattle.channel_history.specs.CallEnds.{HasEnded, EndsSo};
 ghost use Rattle.channel_cells.specs.Cells.{view_of, form_in, table_in};
 ghost use Rattle.channel_cells.specs.Channel.{form_of, id_of, seat_table, standing_of};
@@ -56,9 +56,7 @@ impl<T: Drop, W: Drop> ChannelTable<T, W> {
         about: &X,
     ) -> CallCells<'a, T, W, R>
         requires asks { MayAsk (form_of self.now) fresh E.ask }
-        ensures begun { view_of result ≡ asked_by fresh E.ask }
-        ensures form { form_in result ≡ form_of self.now }
-        ensures table { table_in result ≡ id_of self.now }
+        ensures begun { HasBegun self.now fresh E.ask (form_in result) (table_in result) (view_of result) }
     {
         let seat = self.table.enter::<Brand, X>(about);
         CallCells {
@@ -78,9 +76,7 @@ impl<T: Drop, W: Drop> ChannelTable<T, W> {
     ) -> CallCells<'a, T, W, R>
         requires same { seat_table seat ≡ id_of self.now }
         requires asks { MayAsk (form_of self.now) (standing_of seat) E.ask }
-        ensures begun { view_of result ≡ asked_by (standing_of seat) E.ask }
-        ensures form { form_in result ≡ form_of self.now }
-        ensures table { table_in result ≡ id_of self.now }
+        ensures begun { HasBegun self.now (standing_of seat) E.ask (form_in result) (table_in result) (view_of result) }
     {
         let mut seat = self.table.go_on(seat);
         seat.turn::<Brand, X>(about);
