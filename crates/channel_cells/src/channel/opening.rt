@@ -61,7 +61,11 @@ impl<T: Drop, W: Drop> ChannelTable<T, W> {
         let sender = seat.rest();
         let receiver = table.name(receiver);
         let lists = KeyedLocks::new(alloc, [sends, receives, streams, closings], &table)?;
-        let channel = ChannelTable { table, lists };
+        let channel = ChannelTable {
+            table,
+            lists,
+            capacity,
+        };
         Ok(Opened {
             channel,
             sender,
