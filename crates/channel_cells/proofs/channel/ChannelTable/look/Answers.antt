@@ -18,6 +18,6 @@ returns-clause-told g c =
       counts = c.handles_are_counted.ensures.counted v.form all cells senders receivers history;
       listeners = c.registrations_are_live.ensures.live v.form all cells senders receivers history;
       run = λ lasts.
-          let says = c.histories_are_runs.ensures.runs v.form all cells senders receivers history lasts in
+          let says = c.histories_are_runs.ensures.runs v.form all cells senders receivers has history lasts in
           (says, c.each_moment_is_said.ensures.said v.form all cells senders receivers history says);
     }

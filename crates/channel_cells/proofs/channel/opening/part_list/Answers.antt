@@ -1,4 +1,4 @@
-use Rattle.std.proofs.Common.{◌∙◌, ap, sym}
+use Rattle.std.proofs.Common.{ap, sym}
 use Rattle.channel_history.specs.Machine.{new_list}
 use Rattle.channel_history.specs.declared.party.Standing.{Standing}
 use Rattle.channel_cells.proofs.Opening.{list_parts}
@@ -7,15 +7,9 @@ use Rattle.channel_cells.proofs.channel.opening.part_list.Goals as goal
 pub part-apart-requires-clause-parts : goal.part-apart-requires-clause-parts
 part-apart-requires-clause-parts g c =
     let s = c.args.seat.now.seat.me.0 in
-    let (n, few, is) = c.requires.left in
-    (list_parts s.form n s.state few is).2
+    list_parts s.form c.args.line s.state c.requires.last
 
 pub returns-clause-list : goal.returns-clause-list
-returns-clause-list g c n few is =
-    let s = c.args.seat.now.seat.me.0 in
-    let parted = list_parts s.form n s.state few is in
-    let made = c.part-apart.ensures in
-    let list = c.new-list.ensures in (
-      (new_list, ap (λ (x : Standing g.row.T.Denot g.row.W.Denot). x.own) (made.goes.0 ∙ parted.1), λ i. record { told = sym list.told i; waiting = sym list.waiting i }),
-      made.stays ∙ parted.0,
-    )
+returns-clause-list g c =
+    let list = c.new-list.ensures in
+    (new_list, ap (λ (x : Standing g.row.T.Denot g.row.W.Denot). x.own) c.part-apart.ensures.goes.0, λ i. record { told = sym list.told i; waiting = sym list.waiting i })
