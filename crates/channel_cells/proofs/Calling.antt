@@ -7,7 +7,7 @@ use Rattle.atomic_table.specs.Seated.{TableId}
 use Rattle.channel_calls.specs.Asks.{first}
 use Rattle.channel_calls.specs.Deeds.{Done}
 use Rattle.channel_calls.specs.Stands.{BeginsHere}
-use Rattle.channel_calls.specs.Walks.{WalkedFrom, WalkedTo}
+use Rattle.channel_calls.specs.Walks.{WalkedFrom}
 use Rattle.channel_calls.specs.declared.ask.ChannelAsk.{ChannelAsk}
 use Rattle.channel_calls.specs.declared.reply.Reply.{Reply}
 use Rattle.channel_calls.specs.declared.stage.Returned.{Returned}

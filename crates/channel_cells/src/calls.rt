@@ -17,9 +17,8 @@ ghost use Rattle.channel_cells.specs.Channel.{form_of, id_of, seat_table, standi
 
 use crate::cells::CallCells;
 use crate::channel::{ChannelTable, Seat};
-use channel_calls::calls;
 use channel_calls::error::{Refused, SendError, TryRecvError, TrySendError};
-use channel_calls::filling;
+use channel_calls::{calls, filling};
 use concurrent_queue::history::cells::HistoryCells;
 use event_listener::wakes::Wakes;
 use std::alloc::Global;
@@ -156,8 +155,7 @@ impl<T: Drop, W: Drop> ChannelTable<T, W> {
     {
         let mut cells = self.begin::<Brand, R, T>(rt, &message);
         let sent = calls::force_send(rt, message, &mut cells, sink);
-        let seat = cells
-            .end::<Brand, Result<Option<T>, Refused<SendError<T>, T>>, ()>(&sent, &());
+        let seat = cells.end::<Brand, Result<Option<T>, Refused<SendError<T>, T>>, ()>(&sent, &());
         (sent, seat)
     }
 
@@ -174,8 +172,7 @@ impl<T: Drop, W: Drop> ChannelTable<T, W> {
     {
         let mut cells = self.begin::<Brand, R, usize>(rt, &limit);
         let received = calls::recv_many(rt, limit, alloc, &mut cells, sink);
-        let seat = cells
-            .end::<Brand, Result<Vec<T>, Refused<TryRecvError>>, ()>(&received, &());
+        let seat = cells.end::<Brand, Result<Vec<T>, Refused<TryRecvError>>, ()>(&received, &());
         (received, seat)
     }
 

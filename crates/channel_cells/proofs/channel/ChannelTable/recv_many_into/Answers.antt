@@ -40,7 +40,7 @@ end-seat-requires g c =
     let r = c.recv_many_into-received in
     let into = c.args.into.now in
     let d = filled (Done (CellsDid form_in view_of IsSameParty) wakes) (room_in into) (c.begin-cells.result, c.args.sink.now) (r.new.cells, r.new.sink) r.result into.items r.new.into.items r.ensures.deeds in
-    record { ended = may_end (cells_reply wakes _ _ _ d.0 c.begin-cells.ensures.begun d.1) }
+    record { ended = may_end {a = ask.RecvMany (room_in into)} (cells_reply {a = ask.RecvMany (room_in into)} wakes _ _ _ d.0 c.begin-cells.ensures.begun d.1) }
 
 pub returns : goal.returns
 returns g c =
@@ -51,7 +51,7 @@ returns g c =
     let d = filled did (room_in into) (c.begin-cells.result, c.args.sink.now) (r.new.cells, r.new.sink) r.result into.items r.new.into.items r.ensures.deeds in
     let e = c.end-seat.ensures in
     record {
-      called = has_called (cells_reply wakes _ _ _ d.0 c.begin-cells.ensures.begun d.1) c.end-seat.result e.ended e.table;
+      called = has_called {a = ask.RecvMany (room_in into)} (cells_reply {a = ask.RecvMany (room_in into)} wakes _ _ _ d.0 c.begin-cells.ensures.begun d.1) c.end-seat.result e.ended e.table;
       taken = behind did (room_in into) (c.begin-cells.result, c.args.sink.now) (r.new.cells, r.new.sink) r.result into.items r.new.into.items r.ensures.deeds;
       most = r.ensures.most;
       room = r.ensures.room;
