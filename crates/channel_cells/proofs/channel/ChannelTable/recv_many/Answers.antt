@@ -10,7 +10,7 @@ use Rattle.channel_calls.specs.declared.reply.Reply.TheVariants as reply
 use Rattle.channel_history.proofs.Cells.{CellsDid}
 use Rattle.channel_cells.specs.Calls.{many_reply}
 use Rattle.channel_cells.specs.Cells.{view_of, form_in, IsSameParty}
-use Rattle.channel_cells.proofs.Calling.{begins_here, cells_reply, may_end, has_called}
+use Rattle.channel_cells.proofs.Calling.{begins_here, cells_may_end, cells_called}
 use Rattle.channel_cells.proofs.channel.ChannelTable.recv_many.Goals as goal
 
 many : {T W X : Type 0} (did : Deed T W → X → X → Type 0) (n : ℕ) (s t : X) (r : Result (Vec T) (Refused TryRecvError Unit))
@@ -27,7 +27,7 @@ end-seat-requires g c =
     let wakes = g.S.Wakes.wakes in
     let r = c.recv_many-received in
     let d = many (Done (CellsDid form_in view_of IsSameParty) wakes) c.args.limit (c.begin-cells.result, c.args.sink.now) (r.new.cells, r.new.sink) r.result r.ensures.deeds in
-    record { ended = may_end (cells_reply wakes _ _ _ d.0 c.begin-cells.ensures.begun d.1) }
+    record { ended = cells_may_end wakes _ _ _ c.begin-cells.ensures.begun d }
 
 pub returns : goal.returns
 returns g c =
@@ -35,4 +35,4 @@ returns g c =
     let r = c.recv_many-received in
     let d = many (Done (CellsDid form_in view_of IsSameParty) wakes) c.args.limit (c.begin-cells.result, c.args.sink.now) (r.new.cells, r.new.sink) r.result r.ensures.deeds in
     let e = c.end-seat.ensures in
-    record { called = has_called (cells_reply wakes _ _ _ d.0 c.begin-cells.ensures.begun d.1) c.end-seat.result e.ended e.table; most = r.ensures.most }
+    record { called = cells_called wakes _ _ _ c.begin-cells.ensures.begun d c.end-seat.result e.ended e.table; most = r.ensures.most }

@@ -11,7 +11,7 @@ use Rattle.channel_calls.specs.declared.reply.Reply.TheVariants as reply
 use Rattle.channel_history.proofs.Cells.{CellsDid}
 use Rattle.channel_cells.specs.Calls.{filled_reply}
 use Rattle.channel_cells.specs.Cells.{view_of, form_in, IsSameParty}
-use Rattle.channel_cells.proofs.Calling.{begins_here, cells_reply, may_end, has_called}
+use Rattle.channel_cells.proofs.Calling.{begins_here, cells_may_end, cells_called}
 use Rattle.channel_cells.proofs.channel.ChannelTable.recv_many_into.Goals as goal
 
 -- what was put behind a list is the last of it
@@ -40,7 +40,7 @@ end-seat-requires g c =
     let r = c.recv_many_into-received in
     let into = c.args.into.now in
     let d = filled (Done (CellsDid form_in view_of IsSameParty) wakes) (room_in into) (c.begin-cells.result, c.args.sink.now) (r.new.cells, r.new.sink) r.result into.items r.new.into.items r.ensures.deeds in
-    record { ended = may_end {a = ask.RecvMany (room_in into)} (cells_reply {a = ask.RecvMany (room_in into)} wakes _ _ _ d.0 c.begin-cells.ensures.begun d.1) }
+    record { ended = cells_may_end wakes _ _ _ c.begin-cells.ensures.begun d }
 
 pub returns : goal.returns
 returns g c =
@@ -51,7 +51,7 @@ returns g c =
     let d = filled did (room_in into) (c.begin-cells.result, c.args.sink.now) (r.new.cells, r.new.sink) r.result into.items r.new.into.items r.ensures.deeds in
     let e = c.end-seat.ensures in
     record {
-      called = has_called {a = ask.RecvMany (room_in into)} (cells_reply {a = ask.RecvMany (room_in into)} wakes _ _ _ d.0 c.begin-cells.ensures.begun d.1) c.end-seat.result e.ended e.table;
+      called = cells_called wakes _ _ _ c.begin-cells.ensures.begun d c.end-seat.result e.ended e.table;
       taken = behind did (room_in into) (c.begin-cells.result, c.args.sink.now) (r.new.cells, r.new.sink) r.result into.items r.new.into.items r.ensures.deeds;
       most = r.ensures.most;
       room = r.ensures.room;
