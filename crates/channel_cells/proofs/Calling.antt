@@ -78,3 +78,12 @@ module _ {T W : Type 0} where
       pub has_polled : (seat : IdleSeat T (Standing T W)) → EndsSo form (λ (c : Completed T). c ≡ record { reply = r; kept = kept }) now (standing_of seat) → seat_table seat ≡ table
           → HasPolled (id_of channel) s a r kept seat
       has_polled seat e same = (same ∙ h.table, ended_so form s a r kept now h.answered (λ (c : Completed T). c ≡ record { reply = r; kept = kept }) refl (standing_of seat) e)
+
+    -- of a call that no operation makes
+    module _ {R S : Type 0} (wakes : S → W → S → Type 0) (c e : CallCells T W R × S) (r : Reply T) (b : HasBegun channel s a (form_in c.0) (table_in c.0) (view_of c.0))
+        (d : WalkedTo (Done (CellsDid form_in view_of IsSameParty) wakes) (first a) c r e) where
+      pub cells_may_end : HasEnded (form_in e.0) (λ (x : Completed T). x.reply ≡ r) (view_of e.0)
+      cells_may_end = may_end (cells_reply wakes c e r d.0 b d.1)
+
+      pub cells_called : (seat : IdleSeat T (Standing T W)) → EndsSo (form_in e.0) (λ (x : Completed T). x.reply ≡ r) (view_of e.0) (standing_of seat) → seat_table seat ≡ table_in e.0 → HasCalled (id_of channel) s a r seat
+      cells_called = has_called (cells_reply wakes c e r d.0 b d.1)

@@ -1,10 +1,11 @@
 -- How a call begins, and what it says of its party: what it asked, what it was answered, and what lies with its seat since.
-use Rattle.std.specs.Prelude.{◌≡◌, Result, Ok, Err}
+use Rattle.std.specs.Prelude.{◌≡◌, ℕ, ◌-◌, List, length, drop, Result, Ok, Err}
 use Rattle.std.specs.Global.{Vec}
 use Rattle.concurrent_queue.specs.declared.cells.QueueForm.{QueueForm}
 use Rattle.concurrent_queue.specs.declared.history.seats.IdleSeat.{IdleSeat}
 use Rattle.channel_calls.specs.declared.ask.ChannelAsk.{ChannelAsk}
 use Rattle.channel_calls.specs.declared.error.Refused.{Refused}
+use Rattle.channel_calls.specs.declared.error.Refused.TheVariants.{Plain}
 use Rattle.channel_calls.specs.declared.error.TryRecvError.{TryRecvError}
 use Rattle.channel_calls.specs.declared.reply.Reply.{Reply}
 use Rattle.channel_calls.specs.declared.reply.Reply.TheVariants as reply
@@ -21,6 +22,11 @@ use Rattle.channel_cells.specs.declared.channel.ChannelTable.{ChannelTable}
 abbrev pub many_reply : {T : Type 0} → Result (Vec T) (Refused TryRecvError Unit) → Reply T
 many_reply (Ok messages) = reply.RecvMany (Ok messages.items)
 many_reply (Err e) = reply.RecvMany (Err e)
+
+-- and of one into room that was there, behind other messages: how many it took, which are the last of those that are there now
+abbrev pub filled_reply : {T : Type 0} → Result ℕ TryRecvError → List T → Reply T
+filled_reply (Ok n) there = reply.RecvMany (Ok (drop (length there - n) there))
+filled_reply (Err e) there = reply.RecvMany (Err (Plain e))
 
 module _ {T W : Type 0} where
   -- a party that stood so, and might ask this, has begun to: by the view of its call's seat it stands so now, on a queue of this form, and

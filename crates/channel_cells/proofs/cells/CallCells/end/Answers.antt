@@ -1,4 +1,3 @@
-use Rattle.std.proofs.Common.{ap, ◌∙◌}
 use Rattle.channel_history.proofs.CallEnds.{ends_turn}
 use Rattle.channel_cells.specs.Cells.{form_in, view_of}
 use Rattle.channel_cells.proofs.cells.CallCells.end.Goals as goal

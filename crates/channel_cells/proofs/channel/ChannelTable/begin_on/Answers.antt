@@ -4,7 +4,7 @@ use Rattle.channel_history.specs.Machine.{turns}
 use Rattle.channel_history.specs.WholeCalls.{MayAsk, asked_by}
 use Rattle.channel_history.specs.declared.party.Standing.{Standing}
 use Rattle.channel_history.proofs.CallEnds.{begins_turn}
-use Rattle.channel_cells.specs.Channel.{form_of, standing_of}
+use Rattle.channel_cells.specs.Channel.{standing_of}
 use Rattle.channel_cells.proofs.channel.ChannelTable.begin_on.Goals as goal
 
 pub turn-requires : goal.turn-requires
