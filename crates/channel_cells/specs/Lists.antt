@@ -8,7 +8,6 @@ use Rattle.channel_calls.specs.declared.stage.Side.TheVariants.{Senders, Receive
 use Rattle.channel_history.specs.CallSections.{LiesAlone}
 use Rattle.channel_history.specs.Machine.{new_list}
 use Rattle.channel_history.specs.Party.{fresh, with_own}
-use Rattle.channel_history.specs.declared.party.Belongings.{Belongings}
 use Rattle.channel_history.specs.declared.party.Standing.{Standing}
 use Rattle.concurrent_queue.specs.declared.history.table.RuledTable.{RuledTable}
 use Rattle.channel_cells.specs.declared.lists.SeatedList.{SeatedList}
