@@ -17,7 +17,7 @@ impl<'a, T: Drop, W: Drop, R: Wait> CallCells<'a, T, W, R> {
     pub(crate) fn enter(&mut self, line: WaitList) -> Section<'a, T, W>
         requires free { (view_of self.old).own.lists ≡ [] }
         ensures inside { IsInside line result.list.lists (view_of self.old) (view_of self.new) }
-        ensures taken { (result.taken.0 ≡ self.old.channel.now.table) × (result.taken.1 ≡ index_of line) }
+        ensures taken { (result.taken.0 ≡ self.new.channel.now.table) × (result.taken.1 ≡ index_of line) }
         ensures same { IsSameCall self.old self.new }
     {
         let (seated, taken) = self.channel.lists.take(self.rt, index_of(line));

@@ -1,0 +1,14 @@
+use Rattle.std.proofs.Common.{ℕ}
+use Rattle.concurrent_queue.specs.declared.history.rule.CountStep.TheVariants.{Lower}
+use Rattle.channel_cells.proofs.Counting.{may_count, counted_so}
+use Rattle.channel_cells.proofs.cells.steps.CallCellsChannelCells.lower.Goals as goal
+use Rattle.channel_cells.specs.Cells.{view_of, form_in}
+
+pub lower_count-requires : goal.lower_count-requires
+lower_count-requires g c = record { next = may_count (form_in c.args.self.now) (view_of c.args.self.now) c.counter_of.result c.args.side c.counter_of.ensures Lower c.requires.may (λ n. tt) }
+
+pub returns-clause-deed : goal.returns-clause-deed
+returns-clause-deed g c =
+    let same = c.lower_count.ensures.same in
+    let made = counted_so (form_in c.args.self.now) (view_of c.args.self.now) c.counter_of.result c.args.side c.counter_of.ensures Lower c.lower_count.new.self.seat.me.0.state c.lower_count.result c.lower_count.ensures.made in
+    (made, same.2, (same.0, same.1, same.3))
