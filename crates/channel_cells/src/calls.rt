@@ -1,22 +1,24 @@
 //! How a call begins and ends on a channel's cells, and the calls that wait for no message and no place. Each is that of `channel_calls`, and
 //! gives the seat of its party, whose view says what it asked and what it was answered.
 
-ghost use Rattle.std.specs.Prelude.{◌≡◌, IfErr, MatchResult, Ok, Err};
+ghost use Rattle.std.specs.Prelude.{◌≡◌, ◌≤◌, ◌<◌, IfErr, MatchResult, Ok, Err};
+ghost use Rattle.std.specs.Vec.{vec_capacity, vec_ptr};
 ghost use Rattle.concurrent_queue.specs.Replies.{is_bounded};
+ghost use Rattle.channel_calls.specs.Filling.{room_in, StandsBehind};
 ghost use Rattle.channel_calls.specs.Replies.{RefusesTrySend, RefusesForceSend, GivesUpTo};
 ghost use Rattle.channel_calls.specs.declared.ask.ChannelAsk.TheVariants as ask;
 ghost use Rattle.channel_calls.specs.declared.reply.Reply.TheVariants as reply;
 ghost use Rattle.channel_history.specs.Party.{fresh};
-ghost use Rattle.channel_history.specs.WholeCalls.{MayAsk, asked_by};
-ghost use Rattle.channel_cells.specs.Calls.{HasCalled, many_reply};
+ghost use Rattle.channel_history.specs.WholeCalls.{MayAsk};
+ghost use Rattle.channel_cells.specs.Calls.{HasBegun, HasCalled, many_reply, filled_reply};
 ghost use Rattle.channel_history.specs.CallEnds.{HasEnded, EndsSo};
 ghost use Rattle.channel_cells.specs.Cells.{view_of, form_in, table_in};
 ghost use Rattle.channel_cells.specs.Channel.{form_of, id_of, seat_table, standing_of};
 
 use crate::cells::CallCells;
 use crate::channel::{ChannelTable, Seat};
-use channel_calls::calls;
 use channel_calls::error::{Refused, SendError, TryRecvError, TrySendError};
+use channel_calls::{calls, filling};
 use concurrent_queue::history::cells::HistoryCells;
 use event_listener::wakes::Wakes;
 use std::alloc::Global;
@@ -56,9 +58,7 @@ impl<T: Drop, W: Drop> ChannelTable<T, W> {
         about: &X,
     ) -> CallCells<'a, T, W, R>
         requires asks { MayAsk (form_of self.now) fresh E.ask }
-        ensures begun { view_of result ≡ asked_by fresh E.ask }
-        ensures form { form_in result ≡ form_of self.now }
-        ensures table { table_in result ≡ id_of self.now }
+        ensures begun { HasBegun self.now fresh E.ask (form_in result) (table_in result) (view_of result) }
     {
         let seat = self.table.enter::<Brand, X>(about);
         CallCells {
@@ -78,9 +78,7 @@ impl<T: Drop, W: Drop> ChannelTable<T, W> {
     ) -> CallCells<'a, T, W, R>
         requires same { seat_table seat ≡ id_of self.now }
         requires asks { MayAsk (form_of self.now) (standing_of seat) E.ask }
-        ensures begun { view_of result ≡ asked_by (standing_of seat) E.ask }
-        ensures form { form_in result ≡ form_of self.now }
-        ensures table { table_in result ≡ id_of self.now }
+        ensures begun { HasBegun self.now (standing_of seat) E.ask (form_in result) (table_in result) (view_of result) }
     {
         let mut seat = self.table.go_on(seat);
         seat.turn::<Brand, X>(about);
@@ -157,8 +155,7 @@ impl<T: Drop, W: Drop> ChannelTable<T, W> {
     {
         let mut cells = self.begin::<Brand, R, T>(rt, &message);
         let sent = calls::force_send(rt, message, &mut cells, sink);
-        let seat = cells
-            .end::<Brand, Result<Option<T>, Refused<SendError<T>, T>>, ()>(&sent, &());
+        let seat = cells.end::<Brand, Result<Option<T>, Refused<SendError<T>, T>>, ()>(&sent, &());
         (sent, seat)
     }
 
@@ -175,8 +172,27 @@ impl<T: Drop, W: Drop> ChannelTable<T, W> {
     {
         let mut cells = self.begin::<Brand, R, usize>(rt, &limit);
         let received = calls::recv_many(rt, limit, alloc, &mut cells, sink);
-        let seat = cells
-            .end::<Brand, Result<Vec<T>, Refused<TryRecvError>>, ()>(&received, &());
+        let seat = cells.end::<Brand, Result<Vec<T>, Refused<TryRecvError>>, ()>(&received, &());
+        (received, seat)
+    }
+
+    /// Takes the oldest messages into the room that is there, behind what is in it, in order, until it is full or no further message is
+    /// there: how many. Refused where there is none; where there is no room, nothing is tried. It asks for no memory. As a new party.
+    pub fn recv_many_into<R: Wait, S: Wakes<W>>(
+        &self,
+        rt: &R,
+        into: &mut Vec<T>,
+        sink: &mut S,
+    ) -> (Result<usize, TryRecvError>, Seat<T, W>)
+        ensures called { HasCalled (id_of self.now) fresh (ask.RecvMany (room_in into.old)) (filled_reply result.0 into.new.items) result.1 }
+        ensures taken { StandsBehind into.old.items result.0 into.new.items }
+        ensures most { MatchResult result.0 (λ n. (n ≤ room_in into.old) × (n ≡ 0 → room_in into.old ≡ 0)) (λ _. 0 < room_in into.old) }
+        ensures room { vec_capacity into.new ≡ vec_capacity into.old }
+        ensures in_place { vec_ptr into.new ≡ vec_ptr into.old }
+    {
+        let mut cells = self.begin::<Brand, R, Vec<T>>(rt, into);
+        let received = filling::recv_many_into(rt, into, &mut cells, sink);
+        let seat = cells.end::<Brand, Result<usize, TryRecvError>, Vec<T>>(&received, into);
         (received, seat)
     }
 

@@ -1,0 +1,14 @@
+use Rattle.std.proofs.Common.{refl}
+use Rattle.channel_cells.proofs.Calling.{begins_here, cells_may_end, cells_called}
+use Rattle.channel_cells.proofs.channel.ChannelTable.len.Goals as goal
+
+pub len-count-requires : goal.len-count-requires
+len-count-requires g c = record { form = (_, refl); stands = begins_here c.begin-cells.ensures.begun }
+
+pub end-seat-requires : goal.end-seat-requires
+end-seat-requires g c = record { ended = cells_may_end g.S.Wakes.wakes _ _ _ c.begin-cells.ensures.begun c.len-count.ensures.deeds }
+
+pub returns : goal.returns
+returns g c =
+    let e = c.end-seat.ensures in
+    record { called = cells_called g.S.Wakes.wakes _ _ _ c.begin-cells.ensures.begun c.len-count.ensures.deeds c.end-seat.result e.ended e.table }

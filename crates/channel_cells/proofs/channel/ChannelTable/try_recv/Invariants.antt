@@ -1,0 +1,10 @@
+use Rattle.std.specs.Prelude.{◌≡◌}
+use Rattle.channel_calls.specs.declared.ask.ChannelAsk.TheVariants as ask
+use Rattle.channel_calls.specs.declared.reply.Reply.TheVariants as reply
+use Rattle.channel_cells.proofs.channel.ChannelTable.try_recv.Given as goal
+
+abbrev pub ghosts-begin : goal.ghosts-begin
+ghosts-begin g a = record { ask = ask.TryRecv }
+
+abbrev pub ghosts-end : goal.ghosts-end
+ghosts-end g a = record { gave = λ c. c.reply ≡ reply.TryRecv a.about.now }
