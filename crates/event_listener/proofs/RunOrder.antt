@@ -1,9 +1,9 @@
 -- Sections of an event keep the order of listening.
-use Rattle.std.proofs.Common.{◌≡◌, ℕ, ◌+◌, Bool, true, false, List, [], ◌∷◌, Option, Some, None, Result, Ok, Err, is_some, if◌then◌else◌, refl, sym, ap, subst, ◌∙◌}
+use Rattle.std.proofs.Common.{ℕ, ◌+◌, Bool, true, false, List, [], ◌∷◌, Option, Some, None, Result, Ok, Err, is_some, if◌then◌else◌, refl, sym, ap, subst, ◌∙◌}
 use Rattle.event_listener.specs.declared.error.ListenError.{ListenError}
 use Rattle.event_listener.specs.declared.key.Key.{Key}
 use Rattle.event_listener.specs.declared.waking.Task.{Task}
-use Rattle.event_listener.specs.Lists.{Lists, ListView, Notice, serial_of, told_as, waits_as, listened, without, with_task, registration, polled, passed, removed, notified}
+use Rattle.event_listener.specs.Lists.{Lists, ListView, Notice, serial_of, told_as, waits_as, without, with_task, registration, polled, passed, removed}
 use Rattle.event_listener.specs.Order.{IsInOrder}
 use Rattle.event_listener.specs.SectionRuns.{Calls, RunsKeepTheOrder}
 use Rattle.event_listener.specs.Runs.{Inserts, Leaves}

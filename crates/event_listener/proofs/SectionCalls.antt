@@ -1,11 +1,11 @@
 -- Sections are calls of `List`, one after another.
-use Rattle.std.proofs.Common.{◌≡◌, ℕ, Bool, true, false, List, [], ◌∷◌, ◌++◌, Option, Some, None, Result, Ok, Err, is_some, if◌then◌else◌, refl, sym, ap, subst, ◌∙◌}
+use Rattle.std.proofs.Common.{◌≡◌, Bool, true, false, List, [], ◌∷◌, ◌++◌, Option, Some, None, Result, Ok, Err, is_some, if◌then◌else◌, refl, ap, subst, ◌∙◌}
 use Rattle.event_listener.specs.declared.key.Key.{Key}
 use Rattle.event_listener.specs.declared.error.UnknownListener.{UnknownListener}
 use Rattle.event_listener.specs.declared.run.ListCall.{ListCall}
 use Rattle.event_listener.specs.declared.run.ListReply.{ListReply}
 use Rattle.event_listener.specs.declared.waking.Task.{Task}
-use Rattle.event_listener.specs.Lists.{Lists, ListView, Notice, told_as, waits_as, register_answer, poll_answer, remove_answer, tag_told}
+use Rattle.event_listener.specs.Lists.{ListView, Notice, told_as, waits_as, register_answer, poll_answer, remove_answer}
 use Rattle.event_listener.specs.Runs.{Makes as MakesInRun, Runs}
 use Rattle.event_listener.specs.SectionRuns.{Run, Calls, IsMade, AreMade, IsSpelled, AreSpelled, RunsAreCalls, tag_asked, was_told}
 use Rattle.event_listener.specs.Sections.{Section, Call, Makes, OnList, Looks, wakes_at_once, inserts, registers, asks, takes_off, tells, listens, polls, arms, parks, looks, leaves, removes, notifies, counts_told, counts_all}

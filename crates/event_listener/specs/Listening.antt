@@ -1,12 +1,11 @@
 -- What contracts see of an event and of a listener, and what its calls say of the sections that they made.
-use Rattle.std.specs.Prelude.{◌≡◌, ◌⊎◌, ◌-◌, ℕ, Bool, true, false, List, Option, None, Some, Result, Ok, Err, IfOk}
+use Rattle.std.specs.Prelude.{◌≡◌, ◌⊎◌, ◌-◌, ℕ, Bool, false, Option, None, Some, Ok}
 use Rattle.std.specs.Duration.{as_nanos}
 use Rattle.std.specs.Time.{instant_nanos}
 use Rattle.std.specs.declared.time.Duration.{Duration}
 use Rattle.std.specs.declared.time.Instant.{Instant}
 use Rattle.futures.specs.declared.task.waker.Waker.{Waker}
 use Rattle.event_listener.specs.Sections.{Section, OnSome, listens, polls, arms, parks, looks, leaves, removes}
-use Rattle.event_listener.specs.declared.error.ListenError.{ListenError}
 use Rattle.event_listener.specs.declared.key.Key.{Key}
 
 -- the identity of an event, and the name of the lock that keeps its list, which no other lock has

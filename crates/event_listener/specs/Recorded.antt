@@ -1,5 +1,5 @@
 -- What is done in one section on a recorded event, with its answer; and the entry that it stores.
-use Rattle.std.specs.Prelude.{◌≡◌, ◌<◌, ◌≤◌, ℕ, Bool, List, length, take, Option, None, Some, Result, Ok, Err}
+use Rattle.std.specs.Prelude.{◌≡◌, ◌<◌, ℕ, Bool, List, length, take, Option, None, Some, Result, Ok, Err}
 use Rattle.event_listener.specs.Lists.{IsAdditional, PassesOn, removed_wakes, tasks_of, told_by}
 use Rattle.event_listener.specs.Replay.{RecordView, recorded, tag_found, total_of}
 use Rattle.event_listener.specs.declared.calls.Registered.{Registered}
@@ -7,7 +7,6 @@ use Rattle.event_listener.specs.declared.error.ListenError.{ListenError}
 use Rattle.event_listener.specs.declared.error.NotifyError.{NotifyError}
 use Rattle.event_listener.specs.declared.error.UnknownListener.{UnknownListener}
 use Rattle.event_listener.specs.declared.key.Key.{Key}
-use Rattle.event_listener.specs.declared.recorded.RecordedCall.{RecordedCall}
 use Rattle.event_listener.specs.declared.recorded.RecordedCall.TheVariants.{Listened, Registered as Registering, Polled, Removed, Notified}
 use Rattle.event_listener.specs.declared.recorded.RegisterError.{RegisterError}
 

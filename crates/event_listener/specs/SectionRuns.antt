@@ -1,5 +1,5 @@
 -- Sections on one list, in the one order that its lock gives.
-use Rattle.std.specs.Prelude.{◌≡◌, ℕ, Bool, false, List, [], ◌∷◌, ◌++◌, Option, None, Some, is_some, Result, Ok, Err}
+use Rattle.std.specs.Prelude.{◌≡◌, Bool, false, List, [], ◌∷◌, ◌++◌, Option, None, is_some, Result, Ok, Err}
 use Rattle.event_listener.specs.Lists.{ListView}
 use Rattle.event_listener.specs.Order.{IsInOrder}
 use Rattle.event_listener.specs.Runs.{Runs}

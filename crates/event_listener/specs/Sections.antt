@@ -1,6 +1,6 @@
 -- What is done in one section on the list of an event, with its answer; and what is known of a call among other threads: that a section
 -- did it to some list, the one that it found when it had the lock.
-use Rattle.std.specs.Prelude.{◌≡◌, ◌+◌, ◌<◌, ℕ, Bool, true, false, List, length, Option, None, Some, is_some, Result, Ok, Err}
+use Rattle.std.specs.Prelude.{◌≡◌, ◌+◌, ◌<◌, ℕ, Bool, false, List, length, Option, None, Some, is_some, Result, Ok, Err}
 use Rattle.std.specs.Arc.{arc_value}
 use Rattle.std.specs.declared.time.Duration.{Duration}
 use Rattle.futures.specs.declared.task.waker.Waker.{Waker}

@@ -5,13 +5,19 @@ ghost use Rattle.std.specs.Arc.{arc_value};
 ghost use Rattle.event_listener.specs.Homes.{seal_of};
 
 use crate::error::NoMemory;
-use crate::section::{Locked, Section};
+use crate::section::Locked;
 use crate::steps::Steps;
 use crate::turn::Turn;
 use futures::task::Source;
 use std::alloc::Global;
 use std::marker::PhantomData;
 use std::sync::{Arc, OnceLock, OnceToken, Wait};
+
+/// The right to one step on the list with this seal. It can't be copied, and a step uses it up. Own to this project.
+#[derive(Drop)]
+pub struct Step<'a> {
+    seal: &'a Source,
+}
 
 /// A list behind its lock. Nobody makes one but [`Homes`].
 ///
@@ -31,8 +37,10 @@ pub(crate) struct Homes<T, L> {
     once: OnceLock<Arc<Home<T, L>>>,
 }
 
-impl<T, L> Home<T, L> {
-    fn new(list: L) -> Home<T, L> {
+impl<T, L: Steps<T>> Home<T, L> {
+    fn new(list: L) -> Home<T, L>
+        requires { L.begins list }
+    {
         Home {
             seal: Source::new(),
             list: Locked::new(list),
@@ -40,18 +48,22 @@ impl<T, L> Home<T, L> {
         }
     }
 
+    /// The right to one section, with one step in it.
+    #[inline(always)]
+    pub(crate) fn turn(&self) -> Turn<'_, T, L>
+        ensures { result.step.seal.now.id ≡ seal_of self.now }
+    {
+        Turn::new(Step { seal: &self.seal }, self.list.section())
+    }
+}
+
+impl<T, L> Home<T, L> {
     /// Its seal.
     #[inline(always)]
     pub(crate) fn seal(&self) -> &Source
         ensures { result.now.id ≡ seal_of self.now }
     {
         &self.seal
-    }
-
-    /// The right to take its lock once.
-    #[inline(always)]
-    pub(crate) fn section(&self) -> Section<'_, L> {
-        self.list.section()
     }
 }
 
@@ -73,13 +85,13 @@ impl<T, L: Steps<T>> Homes<T, L> {
     /// The right to one section on the list, where somebody has listened.
     #[inline(always)]
     pub(crate) fn turn(&self) -> Option<Turn<'_, T, L>>
-        ensures held { IfSome result (λ turn. L.holds self.now.once.id (seal_of turn.home.now)) }
+        ensures held { IfSome result (λ turn. L.holds self.now.once.id turn.step.seal.now.id) }
         ensures lacked { IfNone result (L.lacks self.now.once.id) }
     {
         match L::find(&self.once) {
             Some(token) => {
                 L::see(&token);
-                Some(Turn::new(self.once.value(&token)))
+                Some(self.once.value(&token).turn())
             }
             None => None,
         }

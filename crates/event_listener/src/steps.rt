@@ -14,7 +14,7 @@ ghost use Rattle.event_listener.specs.Sections.{Section, OnSome, tag_given as gi
 
 use crate::calls::Registered;
 use crate::error::{ListenError, NotifyError, UnknownListener};
-use crate::home::Home;
+use crate::home::{Home, Step};
 use crate::key::Key;
 use crate::list::List;
 use crate::notify::Notification;
@@ -28,10 +28,13 @@ use std::time::{Clock, Duration, Instant};
 /// A list of the listeners of one event, by the steps that are made on it and for it. A [`List`] is one, and the list of each event. Own to
 /// this project.
 ///
-/// A section is shown the seal of the list that it is on. It doesn't change what is done.
+/// A section is handed the right to one step on its list, which names the list by its seal. So what two steps do is no section.
 pub trait Steps<T>: Drop {
     /// Whether this was done to the list with this seal, so that the one became the other.
     ghost did: { ℕ → Section T → Self → Self → Type 0 };
+
+    /// Whether the list of an event may begin so.
+    ghost begins: { Self → Type 0 };
 
     /// Whether an event's lock of this name was seen to keep the list with this seal.
     ghost holds: { ℕ → ℕ → Type 0 };
@@ -49,7 +52,8 @@ pub trait Steps<T>: Drop {
     ghost slept: { ℕ → Option Span → Type 0 };
 
     /// A list without listeners.
-    fn empty(alloc: Global) -> Self;
+    fn empty(alloc: Global) -> Self
+        ensures { begins result };
 
     /// Looks whether the lock of an event has a list.
     fn find<'a>(lock: &'a OnceLock<Arc<Home<T, Self>>>) -> Option<OnceToken<'a, Arc<Home<T, Self>>>>
@@ -61,69 +65,69 @@ pub trait Steps<T>: Drop {
         ensures { holds token.now.of (seal_of (arc_value token.now.value)) };
 
     /// Adds a listener, with the task whose waker lies in this cell.
-    fn listen(&mut self, seal: &Source, cell: Arc<WakerCell>) -> Result<Key, ListenError>
-        ensures { did seal.now.id (listens (cell_of (arc_value cell)) result) self.old self.new };
+    fn listen(&mut self, step: Step<'_>, cell: Arc<WakerCell>) -> Result<Key, ListenError>
+        ensures { did step.entry.seal.now.id (listens (cell_of (arc_value cell)) result) self.old self.new };
 
     /// Takes a told listener off and gives its tag. Of one that waits it keeps the waker in its cell, so that no notice comes between.
     fn poll<R: Wait>(
         &mut self,
-        seal: &Source,
+        step: Step<'_>,
         rt: &R,
         key: Key,
         cell: &WakerCell,
         waker: Waker,
     ) -> Option<T>
-        ensures { did seal.now.id (polls key (cell_of cell.now) waker result) self.old self.new };
+        ensures { did step.entry.seal.now.id (polls key (cell_of cell.now) waker result) self.old self.new };
 
     /// The same with the waker of the task that is polled.
     fn poll_in<R: Wait>(
         &mut self,
-        seal: &Source,
+        step: Step<'_>,
         rt: &R,
         key: Key,
         cell: &WakerCell,
         cx: &mut Context<'_>,
     ) -> Option<T>
-        ensures did { did seal.now.id (arms key (cell_of cell.now) result) self.old self.new }
+        ensures did { did step.entry.seal.now.id (arms key (cell_of cell.now) result) self.old self.new }
         ensures armed { result ≡ None → IsArmed cx.new }
         ensures kept { Keeps cx.old cx.new };
 
     /// Takes a told listener off and gives its tag. One that waits gets the thread that sleeps on this parker as its task.
-    fn park(&mut self, seal: &Source, key: Key, parker: Arc<Parker>) -> Option<T>
-        ensures { did seal.now.id (parks key (parker_of (arc_value parker)) result) self.old self.new };
+    fn park(&mut self, step: Step<'_>, key: Key, parker: Arc<Parker>) -> Option<T>
+        ensures { did step.entry.seal.now.id (parks key (parker_of (arc_value parker)) result) self.old self.new };
 
     /// Takes a told listener off and gives its tag, once the thread has slept on this parker.
-    fn look(&mut self, seal: &Source, key: Key, parker: &Parker) -> Option<T>
+    fn look(&mut self, step: Step<'_>, key: Key, parker: &Parker) -> Option<T>
         requires { slept (parker_of parker.now) None }
-        ensures { did seal.now.id (looks key (parker_of parker.now) result) self.old self.new };
+        ensures { did step.entry.seal.now.id (looks key (parker_of parker.now) result) self.old self.new };
 
     /// Takes a listener off, told or not, and gives the tag of a told one, once the thread has slept on this parker for as long as was left.
     /// It passes nothing on.
-    fn leave(&mut self, seal: &Source, key: Key, parker: &Parker, timeout: Duration) -> Option<T>
+    fn leave(&mut self, step: Step<'_>, key: Key, parker: &Parker, timeout: Duration) -> Option<T>
         requires { Lapsed read read_again slept (parker_of parker.now) timeout }
-        ensures { did seal.now.id (leaves key timeout result) self.old self.new };
+        ensures { did step.entry.seal.now.id (leaves key timeout result) self.old self.new };
 
     /// Takes a listener off, and answers whether it was told. A told one may pass its notice on.
-    fn remove<R: Wait>(&mut self, seal: &Source, rt: &R, key: Key, pass_on: bool) -> bool
-        ensures { did seal.now.id (removes key pass_on result) self.old self.new };
+    fn remove<R: Wait>(&mut self, step: Step<'_>, rt: &R, key: Key, pass_on: bool) -> bool
+        ensures { did step.entry.seal.now.id (removes key pass_on result) self.old self.new };
 
     /// Tells listeners, and wakes them at once.
     fn notify<N: Notification<Tag = T> + Drop, R: Wait>(
         &mut self,
-        seal: &Source,
+        step: Step<'_>,
         rt: &R,
         notice: N,
     ) -> Result<usize, NotifyError>
         requires { N.can_give notice }
-        ensures { TellsIn N.size N.gives notice result (λ tags. did seal.now.id (notifies (N.additional notice) (N.size notice) tags result) self.old self.new) };
+        ensures { TellsIn N.size N.gives notice result (λ tags. did step.entry.seal.now.id (notifies (N.additional notice) (N.size notice) tags result) self.old self.new) };
 
     /// How many are told.
-    fn told(&self, seal: &Source) -> usize
-        ensures { did seal.now.id (counts_told result) self.now self.now };
+    fn told(&self, step: Step<'_>) -> usize
+        ensures { did step.entry.seal.now.id (counts_told result) self.now self.now };
 
     /// How many there are.
-    fn total(&self, seal: &Source) -> usize
-        ensures { did seal.now.id (counts_all result) self.now self.now };
+    fn total(&self, step: Step<'_>) -> usize
+        ensures { did step.entry.seal.now.id (counts_all result) self.now self.now };
 
     /// Sleeps on the parker that a listener registered with in this list, until it is rung.
     fn sleep<R: Wait>(rt: &R, seal: &Source, key: Key, parker: &Parker)
@@ -152,9 +156,13 @@ pub trait Steps<T>: Drop {
 }
 
 impl<T: Drop> Steps<T> for List<T, Task> {
+    ghost use Rattle.std.specs.Prelude.{◌≡◌};
+    ghost use Rattle.event_listener.specs.Replay.{nobody};
     ghost use Rattle.event_listener.specs.Sections.{OnList};
 
     ghost did = { λ _ section before after. OnList section before after };
+
+    ghost begins = { λ list. (list.lists ≡ nobody) × (list.serials ≡ 0) };
 
     ghost holds = { λ _ _. Unit {0} };
 
@@ -181,7 +189,7 @@ impl<T: Drop> Steps<T> for List<T, Task> {
     fn see(_token: &OnceToken<'_, Arc<Home<T, Self>>>) {}
 
     #[inline(always)]
-    fn listen(&mut self, _seal: &Source, cell: Arc<WakerCell>) -> Result<Key, ListenError> {
+    fn listen(&mut self, _step: Step<'_>, cell: Arc<WakerCell>) -> Result<Key, ListenError> {
         let key = self.insert()?;
         let _ = self.register(key, Task::Polled(cell));
         Ok(key)
@@ -190,7 +198,7 @@ impl<T: Drop> Steps<T> for List<T, Task> {
     #[inline(always)]
     fn poll<R: Wait>(
         &mut self,
-        _seal: &Source,
+        _step: Step<'_>,
         rt: &R,
         key: Key,
         cell: &WakerCell,
@@ -208,7 +216,7 @@ impl<T: Drop> Steps<T> for List<T, Task> {
     #[inline(always)]
     fn poll_in<R: Wait>(
         &mut self,
-        _seal: &Source,
+        _step: Step<'_>,
         rt: &R,
         key: Key,
         cell: &WakerCell,
@@ -224,12 +232,12 @@ impl<T: Drop> Steps<T> for List<T, Task> {
     }
 
     #[inline(always)]
-    fn park(&mut self, _seal: &Source, key: Key, parker: Arc<Parker>) -> Option<T> {
+    fn park(&mut self, _step: Step<'_>, key: Key, parker: Arc<Parker>) -> Option<T> {
         tag_given(self.register(key, Task::Parked(parker)))
     }
 
     #[inline(always)]
-    fn look(&mut self, _seal: &Source, key: Key, _parker: &Parker) -> Option<T> {
+    fn look(&mut self, _step: Step<'_>, key: Key, _parker: &Parker) -> Option<T> {
         match List::poll(self, key) {
             Ok(tag) => tag,
             Err(_) => None,
@@ -239,7 +247,7 @@ impl<T: Drop> Steps<T> for List<T, Task> {
     #[inline(always)]
     fn leave(
         &mut self,
-        _seal: &Source,
+        _step: Step<'_>,
         key: Key,
         _parker: &Parker,
         _timeout: Duration,
@@ -248,7 +256,7 @@ impl<T: Drop> Steps<T> for List<T, Task> {
     }
 
     #[inline(always)]
-    fn remove<R: Wait>(&mut self, _seal: &Source, rt: &R, key: Key, pass_on: bool) -> bool {
+    fn remove<R: Wait>(&mut self, _step: Step<'_>, rt: &R, key: Key, pass_on: bool) -> bool {
         match List::remove(self, key, pass_on, &mut WakeNow { rt }) {
             Ok(told) => told,
             Err(_) => false,
@@ -258,7 +266,7 @@ impl<T: Drop> Steps<T> for List<T, Task> {
     #[inline(always)]
     fn notify<N: Notification<Tag = T> + Drop, R: Wait>(
         &mut self,
-        _seal: &Source,
+        _step: Step<'_>,
         rt: &R,
         notice: N,
     ) -> Result<usize, NotifyError> {
@@ -266,12 +274,12 @@ impl<T: Drop> Steps<T> for List<T, Task> {
     }
 
     #[inline(always)]
-    fn told(&self, _seal: &Source) -> usize {
+    fn told(&self, _step: Step<'_>) -> usize {
         List::told(self)
     }
 
     #[inline(always)]
-    fn total(&self, _seal: &Source) -> usize {
+    fn total(&self, _step: Step<'_>) -> usize {
         List::total(self)
     }
 
