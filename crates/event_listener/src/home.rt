@@ -1,6 +1,6 @@
 //! The list of an event, which it shares with its listeners, and which is made at the first listening.
 
-ghost use Rattle.std.specs.Prelude.{◌≡◌, IfOk, IfSome, IfNone};
+ghost use Rattle.std.specs.Prelude.{◌≡◌, IfOk, OnErr, IfSome, IfNone};
 ghost use Rattle.std.specs.Arc.{arc_value};
 ghost use Rattle.event_listener.specs.Homes.{seal_of};
 
@@ -99,15 +99,13 @@ impl<T, L: Steps<T>> Homes<T, L> {
 
     /// What shows the list, made here where nobody listened yet. Where two threads make it, the first one's stays.
     fn shown<R: Wait>(&self, rt: &R) -> Result<OnceToken<'_, Arc<Home<T, L>>>, NoMemory>
-        ensures { IfOk result (λ token. token.of ≡ self.now.once.id) }
+        ensures of { IfOk result (λ token. token.of ≡ self.now.once.id) }
+        ensures refused { OnErr result L.refused }
     {
         if let Some(token) = L::find(&self.once) {
             return Ok(token);
         }
-        let made = match Arc::new(self.alloc, Home::new(L::empty(self.alloc))) {
-            Ok(made) => made,
-            Err(_) => return Err(NoMemory),
-        };
+        let made = L::share(self.alloc, Home::new(L::empty(self.alloc)))?;
         match self.once.try_insert(rt, made) {
             Ok(token) => Ok(token),
             Err((token, late)) => {
@@ -120,12 +118,10 @@ impl<T, L: Steps<T>> Homes<T, L> {
     /// The list, made where nobody listened yet.
     pub(crate) fn get_or_make<R: Wait>(&self, rt: &R) -> Result<Arc<Home<T, L>>, NoMemory>
         ensures held { IfOk result (λ home. L.holds self.now.once.id (seal_of (arc_value home))) }
+        ensures refused { OnErr result L.refused }
     {
         let token = self.shown(rt)?;
         L::see(&token);
-        match Arc::try_clone(self.once.value(&token)) {
-            Ok(home) => Ok(home),
-            Err(_) => Err(NoMemory),
-        }
+        L::share_again(self.once.value(&token))
     }
 }

@@ -1,16 +1,16 @@
 //! A listener's place in the list of its event.
-ghost use Rattle.std.specs.Prelude.{◌≡◌, ◌↔◌, IsTrue, IfOk, Ok, Err, Some, None, is_none, true, false};
+ghost use Rattle.std.specs.Prelude.{◌≡◌, ◌↔◌, IsTrue, IfOk, IfErr, OnErr, Ok, Err, Some, None, is_none, true, false};
 ghost use Rattle.std.specs.Arc.{arc_value};
 ghost use Rattle.std.specs.Duration.{as_nanos};
 ghost use Rattle.futures.specs.Poll.{OnPending, IfReady};
 ghost use Rattle.futures.specs.Task.{IsArmed, Keeps};
 ghost use Rattle.event_listener.specs.Homes.{seal_of};
-ghost use Rattle.event_listener.specs.Listening.{Listened, Polled, Armed, LeftSo, Waited, WaitedFor, Lapsed, time_left as left_of};
+ghost use Rattle.event_listener.specs.Listening.{Listened, RefusesToListen, Polled, Armed, LeftSo, Waited, WaitedFor, Lapsed, time_left as left_of};
 ghost use Rattle.event_listener.specs.Places.{seen};
 ghost use Rattle.event_listener.specs.Sections.{OnSome, parker_of, parks, looks};
 ghost use Rattle.event_listener.specs.declared.key.Key.{Key};
 
-use crate::error::ListenError;
+use crate::error::{ListenError, NoMemory};
 use crate::event::Event;
 use crate::home::{Home, Homes};
 use crate::listener::PollFault;
@@ -46,11 +46,12 @@ impl<T: Drop, L: Steps<T>> Place<T, L> {
         ensures event { IfOk result (λ made. made.event ≡ event) }
         ensures list { IfOk result (λ made. L.holds homes.now.once.id (seen made).list) }
         ensures listens { IfOk result (λ made. Listened L.did (seen made)) }
+        ensures refused { IfErr result (RefusesToListen L.did L.holds L.refused homes.now.once.id) }
     {
         let Ok(home) = homes.get_or_make(rt) else {
             return Err(ListenError::NoMemory);
         };
-        let Ok(task) = Arc::try_clone(&cell) else {
+        let Ok(task) = L::share_again(&cell) else {
             return Err(ListenError::NoMemory);
         };
         let listed = home.turn().listen(rt, task)?;
@@ -120,9 +121,13 @@ impl<T: Drop, L: Steps<T>> Place<T, L> {
         }
     }
 
-    /// What a thread sleeps on until the listener is told; `None` where it was refused for memory.
-    pub(crate) fn new_parker(&self) -> Option<Arc<Parker>> {
-        Arc::new(self.alloc, Parker::new()).ok()
+    /// What a thread sleeps on until the listener is told, for the list and for the thread.
+    pub(crate) fn new_parker(&self) -> Result<(Arc<Parker>, Arc<Parker>), NoMemory>
+        ensures same { IfOk result (λ both. arc_value both.0 ≡ arc_value both.1) }
+        ensures refused { OnErr result L.refused }
+    {
+        let parker = L::share(self.alloc, Parker::new())?;
+        Ok((L::share_again(&parker)?, parker))
     }
 
     /// Sleeps until the listener is told, and takes its tag.

@@ -1,6 +1,6 @@
 //! Listeners that live no longer than their event, and the macro that makes one.
-ghost use Rattle.std.specs.Prelude.{◌≡◌, ◌↔◌, true, false, is_none, IfOk, Err};
-ghost use Rattle.event_listener.specs.Listening.{Listening, Listened};
+ghost use Rattle.std.specs.Prelude.{◌≡◌, ◌↔◌, true, false, is_none, IfOk, IfErr, OnErr, Err};
+ghost use Rattle.event_listener.specs.Listening.{Listening, Listened, RefusesToListen};
 
 use crate::error::{ListenError, NoMemory};
 use crate::event::Event;
@@ -40,17 +40,15 @@ impl<'ev, T: Drop, R: Wait + Copy, L: Steps<T>> StackSlot<'ev, T, R, L> {
     ///
     /// Refused where that was refused for memory.
     pub fn new(rt: R, alloc: Global, event: &'ev Event<T, L>) -> Result<Self, NoMemory>
-        ensures { IfOk result (λ slot. slot ≡ event.now) }
+        ensures slot { IfOk result (λ slot. slot ≡ event.now) }
+        ensures refused { OnErr result L.refused }
     {
-        match Arc::new(alloc, WakerCell::new()) {
-            Ok(cell) => Ok(StackSlot {
-                rt,
-                alloc,
-                event,
-                cell: Some(cell),
-            }),
-            Err(_) => Err(NoMemory),
-        }
+        Ok(StackSlot {
+            rt,
+            alloc,
+            event,
+            cell: Some(L::share(alloc, WakerCell::new())?),
+        })
     }
 
     /// Adds a listener, as [`Event::listen`] does, and refused as there. It may wait for the list's lock.
@@ -58,11 +56,12 @@ impl<'ev, T: Drop, R: Wait + Copy, L: Steps<T>> StackSlot<'ev, T, R, L> {
         ensures event { IfOk result (λ listener. listener.event ≡ self.old.number) }
         ensures list { IfOk result (λ listener. L.holds self.old.lock listener.list) }
         ensures listens { IfOk result (Listened L.did) }
+        ensures refused { IfErr result (RefusesToListen L.did L.holds L.refused self.old.lock) }
         ensures slot { self.new ≡ self.old }
     {
         let cell = match self.cell.take() {
             Some(cell) => cell,
-            None => match Arc::new(self.alloc, WakerCell::new()) {
+            None => match L::share(self.alloc, WakerCell::new()) {
                 Ok(cell) => cell,
                 Err(_) => return Err(ListenError::NoMemory),
             },
@@ -106,6 +105,8 @@ impl<'ev, T: Drop, R: Wait + Copy, L: Steps<T>> Listener<T> for StackListener<'e
     ghost waited_for = { WaitedFor L.did L.read L.read_again L.slept };
 
     ghost waited_until = { WaitedUntil L.did L.read L.read_again L.slept };
+
+    ghost refused = { λ _. L.refused };
 
     ghost discarded = { λ l told. LeftSo L.did l false told };
 

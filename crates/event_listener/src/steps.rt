@@ -2,7 +2,7 @@
 //!
 //! The calls are written over any type of lists that has these steps. Each method's contract says that this very step was made, with this
 //! answer, by relations of which nothing else is known. So a call's contract, which names its steps, can be met only by making them.
-ghost use Rattle.std.specs.Prelude.{◌≡◌, ℕ, Option, Some, None, IfSome, IfNone};
+ghost use Rattle.std.specs.Prelude.{◌≡◌, ℕ, Option, Some, None, IfOk, OnErr, IfSome, IfNone};
 ghost use Rattle.std.specs.Arc.{arc_value};
 ghost use Rattle.std.specs.declared.time.Duration.{Duration as Span};
 ghost use Rattle.std.specs.declared.time.Instant.{Instant as Moment};
@@ -13,7 +13,7 @@ ghost use Rattle.event_listener.specs.Telling.{TellsIn};
 ghost use Rattle.event_listener.specs.Sections.{Section, OnSome, tag_given as given, cell_of, parker_of, listens, polls, arms, parks, looks, leaves, removes, notifies, counts_told, counts_all};
 
 use crate::calls::Registered;
-use crate::error::{ListenError, NotifyError, UnknownListener};
+use crate::error::{ListenError, NoMemory, NotifyError, UnknownListener};
 use crate::home::{Home, Step};
 use crate::key::Key;
 use crate::list::List;
@@ -50,6 +50,19 @@ pub trait Steps<T>: Drop {
 
     /// Whether the thread slept on the parker of this name, without a limit or for so long at most.
     ghost slept: { ℕ → Option Span → Type 0 };
+
+    /// Whether memory was refused.
+    ghost refused: { Type 0 };
+
+    /// Memory for a value that is shared.
+    fn share<X: Drop>(alloc: Global, value: X) -> Result<Arc<X>, NoMemory>
+        ensures shared { IfOk result (λ shared. arc_value shared ≡ value) }
+        ensures refused { OnErr result refused };
+
+    /// One more owner of a shared value.
+    fn share_again<X: Drop>(shared: &Arc<X>) -> Result<Arc<X>, NoMemory>
+        ensures same { IfOk result (λ again. arc_value again ≡ arc_value shared.now) }
+        ensures refused { OnErr result refused };
 
     /// A list without listeners.
     fn empty(alloc: Global) -> Self
@@ -173,6 +186,24 @@ impl<T: Drop> Steps<T> for List<T, Task> {
     ghost read_again = { λ _ _. Unit {0} };
 
     ghost slept = { λ _ _. Unit {0} };
+
+    ghost refused = { Unit {0} };
+
+    #[inline(always)]
+    fn share<X: Drop>(alloc: Global, value: X) -> Result<Arc<X>, NoMemory> {
+        match Arc::new(alloc, value) {
+            Ok(shared) => Ok(shared),
+            Err(_) => Err(NoMemory),
+        }
+    }
+
+    #[inline(always)]
+    fn share_again<X: Drop>(shared: &Arc<X>) -> Result<Arc<X>, NoMemory> {
+        match Arc::try_clone(shared) {
+            Ok(again) => Ok(again),
+            Err(_) => Err(NoMemory),
+        }
+    }
 
     fn empty(alloc: Global) -> Self {
         List::new(alloc)

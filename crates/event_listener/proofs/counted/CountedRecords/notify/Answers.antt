@@ -1,6 +1,5 @@
 use Rattle.std.proofs.Common.{refl, sym, [], arith}
 use Rattle.std.proofs.lemmas.Bool.Decides.{nat_tests}
-use Rattle.event_listener.specs.Lists.{told_by}
 use Rattle.event_listener.proofs.counted.CountedRecords.notify.Goals as goal
 
 pub returns-then-told_somebody-clause-did : goal.returns-then-told_somebody-clause-did
