@@ -41,14 +41,21 @@ impl<T: Drop> Event<T> {
     pub fn with_tag(alloc: Global, id: EventId) -> Event<T>
         ensures { result.number ≡ id }
     {
+        Event::with_lists(alloc, id)
+    }
+}
+
+impl<T: Drop, L: Steps<T>> Event<T, L> {
+    /// The same over lists of another type, as a test has that counts what is done to a list. It takes no memory. Own to this project.
+    pub fn with_lists(alloc: Global, id: EventId) -> Event<T, L>
+        ensures { result.number ≡ id }
+    {
         Event {
             id,
             homes: Homes::new(alloc),
         }
     }
-}
 
-impl<T: Drop, L: Steps<T>> Event<T, L> {
     /// Adds a listener, which is told by the next notice that reaches it. It gives up its place when it is dropped, for which it
     /// keeps a copy of the runtime.
     ///

@@ -83,11 +83,8 @@ impl<T: Drop, L: Steps<T>> Place<T, L> {
         if self.listed.is_off() {
             return Poll::Ready(Err(PollFault::NeverInserted));
         }
-        match self
-            .home
-            .turn()
-            .poll(rt, &mut self.listed, &self.cell, waker)
-        {
+        let turn = self.home.turn();
+        match turn.poll(rt, &mut self.listed, &self.cell, waker) {
             Some(tag) => Poll::Ready(Ok(tag)),
             None => Poll::Pending,
         }
@@ -111,11 +108,8 @@ impl<T: Drop, L: Steps<T>> Place<T, L> {
         if self.listed.is_off() {
             return Poll::Ready(Err(PollFault::NeverInserted));
         }
-        match self
-            .home
-            .turn()
-            .poll_in(rt, &mut self.listed, &self.cell, cx)
-        {
+        let turn = self.home.turn();
+        match turn.poll_in(rt, &mut self.listed, &self.cell, cx) {
             Some(tag) => Poll::Ready(Ok(tag)),
             None => Poll::Pending,
         }
@@ -179,9 +173,8 @@ impl<T: Drop, L: Steps<T>> Place<T, L> {
         self.sleep_out(rt, parker, clock, begun, timeout);
         // The look and the leaving are one section: a notice that reaches the listener before it leaves is in the answer, and none
         // reaches it afterwards.
-        self.home
-            .turn()
-            .leave(rt, &mut self.listed, parker, timeout)
+        let turn = self.home.turn();
+        turn.leave(rt, &mut self.listed, parker, timeout)
     }
 
     // Sleeps for what is left of the time, if anything is.
