@@ -1,5 +1,5 @@
 -- What contracts see of an event and of a listener, and what its calls say of the sections that they made.
-use Rattle.std.specs.Prelude.{◌≡◌, ◌⊎◌, ◌-◌, ℕ, Bool, false, Option, None, Some, Ok, Err}
+use Rattle.std.specs.Prelude.{◌≡◌, ◌⊎◌, ◌↔◌, ◌-◌, ℕ, Bool, true, false, is_none, Result, Option, None, Some, Ok, Err}
 use Rattle.std.specs.Duration.{as_nanos}
 use Rattle.std.specs.Time.{instant_nanos}
 use Rattle.std.specs.declared.time.Duration.{Duration}
@@ -9,6 +9,8 @@ use Rattle.event_listener.specs.Sections.{Section, OnSome, OnEvents, listens, po
 use Rattle.event_listener.specs.declared.error.ListenError.{ListenError}
 use Rattle.event_listener.specs.declared.error.ListenError.TheVariants.{NoMemory}
 use Rattle.event_listener.specs.declared.key.Key.{Key}
+use Rattle.event_listener.specs.declared.listener.PollFault.{PollFault}
+use Rattle.event_listener.specs.declared.listener.PollFault.TheVariants.{NeverInserted}
 
 -- the identity of an event, and the name of the lock that keeps its list, which no other lock has
 pub record EventView : Type 0 where
@@ -21,6 +23,10 @@ pub record Listening : Type 0 where
   pub list : ℕ
   pub cell : ℕ
   pub key : Option Key
+
+-- what it may give as a future: that it has given its tag, exactly where it has
+abbrev pub GivesTag : {T : Type 0} → Listening → Result T PollFault → Type 0
+GivesTag l given = (given ≡ Err NeverInserted) ↔ (is_none l.key ≡ true)
 
 -- what is left of the time, where the clock read so at the beginning and so later; nothing where it couldn't be read
 abbrev pub time_left : Option Instant → Option Instant → Duration → ℕ

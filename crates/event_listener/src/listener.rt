@@ -1,10 +1,11 @@
 //! Listeners of events.
-ghost use Rattle.std.specs.Prelude.{◌≡◌, ℕ, Bool, Option, Some, None, true, false, ◌↔◌, IsTrue, IfOk, IfErr, Ok, Err, is_none};
+ghost use Rattle.std.specs.Prelude.{◌≡◌, ⊤, Result, ℕ, Bool, Option, Some, None, true, false, ◌↔◌, IsTrue, IfOk, IfErr, Ok, Err, is_none};
 ghost use Rattle.std.specs.declared.time.Duration.{Duration as Span};
 ghost use Rattle.std.specs.declared.time.Instant.{Instant as Moment};
 ghost use Rattle.futures.specs.Poll.{OnPending, IfReady};
+ghost use Rattle.futures.specs.Task.{Covers, IsArmed, Keeps};
 ghost use Rattle.futures.specs.declared.task.waker.Waker.{Waker as OfTask};
-ghost use Rattle.event_listener.specs.Listening.{Listening, Listened, RefusesToListen, LeftSo};
+ghost use Rattle.event_listener.specs.Listening.{Listening, Listened, RefusesToListen, Armed, GivesTag, LeftSo};
 ghost use Rattle.event_listener.specs.Waits.{listener_of};
 
 use crate::error::ListenError;
@@ -292,13 +293,26 @@ impl<T: Drop, R: Wait + Copy, L: Steps<T>> Listener<T> for EventListener<T, R, L
 impl<T: Drop, R: Wait + Copy, L: Steps<T>> Future for EventListener<T, R, L> {
     type Output = Result<T, PollFault>;
 
-    ghost use Rattle.event_listener.specs.declared.listener.PollFault.TheVariants as fault;
+    ghost use Rattle.event_listener.specs.Listening.{GivesTag};
 
     // A listener that has given its tag is refused, and no other.
-    ghost gives = { λ l r. (r ≡ Err fault.NeverInserted) ↔ (is_none l.key ≡ true) };
+    ghost gives = { GivesTag };
 
     /// As [`Listener::poll`], with the waker of the task that is polled. A second poll wakes nobody.
-    fn poll(&mut self, cx: &mut Context<'_>) -> Poll<Result<T, PollFault>> {
+    // The trait's clauses say nothing of a section, so behind them stand those of the method itself.
+    fn poll(&mut self, cx: &mut Context<'_>) -> Poll<Result<T, PollFault>>
+        ensures value { IfReady result (GivesTag self.old) }
+        ensures again { OnPending result ⊤ }
+        ensures same { OnPending result ((given : Result T PollFault) → GivesTag self.new given → GivesTag self.old given) }
+        ensures registered { OnPending result (Covers cx.new (λ _. ⊥)) }
+        ensures kept { Keeps cx.old cx.new }
+        ensures ready { (tag : T) → result ≡ Poll.Ready (Ok tag) → Armed L.did self.old (Some tag) }
+        ensures waits { OnPending result (Armed L.did self.old None) }
+        ensures finished { IfReady result (λ _. is_none self.new.key ≡ true) }
+        ensures pending { OnPending result (self.new ≡ self.old) }
+        ensures event { self.new.event ≡ self.old.event }
+        ensures armed { OnPending result (IsArmed cx.new) }
+    {
         let rt = self.rt;
         self.place.poll_in(&rt, cx)
     }

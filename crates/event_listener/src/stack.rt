@@ -1,6 +1,8 @@
 //! Listeners that live no longer than their event, and the macro that makes one.
-ghost use Rattle.std.specs.Prelude.{◌≡◌, ◌↔◌, true, false, is_none, IfOk, IfErr, OnErr, Err};
-ghost use Rattle.event_listener.specs.Listening.{Listening, Listened, RefusesToListen};
+ghost use Rattle.std.specs.Prelude.{◌≡◌, ⊤, Result, ◌↔◌, Some, None, true, false, is_none, IfOk, IfErr, OnErr, Ok, Err};
+ghost use Rattle.futures.specs.Poll.{OnPending, IfReady};
+ghost use Rattle.futures.specs.Task.{Covers, IsArmed, Keeps};
+ghost use Rattle.event_listener.specs.Listening.{Listening, Listened, RefusesToListen, Armed, GivesTag};
 
 use crate::error::{ListenError, NoMemory};
 use crate::event::Event;
@@ -163,12 +165,25 @@ impl<'ev, T: Drop, R: Wait + Copy, L: Steps<T>> Listener<T> for StackListener<'e
 impl<'ev, T: Drop, R: Wait + Copy, L: Steps<T>> Future for StackListener<'ev, T, R, L> {
     type Output = Result<T, PollFault>;
 
-    ghost use Rattle.event_listener.specs.declared.listener.PollFault.TheVariants as fault;
+    ghost use Rattle.event_listener.specs.Listening.{GivesTag};
 
-    ghost gives = { λ l r. (r ≡ Err fault.NeverInserted) ↔ (is_none l.key ≡ true) };
+    ghost gives = { GivesTag };
 
     /// As [`Listener::poll`], with the waker of the task that is polled. A second poll wakes nobody.
-    fn poll(&mut self, cx: &mut Context<'_>) -> Poll<Result<T, PollFault>> {
+    // The trait's clauses say nothing of a section, so behind them stand those of the method itself.
+    fn poll(&mut self, cx: &mut Context<'_>) -> Poll<Result<T, PollFault>>
+        ensures value { IfReady result (GivesTag self.old) }
+        ensures again { OnPending result ⊤ }
+        ensures same { OnPending result ((given : Result T PollFault) → GivesTag self.new given → GivesTag self.old given) }
+        ensures registered { OnPending result (Covers cx.new (λ _. ⊥)) }
+        ensures kept { Keeps cx.old cx.new }
+        ensures ready { (tag : T) → result ≡ Poll.Ready (Ok tag) → Armed L.did self.old (Some tag) }
+        ensures waits { OnPending result (Armed L.did self.old None) }
+        ensures finished { IfReady result (λ _. is_none self.new.key ≡ true) }
+        ensures pending { OnPending result (self.new ≡ self.old) }
+        ensures event { self.new.event ≡ self.old.event }
+        ensures armed { OnPending result (IsArmed cx.new) }
+    {
         Future::poll(&mut self.inner, cx)
     }
 }
