@@ -62,18 +62,16 @@ module _ {T W : Type 0} (channel : ChannelTable T W) (s : Standing T W) where
 
 -- ---- what a call left
 
-made_alone : (T : Type 0) (key : Option Key) → kept_on {T = T} reply.Made key ≡ []
-made_alone T None = refl
-made_alone T (Some k) = refl
-
 module _ {T : Type 0} where
-  nothing_left : (r : Reply T) → kept_on r None ≡ []
-  nothing_left r = refl
+  -- what answers so leaves no listener
+  pub left_none : (r : Reply T) → ((k : Key) → kept_on r (Some k) ≡ []) → (key : Option Key) → kept_on r key ≡ []
+  left_none r never None = refl
+  left_none r never (Some k) = never k
 
   -- a poll leaves a listener to its operation where it is pending
   pub left_listed : {A : Type 0} (of : Poll A → Reply T) (line : WaitList) → ((k : Key) → kept_on (of Pending) (Some k) ≡ listed_on line (Some k)) → (p : Poll A) (key : Option Key)
       → is_some key ≡ is_pending p → kept_on (of p) key ≡ listed_on line key
-  left_listed of line same p None listed = nothing_left (of p)
+  left_listed of line same p None listed = refl
   left_listed of line same Pending (Some k) listed = same k
   left_listed of line same (Ready x) (Some k) listed = absurd (cc)
 
@@ -91,12 +89,12 @@ module _ {T W : Type 0} where
   -- with the seat of a clone and of an upgrade lies the handle that it made
   pub clone_rests : (side : Side) {gave : Completed T → Type 0} {s : Standing T W} (r : Reply T) {kept : Returned T} {t : Standing T W} → HasGiven gave s (ask.CloneHandle side) r kept t
       → IfOk (made_answer r) (λ u. Rests (side ∷ []) [] t)
-  clone_rests side reply.Made {kept = kept} given = rests_with (side ∷ []) [] given refl (made_alone T kept.key)
+  clone_rests side reply.Made {kept = kept} given = rests_with (side ∷ []) [] given refl (left_none {T = T} reply.Made (λ k. refl) kept.key)
   clone_rests side r given = tt
 
   pub upgrade_rests : (side : Side) {gave : Completed T → Type 0} {s : Standing T W} (r : Reply T) {kept : Returned T} {t : Standing T W} → HasGiven gave s (ask.Upgrade side) r kept t
       → IfOk (upgraded_answer r) (λ made. IfSome made (λ u. Rests (side ∷ []) [] t))
-  upgrade_rests side reply.Made {kept = kept} given = rests_with (side ∷ []) [] given refl (made_alone T kept.key)
+  upgrade_rests side reply.Made {kept = kept} given = rests_with (side ∷ []) [] given refl (left_none {T = T} reply.Made (λ k. refl) kept.key)
   upgrade_rests side r given = tt
 
 -- ---- the end of a call whose caller doesn't say all that it answered

@@ -1,5 +1,6 @@
-//! Polled operations: each is a party of its own from its first poll on, with whose seat the listener lies that is listed for it. A poll is a
-//! call of this party, and so is the giving up, which the drop of an operation makes.
+//! Polled operations: each is a party of its own from its first poll on, with whose seat the listener lies that is listed for it. A receiver
+//! that is polled as a stream has a seat of this kind beside that of its handle. A poll is a call of this party, and so is the giving up,
+//! which the drop of an operation makes.
 
 ghost use Rattle.std.specs.Prelude.{◌≡◌, [], None, is_some};
 ghost use Rattle.channel_calls.specs.Calls.{SendsOn, send_ask, recv_ask, closed_ask, next_ask};
@@ -8,6 +9,7 @@ ghost use Rattle.channel_calls.specs.declared.ask.ChannelAsk.TheVariants as ask;
 ghost use Rattle.channel_calls.specs.declared.reply.Reply.TheVariants as reply;
 ghost use Rattle.channel_calls.specs.declared.stage.WaitList.TheVariants.{Sends, Receives, Streams, Closings};
 ghost use Rattle.channel_history.specs.InHand.{listed_on};
+ghost use Rattle.channel_history.specs.Party.{fresh};
 ghost use Rattle.channel_cells.specs.Calls.{HasCalled, HasPolled};
 ghost use Rattle.channel_history.specs.CallEnds.{Rests};
 ghost use Rattle.channel_cells.specs.Channel.{id_of, seat_table, standing_of};
@@ -24,6 +26,15 @@ use std::marker::Brand;
 use std::sync::Wait;
 
 impl<T: Drop, W: Drop> ChannelTable<T, W> {
+    /// The seat of a new party, which has made no call: that of an operation before its first poll. It costs a load.
+    pub fn new_seat(&self) -> Seat<T, W>
+        ensures here { seat_table result ≡ id_of self.now }
+        ensures new { standing_of result ≡ fresh }
+        ensures rests { Rests [] [] (standing_of result) }
+    {
+        self.table.enter::<Brand, ()>(&()).rest()
+    }
+
     /// A poll of a receive, which may hold this listener. Without a task nothing is tried, the listener leaves, and memory is what is wanted.
     pub fn poll_recv<R: Wait, S: Wakes<W>>(
         &self,
@@ -136,6 +147,7 @@ impl<T: Drop, W: Drop> ChannelTable<T, W> {
         requires listener { Rests [] (listed_on line key) (standing_of seat) }
         ensures called { HasCalled (id_of self.now) (standing_of seat) (ask.GiveUp line message key) (reply.GivenUp result.0) result.1 }
         ensures message { result.0 ≡ message }
+        ensures listener { Rests [] [] (standing_of result.1) }
     {
         let mut cells = self.begin_on::<Brand, R, (WaitList, Option<Key>, &Option<T>)>(
             rt,
