@@ -4,6 +4,7 @@ pub mod look;
 pub mod opening;
 
 ghost use Rattle.std.specs.Prelude.{◌≡◌};
+ghost use Rattle.concurrent_queue.specs.declared.cells.QueueForm.TheVariants.{Bounded};
 
 use crate::lists::{LiesHere, SeatedList, Table};
 use crate::machine::OfChannel;
@@ -18,7 +19,9 @@ use keyed_lock::KeyedLocks;
 pub struct ChannelTable<T: Drop, W: Drop> {
     pub(crate) table: Table<T, W>,
     pub(crate) lists: KeyedLocks<SeatedList<T, W>, Table<T, W>, LiesHere, 4>,
+    pub(crate) capacity: usize,
     ghost same: { lists ≡ table },
+    ghost room: { table.table.shared.key ≡ Bounded capacity },
 }
 
 /// The seat of a party of a channel that has no call under way: that of a handle, of an operation, or of whoever keeps account of calls.

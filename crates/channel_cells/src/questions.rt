@@ -1,12 +1,15 @@
 //! Questions that wait for nobody: they are made on words of the table alone, without the runtime.
 
 ghost use Rattle.std.specs.Prelude.{◌≡◌};
+ghost use Rattle.concurrent_queue.specs.Replies.{MayCall, room_of};
+ghost use Rattle.concurrent_queue.specs.SharedQueue.{IsWordsAlone};
+ghost use Rattle.concurrent_queue.specs.Walked.{Walked, standing};
 ghost use Rattle.channel_calls.specs.declared.ask.ChannelAsk.TheVariants as ask;
 ghost use Rattle.channel_calls.specs.declared.reply.Reply.TheVariants as reply;
 ghost use Rattle.channel_history.specs.Machine.{side_of};
 ghost use Rattle.channel_history.specs.Party.{fresh};
-ghost use Rattle.channel_history.specs.WholeCalls.{MayAsk, asked_by};
-ghost use Rattle.channel_cells.specs.Calls.{HasCalled};
+ghost use Rattle.channel_history.specs.WholeCalls.{MayAsk};
+ghost use Rattle.channel_cells.specs.Calls.{HasBegun, HasCalled};
 ghost use Rattle.channel_history.specs.CallEnds.{HasEnded, EndsSo};
 ghost use Rattle.channel_cells.specs.Words.{words_view, words_form, words_table};
 ghost use Rattle.channel_cells.specs.Channel.{form_of, id_of, seat_table, standing_of};
@@ -20,9 +23,9 @@ use channel_calls::stage::Side;
 use channel_calls::words::ChannelWords;
 use channel_history::party::Standing;
 use concurrent_queue::call::QueueReply;
+use concurrent_queue::cells::Cells;
 use concurrent_queue::history::cells::HistoryCells;
 use concurrent_queue::queue_call::QueueCall;
-use concurrent_queue::queue_call::whole::tell;
 use std::marker::Brand;
 use std::mem;
 
@@ -50,14 +53,11 @@ impl<'a, T: Drop, W: Drop> ChannelWords<T, W> for CallWords<'a, T, W> {
 
     ghost rests = { rests words_form words_view };
 
-    // All steps of the question, which its second step answers at the latest.
+    // Both steps of the question at once: other threads may step between them, and nothing else of this call does.
     #[inline(always)]
     fn step_words(&mut self, call: &mut QueueCall<T>) -> Option<QueueReply<T>> {
         let whole = mem::replace(call, QueueCall::ended());
-        match whole.into_asked() {
-            Ok(ask) => Some(tell(ask, &mut self.queue)),
-            Err(_) => unreachable!(),
-        }
+        Some(answer(whole, &mut self.queue))
     }
 
     #[inline(always)]
@@ -66,19 +66,47 @@ impl<'a, T: Drop, W: Drop> ChannelWords<T, W> for CallWords<'a, T, W> {
     }
 }
 
+/// Makes the steps of a question to the queue up to its answer: its second step answers at the latest.
+#[inline(always)]
+fn answer<T: Drop, C: Cells<T>>(call: QueueCall<T>, cells: &mut C) -> QueueReply<T>
+    requires alone { IsWordsAlone call }
+    requires stands { C.stands (standing (C.form_of cells.old) call.state) cells.old }
+    ensures walked { Walked C.did (C.form_of cells.old) call cells.old result cells.new }
+    ensures answers { MayCall (C.form_of cells.old) call.state result }
+{
+    let mut call = call;
+    if let Some(reply) = call.step(cells) {
+        drop(call);
+        return reply;
+    }
+    match call.step(cells) {
+        Some(reply) => {
+            drop(call);
+            reply
+        }
+        None => unreachable!(),
+    }
+}
+
 impl<T: Drop, W: Drop> ChannelTable<T, W> {
     /// A new party asks a question. It costs a load, which makes its seat.
     #[inline(always)]
     fn asks<E: Asks<T, W>, X>(&self, about: &X) -> CallWords<'_, T, W>
         requires asks { MayAsk (form_of self.now) fresh E.ask }
-        ensures begun { words_view result ≡ asked_by fresh E.ask }
-        ensures form { words_form result ≡ form_of self.now }
-        ensures table { words_table result ≡ id_of self.now }
+        ensures begun { HasBegun self.now fresh E.ask (words_form result) (words_table result) (words_view result) }
     {
         let seat = self.table.enter::<Brand, X>(about);
         CallWords {
             queue: HistoryCells { seat },
         }
+    }
+
+    /// How many messages it holds at most. It touches no cell, so it is no call of the history, and waits for nobody.
+    #[inline(always)]
+    pub fn capacity(&self) -> Option<usize>
+        ensures { result ≡ room_of (form_of self.now) }
+    {
+        Some(self.capacity)
     }
 
     /// Whether the channel is closed. It waits for nobody.
@@ -90,6 +118,39 @@ impl<T: Drop, W: Drop> ChannelTable<T, W> {
         let closed = questions::is_closed(&mut words);
         let seat = words.end::<Brand, bool>(&closed);
         (closed, seat)
+    }
+
+    /// Whether it holds no message. It waits for nobody.
+    #[inline(always)]
+    pub fn is_empty(&self) -> (bool, Seat<T, W>)
+        ensures called { HasCalled (id_of self.now) fresh ask.IsEmpty (reply.Flag result.0) result.1 }
+    {
+        let mut words = self.asks::<Brand, ()>(&());
+        let empty = questions::is_empty(&mut words);
+        let seat = words.end::<Brand, bool>(&empty);
+        (empty, seat)
+    }
+
+    /// Whether it holds as many messages as its capacity. It waits for nobody.
+    #[inline(always)]
+    pub fn is_full(&self) -> (bool, Seat<T, W>)
+        ensures called { HasCalled (id_of self.now) fresh ask.IsFull (reply.Flag result.0) result.1 }
+    {
+        let mut words = self.asks::<Brand, ()>(&());
+        let full = questions::is_full(&mut words);
+        let seat = words.end::<Brand, bool>(&full);
+        (full, seat)
+    }
+
+    /// Whether a receiver got its last message: whether the channel is closed, and then whether it is empty. It waits for nobody.
+    #[inline(always)]
+    pub fn is_terminated(&self) -> (bool, Seat<T, W>)
+        ensures called { HasCalled (id_of self.now) fresh ask.IsTerminated (reply.Flag result.0) result.1 }
+    {
+        let mut words = self.asks::<Brand, ()>(&());
+        let terminated = questions::is_terminated(&mut words);
+        let seat = words.end::<Brand, bool>(&terminated);
+        (terminated, seat)
     }
 
     /// How many strong handles of this kind live. It waits for nobody.

@@ -1,15 +1,16 @@
 //! The opening of a channel: its table, whose first party has all that is to lie with others, and the four lists, each behind its lock.
 
-ghost use Rattle.std.specs.Prelude.{◌≡◌, ℕ, suc, ◌<◌, ◌≤◌, ◌^◌, [], ◌∷◌, IfOk};
+ghost use Rattle.std.specs.Prelude.{◌≡◌, suc, ◌<◌, ◌≤◌, ◌^◌, [], ◌∷◌, IfOk};
 ghost use Rattle.concurrent_queue.specs.declared.cells.QueueForm.TheVariants.{Bounded};
 ghost use Rattle.channel_calls.specs.declared.stage.Side.TheVariants.{Senders, Receivers};
 ghost use Rattle.channel_history.specs.CallEnds.{Rests};
 ghost use Rattle.channel_history.specs.CallSections.{LiesAlone};
 ghost use Rattle.channel_cells.specs.Channel.{form_of, id_of, seat_table, standing_of};
-ghost use Rattle.channel_cells.specs.Lists.{line_at, opening_at, with_handles};
+ghost use Rattle.channel_cells.specs.Lists.{index_of, opening_at, with_handles};
 
 use crate::channel::{Calling, ChannelTable, Opened};
 use crate::lists::SeatedList;
+use channel_calls::stage::WaitList;
 use channel_history::party::Standing;
 use concurrent_queue::history::seats::NamelessSeat;
 use concurrent_queue::history::table::RuledTable;
@@ -18,15 +19,20 @@ use keyed_lock::KeyedLocks;
 use std::alloc::{AllocError, Global};
 use std::marker::Brand;
 
-/// A new list, with the seat that says that it lies here: the last one that lies with the seat of the opening.
-fn part_list<T: Drop, W: Drop>(seat: &mut Calling<'_, T, W>, alloc: Global) -> SeatedList<T, W>
-    requires left { (n : ℕ) × (n < 4) × (seat.old.seat.me.0.state ≡ opening_at (suc n)) }
-    ensures list { (n : ℕ) → n < 4 → seat.old.seat.me.0.state ≡ opening_at (suc n) → LiesAlone (line_at n) result.list.lists result.seat.seat.me.0.state × (seat.new.seat.me.0.state ≡ opening_at n) }
+/// A new list of this kind, with the seat that says that it lies here: the last one that lies with the seat of the opening.
+fn part_list<T: Drop, W: Drop>(
+    seat: &mut Calling<'_, T, W>,
+    alloc: Global,
+    line: WaitList,
+) -> SeatedList<T, W>
+    requires last { seat.old.seat.me.0.state ≡ opening_at (suc (index_of line)) }
+    ensures list { LiesAlone line result.list.lists result.seat.seat.me.0.state }
+    ensures stays { seat.new.seat.me.0.state ≡ opening_at (index_of line) }
     ensures table { result.seat.seat.table_id ≡ seat.old.seat.table_id }
     ensures same { (seat.new.seat.table_id ≡ seat.old.seat.table_id) × (seat.new.seat.me.0.form ≡ seat.old.seat.me.0.form) }
 {
     let list = List::new(alloc);
-    let apart = seat.part::<Brand, ()>(&());
+    let apart = seat.part::<Brand, WaitList>(&line);
     SeatedList { list, seat: apart }
 }
 
@@ -53,15 +59,19 @@ impl<T: Drop, W: Drop> ChannelTable<T, W> {
     {
         let (table, first) = RuledTable::new(alloc, capacity, 1)?;
         let mut seat = table.go_on(first);
-        let closings = part_list(&mut seat, alloc);
-        let streams = part_list(&mut seat, alloc);
-        let receives = part_list(&mut seat, alloc);
-        let sends = part_list(&mut seat, alloc);
+        let closings = part_list(&mut seat, alloc, WaitList::Closings);
+        let streams = part_list(&mut seat, alloc, WaitList::Streams);
+        let receives = part_list(&mut seat, alloc, WaitList::Receives);
+        let sends = part_list(&mut seat, alloc, WaitList::Sends);
         let receiver = part_receiver(&mut seat);
         let sender = seat.rest();
         let receiver = table.name(receiver);
         let lists = KeyedLocks::new(alloc, [sends, receives, streams, closings], &table)?;
-        let channel = ChannelTable { table, lists };
+        let channel = ChannelTable {
+            table,
+            lists,
+            capacity,
+        };
         Ok(Opened {
             channel,
             sender,
