@@ -3,7 +3,7 @@
 pub mod look;
 pub mod opening;
 
-ghost use Rattle.std.specs.Prelude.{◌≡◌};
+ghost use Rattle.std.specs.Prelude.{◌≡◌, ◌≤◌, ◌^◌};
 ghost use Rattle.concurrent_queue.specs.declared.cells.QueueForm.TheVariants.{Bounded};
 
 use crate::lists::{LiesHere, SeatedList, Table};
@@ -21,7 +21,7 @@ pub struct ChannelTable<T: Drop, W: Drop> {
     pub(crate) lists: KeyedLocks<SeatedList<T, W>, Table<T, W>, LiesHere, 4>,
     pub(crate) capacity: usize,
     ghost same: { lists ≡ table },
-    ghost room: { table.table.shared.key ≡ Bounded capacity },
+    ghost bounded: { (table.table.shared.key ≡ Bounded capacity) × (capacity ≤ 2 ^ 58) },
 }
 
 /// The seat of a party of a channel that has no call under way: that of a handle, of an operation, or of whoever keeps account of calls.

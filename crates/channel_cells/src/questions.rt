@@ -57,7 +57,7 @@ impl<'a, T: Drop, W: Drop> ChannelWords<T, W> for CallWords<'a, T, W> {
     #[inline(always)]
     fn step_words(&mut self, call: &mut QueueCall<T>) -> Option<QueueReply<T>> {
         let whole = mem::replace(call, QueueCall::ended());
-        Some(answer(whole, &mut self.queue))
+        Some(complete_question(whole, &mut self.queue))
     }
 
     #[inline(always)]
@@ -68,7 +68,7 @@ impl<'a, T: Drop, W: Drop> ChannelWords<T, W> for CallWords<'a, T, W> {
 
 /// Makes the steps of a question to the queue up to its answer: its second step answers at the latest.
 #[inline(always)]
-fn answer<T: Drop, C: Cells<T>>(call: QueueCall<T>, cells: &mut C) -> QueueReply<T>
+fn complete_question<T: Drop, C: Cells<T>>(call: QueueCall<T>, cells: &mut C) -> QueueReply<T>
     requires alone { IsWordsAlone call }
     requires stands { C.stands (standing (C.form_of cells.old) call.state) cells.old }
     ensures walked { Walked C.did (C.form_of cells.old) call cells.old result cells.new }

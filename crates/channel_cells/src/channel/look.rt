@@ -7,7 +7,8 @@ ghost use Rattle.channel_cells.specs.Look.{IsTold};
 
 use crate::channel::{ChannelTable, Seat};
 use channel_history::laws::{
-    each_moment_is_said, handles_are_counted, histories_are_runs, registrations_are_live,
+    each_moment_is_said, handles_are_counted, histories_are_accounted, histories_are_runs,
+    nobody_is_missed_at_rest, registrations_are_live,
 };
 
 impl<T: Drop, W: Drop> ChannelTable<T, W> {
@@ -21,6 +22,8 @@ impl<T: Drop, W: Drop> ChannelTable<T, W> {
     {
         histories_are_runs::<T, W>();
         each_moment_is_said::<T, W>();
+        histories_are_accounted::<T, W>();
+        nobody_is_missed_at_rest::<T, W>();
         handles_are_counted::<T, W>();
         registrations_are_live::<T, W>();
         let _ = self.table.look(seat);

@@ -3,7 +3,6 @@
 ghost use Rattle.std.specs.Prelude.{◌≡◌, suc, ◌<◌, ◌≤◌, ◌^◌, [], ◌∷◌, IfOk};
 ghost use Rattle.concurrent_queue.specs.declared.cells.QueueForm.TheVariants.{Bounded};
 ghost use Rattle.channel_calls.specs.declared.stage.Side.TheVariants.{Senders, Receivers};
-ghost use Rattle.channel_history.specs.CallEnds.{Rests};
 ghost use Rattle.channel_history.specs.CallSections.{LiesAlone};
 ghost use Rattle.channel_cells.specs.Channel.{form_of, id_of, seat_table, standing_of};
 ghost use Rattle.channel_cells.specs.Lists.{index_of, opening_at, with_handles};
@@ -54,8 +53,8 @@ impl<T: Drop, W: Drop> ChannelTable<T, W> {
     pub fn open(alloc: Global, capacity: usize) -> Result<Opened<T, W>, AllocError>
         requires { (0 < capacity) × (capacity ≤ 2 ^ 58) }
         ensures form { IfOk result (λ o. form_of o.channel ≡ Bounded capacity) }
-        ensures sender { IfOk result (λ o. Rests (Senders ∷ []) [] (standing_of o.sender) × (seat_table o.sender ≡ id_of o.channel)) }
-        ensures receiver { IfOk result (λ o. Rests (Receivers ∷ []) [] (standing_of o.receiver) × (seat_table o.receiver ≡ id_of o.channel)) }
+        ensures sender { IfOk result (λ o. (standing_of o.sender ≡ with_handles (Senders ∷ [])) × (seat_table o.sender ≡ id_of o.channel)) }
+        ensures receiver { IfOk result (λ o. (standing_of o.receiver ≡ with_handles (Receivers ∷ [])) × (seat_table o.receiver ≡ id_of o.channel)) }
     {
         let (table, first) = RuledTable::new(alloc, capacity, 1)?;
         let mut seat = table.go_on(first);

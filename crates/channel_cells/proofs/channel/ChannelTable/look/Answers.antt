@@ -19,5 +19,10 @@ returns-clause-told g c =
       listeners = c.registrations_are_live.ensures.live v.form all cells senders receivers history;
       run = λ lasts.
           let says = c.histories_are_runs.ensures.runs v.form all cells senders receivers has history lasts in
-          (says, c.each_moment_is_said.ensures.said v.form all cells senders receivers history says);
+          record {
+            says = says;
+            moment = c.each_moment_is_said.ensures.said v.form all cells senders receivers history says;
+            accounts = c.histories_are_accounted.ensures.accounted v.form all cells senders receivers history says;
+            rest = c.nobody_is_missed_at_rest.ensures.rest v.form all cells senders receivers history says;
+          };
     }

@@ -1,7 +1,7 @@
 use Rattle.std.proofs.Common.{None}
 use Rattle.concurrent_queue.proofs.Standing.{step_on}
 use Rattle.concurrent_queue.proofs.Walks.{step_keeps, walked_one, walked_two}
-use Rattle.channel_cells.proofs.questions.answer.Goals as goal
+use Rattle.channel_cells.proofs.questions.complete_question.Goals as goal
 
 pub returns-in-Some-clause-walked : goal.returns-in-Some-clause-walked
 returns-in-Some-clause-walked g c =
