@@ -93,7 +93,7 @@ impl<T: Drop, W: Drop> ChannelTable<T, W> {
     {
         let mut cells = self.begin_on::<Brand, R, Option<Key>>(rt, seat, &key);
         raised::drop_receiver(rt, raised, key, &mut cells, sink);
-        cells.end::<Brand, (), ()>(&(), &())
+        cells.end::<Brand, Option<Key>, ()>(&key, &())
     }
 
     /// The seat of a receiver takes in that of its stream, with the listener that the stream may have. It costs a load.

@@ -9,6 +9,7 @@ mod OrderLemmas
 mod RunOrder
 mod TellingLemmas
 mod SectionLemmas
+mod SectionCalls
 pub mod DrawingLemmas
 mod ReplayLemmas
 pub mod LeftLemmas

@@ -12,10 +12,10 @@ use Rattle.event_listener.specs.Lists.{Lists, ListView, notified, moved, tasks_o
 use Rattle.event_listener.specs.Notices.{Draws, IsAnswer, Notifies, Woken}
 use Rattle.event_listener.specs.Runs.{Makes, Runs, Ends, tags_given, tags_answer}
 
-lt-no : (a b : ℕ) → b ≤ a → nat_lt a b ≡ false
+pub lt-no : (a b : ℕ) → b ≤ a → nat_lt a b ≡ false
 lt-no a b h = grind (arith, nat_tests)
 
-lt-yes : (a b : ℕ) → a < b → nat_lt a b ≡ true
+pub lt-yes : (a b : ℕ) → a < b → nat_lt a b ≡ true
 lt-yes a b h = grind (arith, nat_tests)
 
 module _ {T : Type 0} where

@@ -1,11 +1,14 @@
 -- Sections of an event keep the order of listening.
-use Rattle.std.proofs.Common.{◌≡◌, ℕ, ◌+◌, Bool, true, false, List, [], ◌∷◌, Option, Some, None, Ok, Err, is_some, if◌then◌else◌, refl, sym, ap, subst, ◌∙◌}
+use Rattle.std.proofs.Common.{ℕ, ◌+◌, Bool, true, false, List, [], ◌∷◌, Option, Some, None, Result, Ok, Err, is_some, if◌then◌else◌, refl, sym, ap, subst, ◌∙◌}
+use Rattle.event_listener.specs.declared.error.ListenError.{ListenError}
 use Rattle.event_listener.specs.declared.key.Key.{Key}
 use Rattle.event_listener.specs.declared.waking.Task.{Task}
-use Rattle.event_listener.specs.Lists.{Lists, ListView, Notice, serial_of, told_as, waits_as, listened, without, with_task, registration, polled, passed, removed, notified}
+use Rattle.event_listener.specs.Lists.{Lists, ListView, Notice, serial_of, told_as, waits_as, without, with_task, registration, polled, passed, removed}
 use Rattle.event_listener.specs.Order.{IsInOrder}
-use Rattle.event_listener.specs.SectionRuns.{Run, RunsKeepTheOrder}
-use Rattle.event_listener.specs.Sections.{Section, OnList, Stands, listens, polls, arms, parks, looks, leaves, removes, notifies, counts_told, counts_all}
+use Rattle.event_listener.specs.SectionRuns.{Calls, RunsKeepTheOrder}
+use Rattle.event_listener.specs.Runs.{Inserts, Leaves}
+use Rattle.event_listener.specs.Sections.{Call, Makes, inserts, registers, asks, takes_off, tells}
+use Rattle.event_listener.proofs.SectionCalls.{runs_are_calls}
 use Rattle.event_listener.proofs.OrderLemmas.{in-order-listened, in-order-without, in-order-with_task, in-order-notified, in-order-at}
 
 module _ {T W : Type 0} (lists : Lists T W) (next : ℕ) (key : Key) (h : IsInOrder lists next) where
@@ -38,24 +41,25 @@ module _ {T : Type 0} where
   abbrev Ordered : ListView T Task → Type 0
   Ordered view = IsInOrder view.lists view.serials
 
-  stood : (before after : ListView T Task) (lists : Lists T Task) → IsInOrder lists before.serials → Stands before lists after → Ordered after
-  stood before after lists h s = in-order-at h s.0 s.1
+  stood : {before after : ListView T Task} {lists : Lists T Task} {room : ℕ} → IsInOrder lists before.serials → Leaves before after lists room → Ordered after
+  stood h l = in-order-at h l.lists_are l.serials_are
 
-  one : (section : Section T) (before after : ListView T Task) → Ordered before → OnList section before after → Ordered after
-  one (listens cell (Ok key)) before after h d =
-      let at : IsInOrder before.lists (serial_of key) = in-order-at h refl d.1 in
-      in-order-at (in-order-registered (listened key before.lists) (serial_of key + 1) key (in-order-listened before.lists key at) d.3) d.5 (d.2 ∙ ap (λ n. n + 1) (sym d.1))
-  one (listens cell (Err error)) before after h d = stood before after before.lists h d
-  one (polls key cell waker tag) before after h d = stood before after _ (in-order-polled before.lists before.serials key h) d.1
-  one (arms key cell tag) before after h d = stood before after _ (in-order-polled before.lists before.serials key h) d.1
-  one (parks key parker tag) before after h d = stood before after _ (in-order-registered before.lists before.serials key h d.1) d.3
-  one (looks key parker tag) before after h d = stood before after _ (in-order-polled before.lists before.serials key h) d.1
-  one (leaves key timeout tag) before after h d = stood before after _ (in-order-removed before.lists before.serials key h false) d.1
-  one (removes key pass_on told) before after h d = stood before after _ (in-order-removed before.lists before.serials key h pass_on) d.1
-  one (notifies additional size tags result) before after h d = stood before after _ (in-order-notified before.lists before.serials additional tags h) d.1
-  one (counts_told told) before after h d = subst (λ (view : ListView T Task). Ordered view) (sym d.1) h
-  one (counts_all all) before after h d = subst (λ (view : ListView T Task). Ordered view) (sym d.1) h
+  insertion : {before after : ListView T Task} (result : Result Key ListenError) → Ordered before → Inserts before after result → Ordered after
+  insertion {before} (Ok key) h d =
+      let at : IsInOrder before.lists (serial_of key) = in-order-at h refl d.added.serial_is in
+      in-order-at (in-order-listened before.lists key at) d.added.lists_are (d.added.serials_are ∙ ap (λ n. n + 1) (sym d.added.serial_is))
+  insertion (Err error) h d = in-order-at h d.refused.lists_are d.refused.serials_are
+
+  made : (call : Call T) (before after : ListView T Task) → Ordered before → Makes call before after → Ordered after
+  made (inserts result) before after h d = insertion result h d
+  made (registers key task answer) before after h d = stood (in-order-registered before.lists before.serials key h task) d.1
+  made (asks key answer) before after h d = stood (in-order-polled before.lists before.serials key h) d.1
+  made (takes_off key pass_on answer) before after h d = stood (in-order-removed before.lists before.serials key h pass_on) d.1
+  made (tells additional size tags answer) before after h d = stood (in-order-notified before.lists before.serials additional _ h) d.1
+
+  pub calls_keep_the_order : (calls : List (Call T)) (before after : ListView T Task) → Ordered before → Calls calls before after → Ordered after
+  calls_keep_the_order [] before after h run = subst (λ (view : ListView T Task). Ordered view) (sym run) h
+  calls_keep_the_order (call ∷ calls) before after h (between, made_so, rest) = calls_keep_the_order calls between after (made call before between h made_so) rest
 
 pub runs_keep_the_order : {T : Type 0} → RunsKeepTheOrder T
-runs_keep_the_order [] before after h run = subst (λ view. IsInOrder view.lists view.serials) (sym run) h
-runs_keep_the_order (section ∷ sections) before after h (between, made, rest) = runs_keep_the_order sections between after (one section before between h made) rest
+runs_keep_the_order sections before after h run = let found = runs_are_calls sections before after run in calls_keep_the_order found.0 before after h found.2

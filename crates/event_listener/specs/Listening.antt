@@ -1,13 +1,16 @@
 -- What contracts see of an event and of a listener, and what its calls say of the sections that they made.
-use Rattle.std.specs.Prelude.{◌≡◌, ◌⊎◌, ◌-◌, ℕ, Bool, true, false, List, Option, None, Some, Result, Ok, Err, IfOk}
+use Rattle.std.specs.Prelude.{◌≡◌, ◌⊎◌, ◌↔◌, ◌-◌, ℕ, Bool, true, false, is_none, Result, Option, None, Some, Ok, Err}
 use Rattle.std.specs.Duration.{as_nanos}
 use Rattle.std.specs.Time.{instant_nanos}
 use Rattle.std.specs.declared.time.Duration.{Duration}
 use Rattle.std.specs.declared.time.Instant.{Instant}
 use Rattle.futures.specs.declared.task.waker.Waker.{Waker}
-use Rattle.event_listener.specs.Sections.{Section, OnSome, listens, polls, arms, parks, looks, leaves, removes}
+use Rattle.event_listener.specs.Sections.{Section, OnSome, OnEvents, listens, polls, arms, parks, looks, leaves, removes}
 use Rattle.event_listener.specs.declared.error.ListenError.{ListenError}
+use Rattle.event_listener.specs.declared.error.ListenError.TheVariants.{NoMemory}
 use Rattle.event_listener.specs.declared.key.Key.{Key}
+use Rattle.event_listener.specs.declared.listener.PollFault.{PollFault}
+use Rattle.event_listener.specs.declared.listener.PollFault.TheVariants.{NeverInserted}
 
 -- the identity of an event, and the name of the lock that keeps its list, which no other lock has
 pub record EventView : Type 0 where
@@ -20,6 +23,10 @@ pub record Listening : Type 0 where
   pub list : ℕ
   pub cell : ℕ
   pub key : Option Key
+
+-- what it may give as a future: that it has given its tag, exactly where it has
+abbrev pub GivesTag : {T : Type 0} → Listening → Result T PollFault → Type 0
+GivesTag l given = (given ≡ Err NeverInserted) ↔ (is_none l.key ≡ true)
 
 -- what is left of the time, where the clock read so at the beginning and so later; nothing where it couldn't be read
 abbrev pub time_left : Option Instant → Option Instant → Duration → ℕ
@@ -47,6 +54,10 @@ module _ {T L : Type 0} (did : ℕ → Section T → L → L → Type 0) where
   -- a new listener stands in the list, added with its own task
   abbrev pub Listened : Listening → Type 0
   Listened l = (key : Key) × (l.key ≡ Some key) × OnSome did l.list (listens l.cell (Ok key))
+
+  -- nobody was added: memory was refused, or a section on the list that was seen in the lock of the event refused
+  abbrev pub RefusesToListen : (ℕ → ℕ → Type 0) → Type 0 → ℕ → ListenError → Type 0
+  RefusesToListen holds refused event error = (refused × (error ≡ NoMemory)) ⊎ ((cell : ℕ) × OnEvents did holds event (listens cell (Err error)))
 
   -- a poll with this waker looked at the listener, and found this
   abbrev pub Polled : Listening → Waker → Option T → Type 0

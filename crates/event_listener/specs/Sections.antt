@@ -4,13 +4,15 @@ use Rattle.std.specs.Prelude.{◌≡◌, ◌+◌, ◌<◌, ℕ, Bool, false, Lis
 use Rattle.std.specs.Arc.{arc_value}
 use Rattle.std.specs.declared.time.Duration.{Duration}
 use Rattle.futures.specs.declared.task.waker.Waker.{Waker}
-use Rattle.event_listener.specs.Lists.{Lists, ListView, IsAdditional, PassesOn, serial_of, kind_of, told_as, listened, registration, register_answer, polled, removed, notified, moved, tag_told}
+use Rattle.event_listener.specs.Lists.{ListView, IsAdditional, PassesOn, told_as, register_answer, poll_answer, remove_answer, moved, tag_told}
+use Rattle.event_listener.specs.Runs.{Inserts, Registers, Polls, Removes, Notifies}
 use Rattle.event_listener.specs.declared.calls.Registered.{Registered}
 use Rattle.event_listener.specs.declared.calls.Registered.TheVariants as registered
 use Rattle.event_listener.specs.declared.error.ListenError.{ListenError}
 use Rattle.event_listener.specs.declared.error.NotifyError.{NotifyError}
 use Rattle.event_listener.specs.declared.error.UnknownListener.{UnknownListener}
 use Rattle.event_listener.specs.declared.key.Key.{Key}
+use Rattle.event_listener.specs.declared.run.ListReply.TheVariants as reply
 use Rattle.event_listener.specs.declared.parker.Parker.{Parker}
 use Rattle.event_listener.specs.declared.waking.Task.{Task}
 use Rattle.event_listener.specs.declared.waking.Task.TheVariants.{Polled, Parked}
@@ -55,32 +57,52 @@ pub data Section (T : Type 0) : Type 0 where
   counts_told : ℕ → Section T
   counts_all : ℕ → Section T
 
+-- A call of `List` with its answer: an insertion, a registration, a poll, a removal, or a notice with the tags that it gave.
+pub data Call (T : Type 0) : Type 0 where
+  inserts : Result Key ListenError → Call T
+  registers : Key → Task → Result (Registered T) UnknownListener → Call T
+  asks : Key → Result (Option T) UnknownListener → Call T
+  takes_off : Key → PassesOn → Result Bool UnknownListener → Call T
+  tells : IsAdditional → ℕ → List T → Result ℕ NotifyError → Call T
+
+-- of a sink that wakes at once nothing is said
+abbrev pub wakes_at_once : Unit {0} → Task → Unit {0} → Type 0
+wakes_at_once before task after = Unit {0}
+
 -- a notice that was to tell so many told these, or as many as it had tags for
 abbrev pub Tells : {T : Type 0} → ℕ → List T → Result ℕ NotifyError → Type 0
 Tells many tags (Ok told) = (told ≡ many) × (length tags ≡ many)
 Tells many tags (Err error) = (error.told ≡ length tags) × (length tags < many)
 
 module _ {T : Type 0} where
-  -- the listeners stand so, and no serial was given
-  abbrev pub Stands : ListView T Task → Lists T Task → ListView T Task → Type 0
-  Stands before lists after = (after.lists ≡ lists) × (after.serials ≡ before.serials)
+  -- the call led from the one list to the other, as a run of calls says it of each
+  abbrev pub Makes : Call T → ListView T Task → ListView T Task → Type 0
+  Makes (inserts result) before after = Inserts before after result
+  Makes (registers key task answer) before after = Registers wakes_at_once (Some key) task (reply.Register answer) before tt after tt
+  Makes (asks key answer) before after = Polls wakes_at_once (Some key) (reply.Poll answer) before tt after tt
+  Makes (takes_off key pass_on answer) before after = Removes wakes_at_once (Some key) pass_on (reply.Remove answer) before tt after tt
+  Makes (tells additional size tags answer) before after = Notifies wakes_at_once size additional tags (reply.Notify answer) before tt after tt
 
-  -- what a section does to a list, by the calls of `List`
+  -- a poll took a told listener off and gave its tag
+  abbrev pub Looks : Key → Option T → ListView T Task → ListView T Task → Type 0
+  Looks key tag before after = (tag ≡ tag_told key before.lists) × Makes (asks key (poll_answer key before.lists)) before after
+
+  -- what a section does to a list: calls of `List`, whose answers give its own
   abbrev pub OnList : Section T → ListView T Task → ListView T Task → Type 0
   OnList (listens cell (Ok key)) before after =
-      (kind_of before.lists key ≡ None) × (serial_of key ≡ before.serials) × (after.serials ≡ before.serials + 1)
-      × (task : Task) × WakesCell cell task × (after.lists ≡ registration key task (listened key before.lists))
-  OnList (listens cell (Err error)) before after = Stands before before.lists after
-  OnList (polls key cell waker tag) before after = (tag ≡ tag_told key before.lists) × Stands before (polled key before.lists) after
-  OnList (arms key cell tag) before after = (tag ≡ tag_told key before.lists) × Stands before (polled key before.lists) after
+      (between : ListView T Task) × (task : Task) × Makes (inserts (Ok key)) before between × WakesCell cell task
+      × Makes (registers key task (register_answer key between.lists)) between after
+  OnList (listens cell (Err error)) before after = Makes (inserts (Err error)) before after
+  OnList (polls key cell waker tag) before after = Looks key tag before after
+  OnList (arms key cell tag) before after = Looks key tag before after
   OnList (parks key parker tag) before after =
-      (tag ≡ tag_given (register_answer key before.lists)) × (task : Task) × WakesParker parker task × Stands before (registration key task before.lists) after
-  OnList (looks key parker tag) before after = (tag ≡ tag_told key before.lists) × Stands before (polled key before.lists) after
-  OnList (leaves key timeout tag) before after = (tag ≡ tag_told key before.lists) × Stands before (removed key false before.lists) after
+      (tag ≡ tag_given (register_answer key before.lists)) × (task : Task) × WakesParker parker task × Makes (registers key task (register_answer key before.lists)) before after
+  OnList (looks key parker tag) before after = Looks key tag before after
+  OnList (leaves key timeout tag) before after = (tag ≡ tag_told key before.lists) × Makes (takes_off key false (remove_answer key before.lists)) before after
   OnList (removes key pass_on told) before after =
-      (told ≡ is_some (told_as before.lists key)) × Stands before (removed key pass_on before.lists) after
+      (told ≡ is_some (told_as before.lists key)) × Makes (takes_off key pass_on (remove_answer key before.lists)) before after
   OnList (notifies additional size tags result) before after =
-      Tells (moved additional size before.lists) tags result × Stands before (notified additional tags before.lists) after
+      Tells (moved additional size before.lists) tags result × Makes (tells additional size tags result) before after
   OnList (counts_told told) before after = (told ≡ length before.lists.told) × (after ≡ before)
   OnList (counts_all all) before after = (all ≡ length before.lists.told + length before.lists.waiting) × (after ≡ before)
 

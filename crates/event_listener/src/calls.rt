@@ -81,7 +81,10 @@ impl<T: Drop, W: Drop> List<T, W> {
         ensures once { IsSome (kind_of self.old.lists key) → HasLeft self.new key }
         ensures left { (key : Key) → HasLeft self.old key → HasLeft self.new key }
         ensures serials { self.new.serials ≡ self.old.serials }
+        ensures room { self.new.room ≡ (if is_some (kind_of self.old.lists key) then self.old.room + 1 else self.old.room) }
+        ensures visits { self.new.visits ≤ 5 }
     {
+        self.start();
         match self.poll(key) {
             Ok(Some(tag)) => Some(tag),
             Ok(None) => {

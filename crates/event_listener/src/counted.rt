@@ -1,7 +1,6 @@
 //! What stands behind the lock of a recorded event: a recording, and the book that counts its entries.
-ghost use Rattle.std.specs.Prelude.{◌≡◌, length, nat_lt};
+ghost use Rattle.std.specs.Prelude.{◌≡◌, nat_lt};
 ghost use Rattle.event_listener.specs.Lists.{told_by};
-ghost use Rattle.event_listener.specs.Replay.{Replays, nobody};
 
 use crate::calls::Registered;
 use crate::error::{ListenError, NoMemory, NotifyError, UnknownListener};
@@ -45,22 +44,14 @@ impl<T: Copy, W: Copy, L: Ledger> Counted<T, W, L> {
             book,
         }
     }
-
-    /// The list as it stands, the record that leads there, and the book that counts it.
-    pub(crate) fn into_parts(self) -> (List<T, W>, Vec<RecordedCall<T, W>>, Book<L>)
-        ensures replays { Replays nobody 0 result.1.items result.0.lists result.0.serials }
-        ensures counted { length result.1.items ≡ result.2.total }
-    {
-        let Counted { recording, book } = self;
-        let (list, calls) = recording.into_parts();
-        (list, calls, book)
-    }
 }
 
 impl<T: Copy, W: Copy, L: Ledger> Records<T, W, L> for Counted<T, W, L> {
-    ghost use Rattle.event_listener.specs.Recorded.{Stores};
+    ghost use Rattle.event_listener.specs.Recorded.{Stores, ComesApart};
 
     ghost did = { Stores };
+
+    ghost parted = { ComesApart };
 
     fn insert(&mut self, mine: &mut Share<L>) -> Result<Key, ListenError> {
         match self.recording.insert() {
@@ -138,6 +129,12 @@ impl<T: Copy, W: Copy, L: Ledger> Records<T, W, L> for Counted<T, W, L> {
 
     fn told(&self) -> usize {
         self.recording.told()
+    }
+
+    fn into_parts(self) -> (List<T, W>, Vec<RecordedCall<T, W>>, Book<L>) {
+        let Counted { recording, book } = self;
+        let (list, calls) = recording.into_parts();
+        (list, calls, book)
     }
 }
 

@@ -1,6 +1,6 @@
 //! Events, on which threads and tasks listen for notices.
-ghost use Rattle.std.specs.Prelude.{◌≡◌, ◌≤◌, true, false, nat_lt, IfOk};
-ghost use Rattle.event_listener.specs.Listening.{Listened};
+ghost use Rattle.std.specs.Prelude.{◌≡◌, ◌≤◌, true, false, nat_lt, IfOk, IfErr};
+ghost use Rattle.event_listener.specs.Listening.{Listened, RefusesToListen};
 ghost use Rattle.event_listener.specs.Notifying.{NotifiesEvent, TellsEvent, CountsEvent};
 ghost use Rattle.event_listener.specs.Sections.{counts_told, counts_all};
 
@@ -15,7 +15,7 @@ use crate::steps::Steps;
 use crate::waking::{Task, WakerCell};
 use std::alloc::Global;
 use std::marker::Model;
-use std::sync::{Arc, Wait};
+use std::sync::Wait;
 
 /// An event: who waits for something listens on it first and looks for the thing again, and who brings it about
 /// notifies it afterwards, so that no notice falls between.
@@ -41,14 +41,21 @@ impl<T: Drop> Event<T> {
     pub fn with_tag(alloc: Global, id: EventId) -> Event<T>
         ensures { result.number ≡ id }
     {
+        Event::with_lists(alloc, id)
+    }
+}
+
+impl<T: Drop, L: Steps<T>> Event<T, L> {
+    /// The same over lists of another type, as a test has that counts what is done to a list. It takes no memory. Own to this project.
+    pub fn with_lists(alloc: Global, id: EventId) -> Event<T, L>
+        ensures { result.number ≡ id }
+    {
         Event {
             id,
             homes: Homes::new(alloc),
         }
     }
-}
 
-impl<T: Drop, L: Steps<T>> Event<T, L> {
     /// Adds a listener, which is told by the next notice that reaches it. It gives up its place when it is dropped, for which it
     /// keeps a copy of the runtime.
     ///
@@ -58,8 +65,9 @@ impl<T: Drop, L: Steps<T>> Event<T, L> {
         ensures event { IfOk result (λ listener. listener.event ≡ self.now.number) }
         ensures list { IfOk result (λ listener. L.holds self.now.lock listener.list) }
         ensures listens { IfOk result (Listened L.did) }
+        ensures refused { IfErr result (RefusesToListen L.did L.holds L.refused self.now.lock) }
     {
-        match Arc::new(self.homes.alloc(), WakerCell::new()) {
+        match L::share(self.homes.alloc(), WakerCell::new()) {
             Ok(cell) => EventListener::new(*rt, self, cell),
             Err(_) => Err(ListenError::NoMemory),
         }

@@ -52,6 +52,7 @@ pub mod waking;
 pub use calls::Registered;
 pub use error::{ListenError, NoMemory, NotifyError, UnknownListener};
 pub use event::Event;
+pub use home::{Home, Step};
 pub use id::{EventId, EventIds, IdsUsedUp};
 pub use into_notification::IntoNotification;
 pub use key::Key;

@@ -1,10 +1,11 @@
 //! Listeners of events.
-ghost use Rattle.std.specs.Prelude.{◌≡◌, ℕ, Bool, Option, Some, None, true, false, ◌↔◌, IsTrue, IfOk, IfErr, Ok, Err, is_none};
+ghost use Rattle.std.specs.Prelude.{◌≡◌, ⊤, Result, ℕ, Bool, Option, Some, None, true, false, ◌↔◌, IsTrue, IfOk, IfErr, Ok, Err, is_none};
 ghost use Rattle.std.specs.declared.time.Duration.{Duration as Span};
 ghost use Rattle.std.specs.declared.time.Instant.{Instant as Moment};
 ghost use Rattle.futures.specs.Poll.{OnPending, IfReady};
+ghost use Rattle.futures.specs.Task.{Covers, IsArmed, Keeps};
 ghost use Rattle.futures.specs.declared.task.waker.Waker.{Waker as OfTask};
-ghost use Rattle.event_listener.specs.Listening.{Listening, Listened, LeftSo};
+ghost use Rattle.event_listener.specs.Listening.{Listening, Listened, RefusesToListen, Armed, GivesTag, LeftSo};
 ghost use Rattle.event_listener.specs.Waits.{listener_of};
 
 use crate::error::ListenError;
@@ -101,6 +102,9 @@ pub trait Listener<T>: Sized {
     /// Whether a wait up to this moment did.
     ghost waited_until: { Self → Moment → Option T → Type 0 };
 
+    /// Whether what a thread sleeps on was refused for memory.
+    ghost refused: { Self → Type 0 };
+
     /// Whether it was taken off its list without passing a notice on, in one section, and was told, or was finished before.
     ghost discarded: { Self → Bool → Type 0 };
 
@@ -125,6 +129,7 @@ pub trait Listener<T>: Sized {
     fn wait(self) -> Result<T, WaitError<Self>>
         ensures never_inserted { (result ≡ Err (WaitError.NeverInserted self)) ↔ (is_finished self ≡ true) }
         ensures handed_back { IfErr result (λ e. listener_of e ≡ self) }
+        ensures no_memory { (l : _) → result ≡ Err (WaitError.NoMemory l) → refused self }
         ensures waited { IfOk result (waited self) };
 
     /// Blocks the thread until the listener is told or the time is up: its tag, or `None` after the listener has left.
@@ -141,6 +146,7 @@ pub trait Listener<T>: Sized {
     ) -> Result<Option<T>, WaitError<Self>>
         ensures never_inserted { (result ≡ Err (WaitError.NeverInserted self)) ↔ (is_finished self ≡ true) }
         ensures handed_back { IfErr result (λ e. listener_of e ≡ self) }
+        ensures no_memory { (l : _) → result ≡ Err (WaitError.NoMemory l) → refused self }
         ensures waited { IfOk result (waited_for self timeout) };
 
     /// As [`wait_timeout`](Listener::wait_timeout), until the clock reads `deadline`; one that has passed doesn't sleep.
@@ -151,6 +157,7 @@ pub trait Listener<T>: Sized {
     ) -> Result<Option<T>, WaitError<Self>>
         ensures never_inserted { (result ≡ Err (WaitError.NeverInserted self)) ↔ (is_finished self ≡ true) }
         ensures handed_back { IfErr result (λ e. listener_of e ≡ self) }
+        ensures no_memory { (l : _) → result ≡ Err (WaitError.NoMemory l) → refused self }
         ensures waited { IfOk result (waited_until self deadline) };
 
     /// Leaves the event without passing a notice on: whether it was told and had not given its tag.
@@ -198,6 +205,7 @@ impl<T: Drop, R: Wait + Copy, L: Steps<T>> EventListener<T, R, L> {
         ensures event { IfOk result (λ listener. listener.event ≡ event.now.number) }
         ensures list { IfOk result (λ listener. L.holds event.now.lock listener.list) }
         ensures listens { IfOk result (Listened L.did) }
+        ensures refused { IfErr result (RefusesToListen L.did L.holds L.refused event.now.lock) }
     {
         match Place::open(&rt, event.homes(), event.number(), cell) {
             Ok(place) => Ok(EventListener { place, rt }),
@@ -221,6 +229,8 @@ impl<T: Drop, R: Wait + Copy, L: Steps<T>> Listener<T> for EventListener<T, R, L
 
     ghost waited_until = { WaitedUntil L.did L.read L.read_again L.slept };
 
+    ghost refused = { λ _. L.refused };
+
     ghost discarded = { λ l told. LeftSo L.did l false told };
 
     fn poll(&mut self, waker: Waker) -> Poll<Result<T, PollFault>> {
@@ -232,10 +242,7 @@ impl<T: Drop, R: Wait + Copy, L: Steps<T>> Listener<T> for EventListener<T, R, L
         if self.place.is_finished() {
             return Err(WaitError::NeverInserted(self));
         }
-        let Some(parker) = self.place.new_parker() else {
-            return Err(WaitError::NoMemory(self));
-        };
-        let Ok(task) = Arc::try_clone(&parker) else {
+        let Ok((task, parker)) = self.place.new_parker() else {
             return Err(WaitError::NoMemory(self));
         };
         let rt = self.rt;
@@ -250,10 +257,7 @@ impl<T: Drop, R: Wait + Copy, L: Steps<T>> Listener<T> for EventListener<T, R, L
         if self.place.is_finished() {
             return Err(WaitError::NeverInserted(self));
         }
-        let Some(parker) = self.place.new_parker() else {
-            return Err(WaitError::NoMemory(self));
-        };
-        let Ok(task) = Arc::try_clone(&parker) else {
+        let Ok((task, parker)) = self.place.new_parker() else {
             return Err(WaitError::NoMemory(self));
         };
         let rt = self.rt;
@@ -289,13 +293,26 @@ impl<T: Drop, R: Wait + Copy, L: Steps<T>> Listener<T> for EventListener<T, R, L
 impl<T: Drop, R: Wait + Copy, L: Steps<T>> Future for EventListener<T, R, L> {
     type Output = Result<T, PollFault>;
 
-    ghost use Rattle.event_listener.specs.declared.listener.PollFault.TheVariants as fault;
+    ghost use Rattle.event_listener.specs.Listening.{GivesTag};
 
     // A listener that has given its tag is refused, and no other.
-    ghost gives = { λ l r. (r ≡ Err fault.NeverInserted) ↔ (is_none l.key ≡ true) };
+    ghost gives = { GivesTag };
 
     /// As [`Listener::poll`], with the waker of the task that is polled. A second poll wakes nobody.
-    fn poll(&mut self, cx: &mut Context<'_>) -> Poll<Result<T, PollFault>> {
+    // The trait's clauses say nothing of a section, so behind them stand those of the method itself.
+    fn poll(&mut self, cx: &mut Context<'_>) -> Poll<Result<T, PollFault>>
+        ensures value { IfReady result (GivesTag self.old) }
+        ensures again { OnPending result ⊤ }
+        ensures same { OnPending result ((given : Result T PollFault) → GivesTag self.new given → GivesTag self.old given) }
+        ensures registered { OnPending result (Covers cx.new (λ _. ⊥)) }
+        ensures kept { Keeps cx.old cx.new }
+        ensures ready { (tag : T) → result ≡ Poll.Ready (Ok tag) → Armed L.did self.old (Some tag) }
+        ensures waits { OnPending result (Armed L.did self.old None) }
+        ensures finished { IfReady result (λ _. is_none self.new.key ≡ true) }
+        ensures pending { OnPending result (self.new ≡ self.old) }
+        ensures event { self.new.event ≡ self.old.event }
+        ensures armed { OnPending result (IsArmed cx.new) }
+    {
         let rt = self.rt;
         self.place.poll_in(&rt, cx)
     }

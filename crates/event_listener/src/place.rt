@@ -1,36 +1,36 @@
 //! A listener's place in the list of its event.
-ghost use Rattle.std.specs.Prelude.{◌≡◌, ◌↔◌, IsTrue, IfOk, IsSome, IfSome, IfNone, Ok, Err, Some, None, is_none, true, false};
+ghost use Rattle.std.specs.Prelude.{◌≡◌, ◌↔◌, IsTrue, IfOk, IfErr, OnErr, Ok, Err, Some, None, is_none, true, false};
 ghost use Rattle.std.specs.Arc.{arc_value};
 ghost use Rattle.std.specs.Duration.{as_nanos};
 ghost use Rattle.futures.specs.Poll.{OnPending, IfReady};
 ghost use Rattle.futures.specs.Task.{IsArmed, Keeps};
 ghost use Rattle.event_listener.specs.Homes.{seal_of};
-ghost use Rattle.event_listener.specs.Listening.{Listened, Polled, Armed, LeftSo, Waited, WaitedFor, Lapsed, time_left as left_of};
+ghost use Rattle.event_listener.specs.Listening.{Listened, RefusesToListen, Polled, Armed, LeftSo, Waited, WaitedFor, Lapsed, time_left as left_of};
 ghost use Rattle.event_listener.specs.Places.{seen};
 ghost use Rattle.event_listener.specs.Sections.{OnSome, parker_of, parks, looks};
+ghost use Rattle.event_listener.specs.declared.key.Key.{Key};
 
-use crate::error::ListenError;
+use crate::error::{ListenError, NoMemory};
 use crate::event::Event;
 use crate::home::{Home, Homes};
-use crate::key::Key;
 use crate::listener::PollFault;
 use crate::parker::Parker;
 use crate::steps::Steps;
-use crate::turn::Turn;
+use crate::turn::Listed;
 use crate::waking::WakerCell;
 use futures::task::{Context, Poll, Waker};
 use std::alloc::Global;
 use std::sync::{Arc, Wait};
 use std::time::{Clock, Duration, Instant};
 
-/// Where a listener stands: its event's list, its key there until it is finished, and the cell of its task.
+/// Where a listener stands: its event's list, its place there until it is finished, and the cell of its task.
 ///
 /// It is without the runtime, so its questions can't wait for anybody. It has no drop: who lets a listener go takes it off the list.
 pub(crate) struct Place<T, L> {
     home: Arc<Home<T, L>>,
     pub(crate) event: u64,
     cell: Arc<WakerCell>,
-    pub(crate) key: Option<Key>,
+    listed: Listed,
     alloc: Global,
 }
 
@@ -46,47 +46,46 @@ impl<T: Drop, L: Steps<T>> Place<T, L> {
         ensures event { IfOk result (λ made. made.event ≡ event) }
         ensures list { IfOk result (λ made. L.holds homes.now.once.id (seen made).list) }
         ensures listens { IfOk result (λ made. Listened L.did (seen made)) }
+        ensures refused { IfErr result (RefusesToListen L.did L.holds L.refused homes.now.once.id) }
     {
         let Ok(home) = homes.get_or_make(rt) else {
             return Err(ListenError::NoMemory);
         };
-        let Ok(task) = Arc::try_clone(&cell) else {
+        let Ok(task) = L::share_again(&cell) else {
             return Err(ListenError::NoMemory);
         };
-        let key = Turn::new(&home).listen(rt, task)?;
+        let listed = home.turn().listen(rt, task)?;
         Ok(Place {
             home,
             event,
             cell,
-            key: Some(key),
+            listed,
             alloc: homes.alloc(),
         })
     }
 
     /// Whether it has given its tag.
     pub(crate) fn is_finished(&self) -> bool
-        ensures { result ≡ is_none self.now.key }
+        ensures { result ≡ is_none self.now.listed.key }
     {
-        self.key.is_none()
+        self.listed.is_off()
     }
 
     /// Takes the tag of a told listener, or keeps the waker for its telling.
     pub(crate) fn poll<R: Wait>(&mut self, rt: &R, waker: Waker) -> Poll<Result<T, PollFault>>
-        ensures fault { (result ≡ Poll.Ready (Err PollFault.NeverInserted)) ↔ (is_none self.old.key ≡ true) }
+        ensures fault { (result ≡ Poll.Ready (Err PollFault.NeverInserted)) ↔ (is_none self.old.listed.key ≡ true) }
         ensures ready { (tag : T) → result ≡ Poll.Ready (Ok tag) → Polled L.did (seen self.old) waker (Some tag) }
         ensures waits { OnPending result (Polled L.did (seen self.old) waker None) }
-        ensures finished { IfReady result (λ _. is_none self.new.key ≡ true) }
+        ensures finished { IfReady result (λ _. is_none self.new.listed.key ≡ true) }
         ensures pending { OnPending result (self.new ≡ self.old) }
         ensures event { self.new.event ≡ self.old.event }
     {
-        let Some(key) = self.key else {
+        if self.listed.is_off() {
             return Poll::Ready(Err(PollFault::NeverInserted));
-        };
-        match Turn::new(&self.home).poll(rt, key, &self.cell, waker) {
-            Some(tag) => {
-                self.key = None;
-                Poll::Ready(Ok(tag))
-            }
+        }
+        let turn = self.home.turn();
+        match turn.poll(rt, &mut self.listed, &self.cell, waker) {
+            Some(tag) => Poll::Ready(Ok(tag)),
             None => Poll::Pending,
         }
     }
@@ -97,56 +96,55 @@ impl<T: Drop, L: Steps<T>> Place<T, L> {
         rt: &R,
         cx: &mut Context<'_>,
     ) -> Poll<Result<T, PollFault>>
-        ensures fault { (result ≡ Poll.Ready (Err PollFault.NeverInserted)) ↔ (is_none self.old.key ≡ true) }
+        ensures fault { (result ≡ Poll.Ready (Err PollFault.NeverInserted)) ↔ (is_none self.old.listed.key ≡ true) }
         ensures ready { (tag : T) → result ≡ Poll.Ready (Ok tag) → Armed L.did (seen self.old) (Some tag) }
         ensures waits { OnPending result (Armed L.did (seen self.old) None) }
-        ensures finished { IfReady result (λ _. is_none self.new.key ≡ true) }
+        ensures finished { IfReady result (λ _. is_none self.new.listed.key ≡ true) }
         ensures pending { OnPending result (self.new ≡ self.old) }
         ensures event { self.new.event ≡ self.old.event }
         ensures armed { OnPending result (IsArmed cx.new) }
         ensures kept { Keeps cx.old cx.new }
     {
-        let Some(key) = self.key else {
+        if self.listed.is_off() {
             return Poll::Ready(Err(PollFault::NeverInserted));
-        };
-        match Turn::new(&self.home).poll_in(rt, key, &self.cell, cx) {
-            Some(tag) => {
-                self.key = None;
-                Poll::Ready(Ok(tag))
-            }
+        }
+        let turn = self.home.turn();
+        match turn.poll_in(rt, &mut self.listed, &self.cell, cx) {
+            Some(tag) => Poll::Ready(Ok(tag)),
             None => Poll::Pending,
         }
     }
 
-    /// What a thread sleeps on until the listener is told; `None` where it was refused for memory.
-    pub(crate) fn new_parker(&self) -> Option<Arc<Parker>> {
-        Arc::new(self.alloc, Parker::new()).ok()
+    /// What a thread sleeps on until the listener is told, for the list and for the thread.
+    pub(crate) fn new_parker(&self) -> Result<(Arc<Parker>, Arc<Parker>), NoMemory>
+        ensures same { IfOk result (λ both. arc_value both.0 ≡ arc_value both.1) }
+        ensures refused { OnErr result L.refused }
+    {
+        let parker = L::share(self.alloc, Parker::new())?;
+        Ok((L::share_again(&parker)?, parker))
     }
 
     /// Sleeps until the listener is told, and takes its tag.
     pub(crate) fn wait<R: Wait>(&mut self, rt: &R, task: Arc<Parker>, parker: &Parker) -> T
-        requires listed { is_none self.old.key ≡ false }
+        requires listed { is_none self.old.listed.key ≡ false }
         requires same { arc_value task ≡ parker.now }
         ensures waited { Waited L.did L.slept (seen self.old) result }
     {
-        let Some(key) = self.key else { unreachable!() };
-        if let Some(tag) = self.park(rt, key, task) {
-            return tag;
+        match self.home.turn().park(rt, &mut self.listed, task) {
+            Some(tag) => tag,
+            None => self.sleep_until_told(rt, parker),
         }
-        let tag = self.sleep_until_told(rt, key, parker);
-        self.key = None;
-        tag
     }
 
     // Sleeps, and looks, until the listener is found told.
-    fn sleep_until_told<R: Wait>(&self, rt: &R, key: Key, parker: &Parker) -> T
-        requires { OnSome L.did (seen self.now).list (parks key (parker_of parker.now) None) }
+    fn sleep_until_told<R: Wait>(&mut self, rt: &R, parker: &Parker) -> T
+        requires { (key : Key) × (self.old.listed.key ≡ Some key) × OnSome L.did (seen self.old).list (parks key (parker_of parker.now) None) }
         ensures slept { L.slept (parker_of parker.now) None }
-        ensures looked { OnSome L.did (seen self.now).list (looks key (parker_of parker.now) (Some result)) }
+        ensures looked { (key : Key) × (self.old.listed.key ≡ Some key) × OnSome L.did (seen self.old).list (looks key (parker_of parker.now) (Some result)) }
     {
         for _ in rt.forever() {
-            L::sleep(rt, self.home.seal(), key, parker);
-            if let Some(tag) = Turn::new(&self.home).look(rt, key, parker) {
+            L::sleep(rt, self.home.seal(), self.listed.key(), parker);
+            if let Some(tag) = self.home.turn().look(rt, &mut self.listed, parker) {
                 return tag;
             }
         }
@@ -163,41 +161,39 @@ impl<T: Drop, L: Steps<T>> Place<T, L> {
         clock: &K,
         timeout: Duration,
     ) -> Option<T>
-        requires listed { is_none self.old.key ≡ false }
+        requires listed { is_none self.old.listed.key ≡ false }
         requires same { arc_value task ≡ parker.now }
         ensures waited { WaitedFor L.did L.read L.read_again L.slept (seen self.old) timeout result }
-        ensures left { is_none self.new.key ≡ true }
+        ensures left { is_none self.new.listed.key ≡ true }
     {
-        let Some(key) = self.key else { unreachable!() };
         let begun = L::now(clock);
-        if let Some(tag) = self.park(rt, key, task) {
+        if let Some(tag) = self.home.turn().park(rt, &mut self.listed, task) {
             return Some(tag);
         }
-        self.sleep_out(rt, key, parker, clock, begun, timeout);
+        self.sleep_out(rt, parker, clock, begun, timeout);
         // The look and the leaving are one section: a notice that reaches the listener before it leaves is in the answer, and none
         // reaches it afterwards.
-        self.key = None;
-        Turn::new(&self.home).leave(rt, key, parker, timeout)
+        let turn = self.home.turn();
+        turn.leave(rt, &mut self.listed, parker, timeout)
     }
 
     // Sleeps for what is left of the time, if anything is.
     fn sleep_out<R: Wait, K: Clock>(
         &self,
         rt: &R,
-        key: Key,
         parker: &Parker,
         clock: &K,
         begun: Option<Instant>,
         timeout: Duration,
     )
-        requires parked { OnSome L.did (seen self.now).list (parks key (parker_of parker.now) None) }
+        requires parked { (key : Key) × (self.now.listed.key ≡ Some key) × OnSome L.did (seen self.now).list (parks key (parker_of parker.now) None) }
         requires begun { L.read begun }
         ensures { Lapsed L.read L.read_again L.slept (parker_of parker.now) timeout }
     {
         let later = L::now_again(clock, begun);
         let left = time_left(begun, later, timeout);
         if !left.is_zero() {
-            L::sleep_for(rt, self.home.seal(), key, parker, clock, left);
+            L::sleep_for(rt, self.home.seal(), self.listed.key(), parker, clock, left);
         }
     }
 
@@ -209,13 +205,14 @@ impl<T: Drop, L: Steps<T>> Place<T, L> {
             home,
             event: _,
             cell: _,
-            key,
+            listed,
             alloc: _,
         } = self;
-        match key {
-            Some(key) => Turn::new(&home).remove(rt, key, pass_on),
-            None => false,
+        if listed.is_off() {
+            listed.end();
+            return false;
         }
+        home.turn().remove(rt, listed, pass_on)
     }
 
     /// Whether this is the event of the list.
@@ -230,19 +227,6 @@ impl<T: Drop, L: Steps<T>> Place<T, L> {
         ensures { IsTrue result ↔ (self.now.event ≡ other.now.event) }
     {
         self.event == other.event
-    }
-
-    // Takes the tag where the listener was told, and has the thread woken by its telling where it waits.
-    fn park<R: Wait>(&mut self, rt: &R, key: Key, task: Arc<Parker>) -> Option<T>
-        ensures did { OnSome L.did (seen self.old).list (parks key (parker_of (arc_value task)) result) }
-        ensures told { IfSome result (λ _. is_none self.new.key ≡ true) }
-        ensures waits { IfNone result (self.new ≡ self.old) }
-    {
-        let found = Turn::new(&self.home).park(rt, key, task);
-        if found.is_some() {
-            self.key = None;
-        }
-        found
     }
 }
 

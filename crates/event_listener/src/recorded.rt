@@ -3,7 +3,7 @@ ghost use Rattle.std.specs.Prelude.{◌≡◌, ◌+◌, ◌≤◌, ◌<◌, leng
 ghost use Rattle.event_listener.specs.Drawing.{TellsOrNone};
 ghost use Rattle.event_listener.specs.Lists.{told_by};
 ghost use Rattle.event_listener.specs.Notices.{Woken};
-ghost use Rattle.event_listener.specs.Recorded.{OnRecord, inserts, registers, polls, removes, notifies, makes_room, counts_told, counts_all};
+ghost use Rattle.event_listener.specs.Recorded.{OnRecord, IsDrawn, inserts, registers, polls, removes, notifies, makes_room, counts_told, counts_all};
 ghost use Rattle.event_listener.specs.Replay.{Replays, nobody};
 
 use crate::calls::Registered;
@@ -114,23 +114,6 @@ impl<T: Copy, W: Copy, L: Ledger> RecordedEvent<T, W, L> {
             of: PhantomData,
         }
     }
-
-    /// The list as it stands at the event's end, and the record that leads there from an empty one, in which each new
-    /// listener's key is one that was never given before. The book's total is the number of its entries.
-    ///
-    /// Who has all parts of the ledger learns by `Book::audit` that this is the amount of its share: as many calls as
-    /// changed the list.
-    pub fn into_parts(self) -> (List<T, W>, Vec<RecordedCall<T, W>>, Book<L>)
-        ensures replays { Replays nobody 0 result.1.items result.0.lists result.0.serials }
-        ensures counted { length result.1.items ≡ result.2.total }
-    {
-        let RecordedEvent {
-            alloc: _,
-            inner,
-            of: _,
-        } = self;
-        inner.into_inner().into_parts()
-    }
 }
 
 impl<T: Copy, W: Copy, L: Ledger, C: Records<T, W, L>> RecordedEvent<T, W, L, C> {
@@ -221,7 +204,7 @@ impl<T: Copy, W: Copy, L: Ledger, C: Records<T, W, L>> RecordedEvent<T, W, L, C>
         ensures counted { 0 < told_by result → mine.new.amount ≡ mine.old.amount + 1 }
         ensures uncounted { told_by result ≡ 0 → mine.new.amount ≡ mine.old.amount }
         ensures parts { mine.new.parts ≡ mine.old.parts }
-        ensures stored { (n : N.Notify) × N.becomes notice n × (woken : Names W) × OnRecord C.did (notifies (N.Notify.additional n) (N.Notify.size n) woken result) × Woken S.wakes sink.old woken sink.new }
+        ensures stored { (n : N.Notify) × N.becomes notice n × (tags : Names T) × (woken : Names W) × OnRecord C.did (notifies (N.Notify.additional n) (N.Notify.size n) tags woken result) × IsDrawn N.Notify.gives n tags × Woken S.wakes sink.old woken sink.new }
     {
         let notice = notice.into_notification();
         self.inner.lock(rt).notify(self.alloc, mine, notice, sink)
@@ -229,7 +212,7 @@ impl<T: Copy, W: Copy, L: Ledger, C: Records<T, W, L>> RecordedEvent<T, W, L, C>
 
     /// Makes room for so many more listeners, for their records and their ends. It may wait for the lock.
     pub fn reserve<R: Wait>(&self, rt: &R, extra: usize) -> Result<(), NoMemory>
-        ensures { OnRecord C.did makes_room }
+        ensures { OnRecord C.did (makes_room extra result) }
     {
         self.inner.lock(rt).reserve(extra)
     }
@@ -246,5 +229,24 @@ impl<T: Copy, W: Copy, L: Ledger, C: Records<T, W, L>> RecordedEvent<T, W, L, C>
         ensures { OnRecord C.did (counts_told result) }
     {
         self.inner.lock(rt).told()
+    }
+
+    /// The list as it stands at the event's end, and the record that leads there from an empty one, in which each new
+    /// listener's key is one that was never given before. Both are those that the calls of this event left. The book's total is the number of
+    /// the entries.
+    ///
+    /// Who has all parts of the ledger learns by `Book::audit` that this is the amount of its share: as many calls as
+    /// changed the list.
+    pub fn into_parts(self) -> (List<T, W>, Vec<RecordedCall<T, W>>, Book<L>)
+        ensures stored { (found : C) × C.parted found result.0 result.1.items }
+        ensures replays { Replays nobody 0 result.1.items result.0.lists result.0.serials }
+        ensures counted { length result.1.items ≡ result.2.total }
+    {
+        let RecordedEvent {
+            alloc: _,
+            inner,
+            of: _,
+        } = self;
+        inner.into_inner().into_parts()
     }
 }

@@ -232,6 +232,7 @@ impl<T: Copy, W: Copy> Recording<T, W> {
     /// The list as it stands, and the record that leads there.
     pub(crate) fn into_parts(self) -> (List<T, W>, Vec<RecordedCall<T, W>>)
         ensures lists { result.0.lists ≡ self.lists }
+        ensures serials { result.0.serials ≡ self.serials }
         ensures calls { result.1.items ≡ self.calls }
         ensures replays { Replays nobody 0 result.1.items result.0.lists result.0.serials }
     {

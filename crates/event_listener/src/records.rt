@@ -1,18 +1,22 @@
 //! What stands behind the lock of a recorded event, by what is done to it in a section.
-ghost use Rattle.std.specs.Prelude.{◌≡◌, ◌+◌, ◌≤◌, ◌<◌, OnErr, OnOk, Ok, Some, None, List as Names};
+ghost use Rattle.std.specs.Prelude.{◌≡◌, length, ◌+◌, ◌≤◌, ◌<◌, OnErr, OnOk, Ok, Some, None, List as Names};
 ghost use Rattle.event_listener.specs.Drawing.{TellsOrNone};
 ghost use Rattle.event_listener.specs.Lists.{told_by};
 ghost use Rattle.event_listener.specs.Notices.{Woken};
-ghost use Rattle.event_listener.specs.Recorded.{Section, inserts, registers, polls, removes, notifies, makes_room, counts_told, counts_all};
+ghost use Rattle.event_listener.specs.Replay.{Replays, nobody};
+ghost use Rattle.event_listener.specs.Lists.{ListView};
+ghost use Rattle.event_listener.specs.declared.recorded.RecordedCall.{RecordedCall as Entry};
+ghost use Rattle.event_listener.specs.Recorded.{Section, IsDrawn, inserts, registers, polls, removes, notifies, makes_room, counts_told, counts_all};
 
 use crate::calls::Registered;
 use crate::error::{ListenError, NoMemory, NotifyError, UnknownListener};
 use crate::key::Key;
+use crate::list::List;
 use crate::notify::Notification;
-use crate::recorded::RegisterError;
+use crate::recorded::{RecordedCall, RegisterError};
 use crate::wakes::Wakes;
 use std::alloc::Global;
-use std::sync::ledger::{Ledger, Share};
+use std::sync::ledger::{Book, Ledger, Share};
 
 /// A list with its record and the book that counts its entries. Each method says of itself that this was done, with this answer, and nothing
 /// else. So a call over records of which nothing is known but this can be shown to have made a section only where it made it. Own to this
@@ -20,6 +24,9 @@ use std::sync::ledger::{Ledger, Share};
 pub trait Records<T: Copy, W: Copy, L: Ledger>: Drop {
     /// Whether this was done to the one record, so that it is the other.
     ghost did: { Section T W → Self → Self → Type 0 };
+
+    /// Whether it came apart into a list that stands so, and these entries.
+    ghost parted: { Self → ListView T W → Names (Entry T W) → Type 0 };
 
     /// Adds a listener.
     fn insert(&mut self, mine: &mut Share<L>) -> Result<Key, ListenError>
@@ -75,7 +82,7 @@ pub trait Records<T: Copy, W: Copy, L: Ledger>: Drop {
     ) -> Result<usize, NotifyError>
         requires notice { N.can_give notice }
         requires share { 0 < mine.old.parts }
-        ensures did { (woken : Names W) × did (notifies (N.additional notice) (N.size notice) woken result) self.old self.new × Woken S.wakes sink.old woken sink.new }
+        ensures did { (tags : Names T) × (woken : Names W) × did (notifies (N.additional notice) (N.size notice) tags woken result) self.old self.new × IsDrawn N.gives notice tags × Woken S.wakes sink.old woken sink.new }
         ensures at_most { told_by result ≤ N.size notice }
         ensures tells { TellsOrNone N.gives N.size notice result }
         ensures counted { 0 < told_by result → mine.new.amount ≡ mine.old.amount + 1 }
@@ -84,7 +91,7 @@ pub trait Records<T: Copy, W: Copy, L: Ledger>: Drop {
 
     /// Makes room for so many more listeners, their records and their ends.
     fn reserve(&mut self, extra: usize) -> Result<(), NoMemory>
-        ensures { did makes_room self.old self.new };
+        ensures { did (makes_room extra result) self.old self.new };
 
     /// How many are listed.
     fn total(&self) -> usize
@@ -93,4 +100,10 @@ pub trait Records<T: Copy, W: Copy, L: Ledger>: Drop {
     /// How many are told.
     fn told(&self) -> usize
         ensures { did (counts_told result) self.now self.now };
+
+    /// The list as it stands, the record that leads there, and the book that counts it.
+    fn into_parts(self) -> (List<T, W>, Vec<RecordedCall<T, W>>, Book<L>)
+        ensures parted { parted self result.0 result.1.items }
+        ensures replays { Replays nobody 0 result.1.items result.0.lists result.0.serials }
+        ensures counted { length result.1.items ≡ result.2.total };
 }

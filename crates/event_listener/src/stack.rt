@@ -1,6 +1,8 @@
 //! Listeners that live no longer than their event, and the macro that makes one.
-ghost use Rattle.std.specs.Prelude.{◌≡◌, ◌↔◌, true, false, is_none, IfOk, Err};
-ghost use Rattle.event_listener.specs.Listening.{Listening, Listened};
+ghost use Rattle.std.specs.Prelude.{◌≡◌, ⊤, Result, ◌↔◌, Some, None, true, false, is_none, IfOk, IfErr, OnErr, Ok, Err};
+ghost use Rattle.futures.specs.Poll.{OnPending, IfReady};
+ghost use Rattle.futures.specs.Task.{Covers, IsArmed, Keeps};
+ghost use Rattle.event_listener.specs.Listening.{Listening, Listened, RefusesToListen, Armed, GivesTag};
 
 use crate::error::{ListenError, NoMemory};
 use crate::event::Event;
@@ -40,17 +42,15 @@ impl<'ev, T: Drop, R: Wait + Copy, L: Steps<T>> StackSlot<'ev, T, R, L> {
     ///
     /// Refused where that was refused for memory.
     pub fn new(rt: R, alloc: Global, event: &'ev Event<T, L>) -> Result<Self, NoMemory>
-        ensures { IfOk result (λ slot. slot ≡ event.now) }
+        ensures slot { IfOk result (λ slot. slot ≡ event.now) }
+        ensures refused { OnErr result L.refused }
     {
-        match Arc::new(alloc, WakerCell::new()) {
-            Ok(cell) => Ok(StackSlot {
-                rt,
-                alloc,
-                event,
-                cell: Some(cell),
-            }),
-            Err(_) => Err(NoMemory),
-        }
+        Ok(StackSlot {
+            rt,
+            alloc,
+            event,
+            cell: Some(L::share(alloc, WakerCell::new())?),
+        })
     }
 
     /// Adds a listener, as [`Event::listen`] does, and refused as there. It may wait for the list's lock.
@@ -58,11 +58,12 @@ impl<'ev, T: Drop, R: Wait + Copy, L: Steps<T>> StackSlot<'ev, T, R, L> {
         ensures event { IfOk result (λ listener. listener.event ≡ self.old.number) }
         ensures list { IfOk result (λ listener. L.holds self.old.lock listener.list) }
         ensures listens { IfOk result (Listened L.did) }
+        ensures refused { IfErr result (RefusesToListen L.did L.holds L.refused self.old.lock) }
         ensures slot { self.new ≡ self.old }
     {
         let cell = match self.cell.take() {
             Some(cell) => cell,
-            None => match Arc::new(self.alloc, WakerCell::new()) {
+            None => match L::share(self.alloc, WakerCell::new()) {
                 Ok(cell) => cell,
                 Err(_) => return Err(ListenError::NoMemory),
             },
@@ -106,6 +107,8 @@ impl<'ev, T: Drop, R: Wait + Copy, L: Steps<T>> Listener<T> for StackListener<'e
     ghost waited_for = { WaitedFor L.did L.read L.read_again L.slept };
 
     ghost waited_until = { WaitedUntil L.did L.read L.read_again L.slept };
+
+    ghost refused = { λ _. L.refused };
 
     ghost discarded = { λ l told. LeftSo L.did l false told };
 
@@ -162,12 +165,25 @@ impl<'ev, T: Drop, R: Wait + Copy, L: Steps<T>> Listener<T> for StackListener<'e
 impl<'ev, T: Drop, R: Wait + Copy, L: Steps<T>> Future for StackListener<'ev, T, R, L> {
     type Output = Result<T, PollFault>;
 
-    ghost use Rattle.event_listener.specs.declared.listener.PollFault.TheVariants as fault;
+    ghost use Rattle.event_listener.specs.Listening.{GivesTag};
 
-    ghost gives = { λ l r. (r ≡ Err fault.NeverInserted) ↔ (is_none l.key ≡ true) };
+    ghost gives = { GivesTag };
 
     /// As [`Listener::poll`], with the waker of the task that is polled. A second poll wakes nobody.
-    fn poll(&mut self, cx: &mut Context<'_>) -> Poll<Result<T, PollFault>> {
+    // The trait's clauses say nothing of a section, so behind them stand those of the method itself.
+    fn poll(&mut self, cx: &mut Context<'_>) -> Poll<Result<T, PollFault>>
+        ensures value { IfReady result (GivesTag self.old) }
+        ensures again { OnPending result ⊤ }
+        ensures same { OnPending result ((given : Result T PollFault) → GivesTag self.new given → GivesTag self.old given) }
+        ensures registered { OnPending result (Covers cx.new (λ _. ⊥)) }
+        ensures kept { Keeps cx.old cx.new }
+        ensures ready { (tag : T) → result ≡ Poll.Ready (Ok tag) → Armed L.did self.old (Some tag) }
+        ensures waits { OnPending result (Armed L.did self.old None) }
+        ensures finished { IfReady result (λ _. is_none self.new.key ≡ true) }
+        ensures pending { OnPending result (self.new ≡ self.old) }
+        ensures event { self.new.event ≡ self.old.event }
+        ensures armed { OnPending result (IsArmed cx.new) }
+    {
         Future::poll(&mut self.inner, cx)
     }
 }

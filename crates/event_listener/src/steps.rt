@@ -2,7 +2,7 @@
 //!
 //! The calls are written over any type of lists that has these steps. Each method's contract says that this very step was made, with this
 //! answer, by relations of which nothing else is known. So a call's contract, which names its steps, can be met only by making them.
-ghost use Rattle.std.specs.Prelude.{◌≡◌, ℕ, Option, Some, None, IfSome, IfNone};
+ghost use Rattle.std.specs.Prelude.{◌≡◌, ℕ, Option, Some, None, IfOk, OnErr, IfSome, IfNone};
 ghost use Rattle.std.specs.Arc.{arc_value};
 ghost use Rattle.std.specs.declared.time.Duration.{Duration as Span};
 ghost use Rattle.std.specs.declared.time.Instant.{Instant as Moment};
@@ -13,8 +13,8 @@ ghost use Rattle.event_listener.specs.Telling.{TellsIn};
 ghost use Rattle.event_listener.specs.Sections.{Section, OnSome, tag_given as given, cell_of, parker_of, listens, polls, arms, parks, looks, leaves, removes, notifies, counts_told, counts_all};
 
 use crate::calls::Registered;
-use crate::error::{ListenError, NotifyError, UnknownListener};
-use crate::home::Home;
+use crate::error::{ListenError, NoMemory, NotifyError, UnknownListener};
+use crate::home::{Home, Step};
 use crate::key::Key;
 use crate::list::List;
 use crate::notify::Notification;
@@ -28,10 +28,13 @@ use std::time::{Clock, Duration, Instant};
 /// A list of the listeners of one event, by the steps that are made on it and for it. A [`List`] is one, and the list of each event. Own to
 /// this project.
 ///
-/// A section is shown the seal of the list that it is on. It doesn't change what is done.
+/// A section is handed the right to one step on its list, which names the list by its seal. So what two steps do is no section.
 pub trait Steps<T>: Drop {
     /// Whether this was done to the list with this seal, so that the one became the other.
     ghost did: { ℕ → Section T → Self → Self → Type 0 };
+
+    /// Whether the list of an event may begin so.
+    ghost begins: { Self → Type 0 };
 
     /// Whether an event's lock of this name was seen to keep the list with this seal.
     ghost holds: { ℕ → ℕ → Type 0 };
@@ -48,8 +51,22 @@ pub trait Steps<T>: Drop {
     /// Whether the thread slept on the parker of this name, without a limit or for so long at most.
     ghost slept: { ℕ → Option Span → Type 0 };
 
+    /// Whether memory was refused.
+    ghost refused: { Type 0 };
+
+    /// Memory for a value that is shared.
+    fn share<X: Drop>(alloc: Global, value: X) -> Result<Arc<X>, NoMemory>
+        ensures shared { IfOk result (λ shared. arc_value shared ≡ value) }
+        ensures refused { OnErr result refused };
+
+    /// One more owner of a shared value.
+    fn share_again<X: Drop>(shared: &Arc<X>) -> Result<Arc<X>, NoMemory>
+        ensures same { IfOk result (λ again. arc_value again ≡ arc_value shared.now) }
+        ensures refused { OnErr result refused };
+
     /// A list without listeners.
-    fn empty(alloc: Global) -> Self;
+    fn empty(alloc: Global) -> Self
+        ensures { begins result };
 
     /// Looks whether the lock of an event has a list.
     fn find<'a>(lock: &'a OnceLock<Arc<Home<T, Self>>>) -> Option<OnceToken<'a, Arc<Home<T, Self>>>>
@@ -61,69 +78,69 @@ pub trait Steps<T>: Drop {
         ensures { holds token.now.of (seal_of (arc_value token.now.value)) };
 
     /// Adds a listener, with the task whose waker lies in this cell.
-    fn listen(&mut self, seal: &Source, cell: Arc<WakerCell>) -> Result<Key, ListenError>
-        ensures { did seal.now.id (listens (cell_of (arc_value cell)) result) self.old self.new };
+    fn listen(&mut self, step: Step<'_>, cell: Arc<WakerCell>) -> Result<Key, ListenError>
+        ensures { did step.entry.seal.now.id (listens (cell_of (arc_value cell)) result) self.old self.new };
 
     /// Takes a told listener off and gives its tag. Of one that waits it keeps the waker in its cell, so that no notice comes between.
     fn poll<R: Wait>(
         &mut self,
-        seal: &Source,
+        step: Step<'_>,
         rt: &R,
         key: Key,
         cell: &WakerCell,
         waker: Waker,
     ) -> Option<T>
-        ensures { did seal.now.id (polls key (cell_of cell.now) waker result) self.old self.new };
+        ensures { did step.entry.seal.now.id (polls key (cell_of cell.now) waker result) self.old self.new };
 
     /// The same with the waker of the task that is polled.
     fn poll_in<R: Wait>(
         &mut self,
-        seal: &Source,
+        step: Step<'_>,
         rt: &R,
         key: Key,
         cell: &WakerCell,
         cx: &mut Context<'_>,
     ) -> Option<T>
-        ensures did { did seal.now.id (arms key (cell_of cell.now) result) self.old self.new }
+        ensures did { did step.entry.seal.now.id (arms key (cell_of cell.now) result) self.old self.new }
         ensures armed { result ≡ None → IsArmed cx.new }
         ensures kept { Keeps cx.old cx.new };
 
     /// Takes a told listener off and gives its tag. One that waits gets the thread that sleeps on this parker as its task.
-    fn park(&mut self, seal: &Source, key: Key, parker: Arc<Parker>) -> Option<T>
-        ensures { did seal.now.id (parks key (parker_of (arc_value parker)) result) self.old self.new };
+    fn park(&mut self, step: Step<'_>, key: Key, parker: Arc<Parker>) -> Option<T>
+        ensures { did step.entry.seal.now.id (parks key (parker_of (arc_value parker)) result) self.old self.new };
 
     /// Takes a told listener off and gives its tag, once the thread has slept on this parker.
-    fn look(&mut self, seal: &Source, key: Key, parker: &Parker) -> Option<T>
+    fn look(&mut self, step: Step<'_>, key: Key, parker: &Parker) -> Option<T>
         requires { slept (parker_of parker.now) None }
-        ensures { did seal.now.id (looks key (parker_of parker.now) result) self.old self.new };
+        ensures { did step.entry.seal.now.id (looks key (parker_of parker.now) result) self.old self.new };
 
     /// Takes a listener off, told or not, and gives the tag of a told one, once the thread has slept on this parker for as long as was left.
     /// It passes nothing on.
-    fn leave(&mut self, seal: &Source, key: Key, parker: &Parker, timeout: Duration) -> Option<T>
+    fn leave(&mut self, step: Step<'_>, key: Key, parker: &Parker, timeout: Duration) -> Option<T>
         requires { Lapsed read read_again slept (parker_of parker.now) timeout }
-        ensures { did seal.now.id (leaves key timeout result) self.old self.new };
+        ensures { did step.entry.seal.now.id (leaves key timeout result) self.old self.new };
 
     /// Takes a listener off, and answers whether it was told. A told one may pass its notice on.
-    fn remove<R: Wait>(&mut self, seal: &Source, rt: &R, key: Key, pass_on: bool) -> bool
-        ensures { did seal.now.id (removes key pass_on result) self.old self.new };
+    fn remove<R: Wait>(&mut self, step: Step<'_>, rt: &R, key: Key, pass_on: bool) -> bool
+        ensures { did step.entry.seal.now.id (removes key pass_on result) self.old self.new };
 
     /// Tells listeners, and wakes them at once.
     fn notify<N: Notification<Tag = T> + Drop, R: Wait>(
         &mut self,
-        seal: &Source,
+        step: Step<'_>,
         rt: &R,
         notice: N,
     ) -> Result<usize, NotifyError>
         requires { N.can_give notice }
-        ensures { TellsIn N.size N.gives notice result (λ tags. did seal.now.id (notifies (N.additional notice) (N.size notice) tags result) self.old self.new) };
+        ensures { TellsIn N.size N.gives notice result (λ tags. did step.entry.seal.now.id (notifies (N.additional notice) (N.size notice) tags result) self.old self.new) };
 
     /// How many are told.
-    fn told(&self, seal: &Source) -> usize
-        ensures { did seal.now.id (counts_told result) self.now self.now };
+    fn told(&self, step: Step<'_>) -> usize
+        ensures { did step.entry.seal.now.id (counts_told result) self.now self.now };
 
     /// How many there are.
-    fn total(&self, seal: &Source) -> usize
-        ensures { did seal.now.id (counts_all result) self.now self.now };
+    fn total(&self, step: Step<'_>) -> usize
+        ensures { did step.entry.seal.now.id (counts_all result) self.now self.now };
 
     /// Sleeps on the parker that a listener registered with in this list, until it is rung.
     fn sleep<R: Wait>(rt: &R, seal: &Source, key: Key, parker: &Parker)
@@ -152,9 +169,13 @@ pub trait Steps<T>: Drop {
 }
 
 impl<T: Drop> Steps<T> for List<T, Task> {
+    ghost use Rattle.std.specs.Prelude.{◌≡◌};
+    ghost use Rattle.event_listener.specs.Replay.{nobody};
     ghost use Rattle.event_listener.specs.Sections.{OnList};
 
     ghost did = { λ _ section before after. OnList section before after };
+
+    ghost begins = { λ list. (list.lists ≡ nobody) × (list.serials ≡ 0) };
 
     ghost holds = { λ _ _. Unit {0} };
 
@@ -165,6 +186,24 @@ impl<T: Drop> Steps<T> for List<T, Task> {
     ghost read_again = { λ _ _. Unit {0} };
 
     ghost slept = { λ _ _. Unit {0} };
+
+    ghost refused = { Unit {0} };
+
+    #[inline(always)]
+    fn share<X: Drop>(alloc: Global, value: X) -> Result<Arc<X>, NoMemory> {
+        match Arc::new(alloc, value) {
+            Ok(shared) => Ok(shared),
+            Err(_) => Err(NoMemory),
+        }
+    }
+
+    #[inline(always)]
+    fn share_again<X: Drop>(shared: &Arc<X>) -> Result<Arc<X>, NoMemory> {
+        match Arc::try_clone(shared) {
+            Ok(again) => Ok(again),
+            Err(_) => Err(NoMemory),
+        }
+    }
 
     fn empty(alloc: Global) -> Self {
         List::new(alloc)
@@ -181,7 +220,7 @@ impl<T: Drop> Steps<T> for List<T, Task> {
     fn see(_token: &OnceToken<'_, Arc<Home<T, Self>>>) {}
 
     #[inline(always)]
-    fn listen(&mut self, _seal: &Source, cell: Arc<WakerCell>) -> Result<Key, ListenError> {
+    fn listen(&mut self, _step: Step<'_>, cell: Arc<WakerCell>) -> Result<Key, ListenError> {
         let key = self.insert()?;
         let _ = self.register(key, Task::Polled(cell));
         Ok(key)
@@ -190,7 +229,7 @@ impl<T: Drop> Steps<T> for List<T, Task> {
     #[inline(always)]
     fn poll<R: Wait>(
         &mut self,
-        _seal: &Source,
+        _step: Step<'_>,
         rt: &R,
         key: Key,
         cell: &WakerCell,
@@ -208,7 +247,7 @@ impl<T: Drop> Steps<T> for List<T, Task> {
     #[inline(always)]
     fn poll_in<R: Wait>(
         &mut self,
-        _seal: &Source,
+        _step: Step<'_>,
         rt: &R,
         key: Key,
         cell: &WakerCell,
@@ -224,12 +263,12 @@ impl<T: Drop> Steps<T> for List<T, Task> {
     }
 
     #[inline(always)]
-    fn park(&mut self, _seal: &Source, key: Key, parker: Arc<Parker>) -> Option<T> {
+    fn park(&mut self, _step: Step<'_>, key: Key, parker: Arc<Parker>) -> Option<T> {
         tag_given(self.register(key, Task::Parked(parker)))
     }
 
     #[inline(always)]
-    fn look(&mut self, _seal: &Source, key: Key, _parker: &Parker) -> Option<T> {
+    fn look(&mut self, _step: Step<'_>, key: Key, _parker: &Parker) -> Option<T> {
         match List::poll(self, key) {
             Ok(tag) => tag,
             Err(_) => None,
@@ -239,7 +278,7 @@ impl<T: Drop> Steps<T> for List<T, Task> {
     #[inline(always)]
     fn leave(
         &mut self,
-        _seal: &Source,
+        _step: Step<'_>,
         key: Key,
         _parker: &Parker,
         _timeout: Duration,
@@ -248,7 +287,7 @@ impl<T: Drop> Steps<T> for List<T, Task> {
     }
 
     #[inline(always)]
-    fn remove<R: Wait>(&mut self, _seal: &Source, rt: &R, key: Key, pass_on: bool) -> bool {
+    fn remove<R: Wait>(&mut self, _step: Step<'_>, rt: &R, key: Key, pass_on: bool) -> bool {
         match List::remove(self, key, pass_on, &mut WakeNow { rt }) {
             Ok(told) => told,
             Err(_) => false,
@@ -258,7 +297,7 @@ impl<T: Drop> Steps<T> for List<T, Task> {
     #[inline(always)]
     fn notify<N: Notification<Tag = T> + Drop, R: Wait>(
         &mut self,
-        _seal: &Source,
+        _step: Step<'_>,
         rt: &R,
         notice: N,
     ) -> Result<usize, NotifyError> {
@@ -266,12 +305,12 @@ impl<T: Drop> Steps<T> for List<T, Task> {
     }
 
     #[inline(always)]
-    fn told(&self, _seal: &Source) -> usize {
+    fn told(&self, _step: Step<'_>) -> usize {
         List::told(self)
     }
 
     #[inline(always)]
-    fn total(&self, _seal: &Source) -> usize {
+    fn total(&self, _step: Step<'_>) -> usize {
         List::total(self)
     }
 

@@ -1,57 +1,137 @@
-//! The right to one section on the list of an event.
-ghost use Rattle.std.specs.Prelude.{◌≡◌, ℕ, None};
+//! The right to one section on the list of an event, and the listener's right to its place there.
+ghost use Rattle.std.specs.Prelude.{◌≡◌, ℕ, Some, None, Ok, Err, IfOk, IfErr, IfSome, IfNone, is_none, false, true};
 ghost use Rattle.std.specs.Arc.{arc_value};
 ghost use Rattle.futures.specs.Task.{IsArmed, Keeps};
-ghost use Rattle.event_listener.specs.Homes.{seal_of};
 ghost use Rattle.event_listener.specs.Listening.{Lapsed};
 ghost use Rattle.event_listener.specs.Telling.{TellsIn};
 ghost use Rattle.event_listener.specs.Sections.{OnSome, cell_of, parker_of, listens, polls, arms, parks, looks, leaves, removes, notifies, counts_told, counts_all};
 
 use crate::error::{ListenError, NotifyError};
-use crate::home::Home;
+use crate::home::Step;
 use crate::key::Key;
 use crate::notify::Notification;
 use crate::parker::Parker;
+use crate::section::{Locked, Section};
 use crate::steps::Steps;
 use crate::waking::WakerCell;
 use futures::task::{Context, Waker};
+use std::marker::PhantomData;
 use std::sync::{Arc, Wait};
 use std::time::Duration;
 
-/// The right to one section on a list. It has no drop, and each call uses it up and has nothing else of the list: so it is one section, and a
-/// body that makes two is no program.
+/// The right to one section on a list, with one step in it. It has no drop, and each call uses it up and has nothing else of the list: so it is
+/// one section, and a body that makes two, or two steps in one, is no program.
 pub(crate) struct Turn<'a, T, L> {
-    home: &'a Home<T, L>,
+    step: Step<'a>,
+    section: Section<'a, L>,
+    of: PhantomData<Locked<T>>,
+}
+
+/// A listener's place on a list: its key, until a section took the listener off.
+///
+/// Only a section gives one, and only a section changes it. It has no drop, so whoever has it takes the listener off, once: a tag that was
+/// taken can't be asked for again, and a removal not made twice.
+pub(crate) struct Listed {
+    key: Option<Key>,
+}
+
+impl Listed {
+    /// Whether a section took the listener off.
+    #[inline(always)]
+    pub(crate) fn is_off(&self) -> bool
+        ensures { result ≡ is_none self.now.key }
+    {
+        self.key.is_none()
+    }
+
+    /// Its key.
+    #[inline(always)]
+    pub(crate) fn key(&self) -> Key
+        requires { is_none self.now.key ≡ false }
+        ensures { self.now.key ≡ Some result }
+    {
+        match self.key {
+            Some(key) => key,
+            None => unreachable!(),
+        }
+    }
+
+    /// Lets the place of a listener go that is off the list.
+    #[inline(always)]
+    pub(crate) fn end(self)
+        requires { is_none self.key ≡ true }
+    {
+        let Listed { key: _ } = self;
+    }
+
+    // What a section found: a listener that gave its tag is off the list.
+    #[inline(always)]
+    fn found<T>(&mut self, tag: &Option<T>)
+        ensures taken { IfSome tag.now (λ _. self.new.key ≡ None) }
+        ensures waits { IfNone tag.now (self.new ≡ self.old) }
+    {
+        if tag.is_some() {
+            self.key = None;
+        }
+    }
 }
 
 impl<'a, T, L: Steps<T>> Turn<'a, T, L> {
-    /// On this list.
+    /// This step in this section.
     #[inline(always)]
-    pub(crate) fn new(home: &'a Home<T, L>) -> Self
-        ensures { result.home.now ≡ home.now }
+    pub(crate) fn new(step: Step<'a>, section: Section<'a, L>) -> Self
+        ensures { result.step.seal.now.id ≡ step.entry.seal.now.id }
     {
-        Turn { home }
+        Turn {
+            step,
+            section,
+            of: PhantomData,
+        }
     }
 
     /// Adds a listener with the task of this cell.
     #[inline(always)]
-    pub(crate) fn listen<R: Wait>(self, rt: &R, cell: Arc<WakerCell>) -> Result<Key, ListenError>
-        ensures { OnSome L.did (seal_of self.entry.home.now) (listens (cell_of (arc_value cell)) result) }
+    pub(crate) fn listen<R: Wait>(self, rt: &R, cell: Arc<WakerCell>) -> Result<Listed, ListenError>
+        ensures added { IfOk result (λ listed. (key : Key) × (listed.key ≡ Some key) × OnSome L.did self.entry.step.seal.now.id (listens (cell_of (arc_value cell)) (Ok key))) }
+        ensures refused { IfErr result (λ error. OnSome L.did self.entry.step.seal.now.id (listens (cell_of (arc_value cell)) (Err error))) }
     {
-        let Turn { home } = self;
-        home.section().enter(rt).value().listen(home.seal(), cell)
+        let Turn {
+            step,
+            section,
+            of: _,
+        } = self;
+        let added = section.enter(rt).value().listen(step, cell);
+        match added {
+            Ok(key) => Ok(Listed { key: Some(key) }),
+            Err(error) => Err(error),
+        }
     }
 
     /// Takes the tag of a told listener, or keeps the waker in its cell.
     #[inline(always)]
-    pub(crate) fn poll<R: Wait>(self, rt: &R, key: Key, cell: &WakerCell, waker: Waker) -> Option<T>
-        ensures { OnSome L.did (seal_of self.entry.home.now) (polls key (cell_of cell.now) waker result) }
+    pub(crate) fn poll<R: Wait>(
+        self,
+        rt: &R,
+        listed: &mut Listed,
+        cell: &WakerCell,
+        waker: Waker,
+    ) -> Option<T>
+        requires listed { is_none listed.old.key ≡ false }
+        ensures did { (key : Key) × (listed.old.key ≡ Some key) × OnSome L.did self.entry.step.seal.now.id (polls key (cell_of cell.now) waker result) }
+        ensures taken { IfSome result (λ _. listed.new.key ≡ None) }
+        ensures waits { IfNone result (listed.new ≡ listed.old) }
     {
-        let Turn { home } = self;
-        home.section()
+        let Turn {
+            step,
+            section,
+            of: _,
+        } = self;
+        let tag = section
             .enter(rt)
             .value()
-            .poll(home.seal(), rt, key, cell, waker)
+            .poll(step, rt, listed.key(), cell, waker);
+        listed.found(&tag);
+        tag
     }
 
     /// The same with the waker of the task that is polled.
@@ -59,44 +139,65 @@ impl<'a, T, L: Steps<T>> Turn<'a, T, L> {
     pub(crate) fn poll_in<R: Wait>(
         self,
         rt: &R,
-        key: Key,
+        listed: &mut Listed,
         cell: &WakerCell,
         cx: &mut Context<'_>,
     ) -> Option<T>
-        ensures did { OnSome L.did (seal_of self.entry.home.now) (arms key (cell_of cell.now) result) }
+        requires listed { is_none listed.old.key ≡ false }
+        ensures did { (key : Key) × (listed.old.key ≡ Some key) × OnSome L.did self.entry.step.seal.now.id (arms key (cell_of cell.now) result) }
+        ensures taken { IfSome result (λ _. listed.new.key ≡ None) }
+        ensures waits { IfNone result (listed.new ≡ listed.old) }
         ensures armed { result ≡ None → IsArmed cx.new }
         ensures kept { Keeps cx.old cx.new }
     {
-        let Turn { home } = self;
-        home.section()
+        let Turn {
+            step,
+            section,
+            of: _,
+        } = self;
+        let tag = section
             .enter(rt)
             .value()
-            .poll_in(home.seal(), rt, key, cell, cx)
+            .poll_in(step, rt, listed.key(), cell, cx);
+        listed.found(&tag);
+        tag
     }
 
     /// Takes the tag of a told listener, or has the thread of this parker woken by its telling.
     #[inline(always)]
-    pub(crate) fn park<R: Wait>(self, rt: &R, key: Key, parker: Arc<Parker>) -> Option<T>
-        ensures { OnSome L.did (seal_of self.entry.home.now) (parks key (parker_of (arc_value parker)) result) }
+    pub(crate) fn park<R: Wait>(self, rt: &R, listed: &mut Listed, parker: Arc<Parker>) -> Option<T>
+        requires listed { is_none listed.old.key ≡ false }
+        ensures did { (key : Key) × (listed.old.key ≡ Some key) × OnSome L.did self.entry.step.seal.now.id (parks key (parker_of (arc_value parker)) result) }
+        ensures taken { IfSome result (λ _. listed.new.key ≡ None) }
+        ensures waits { IfNone result (listed.new ≡ listed.old) }
     {
-        let Turn { home } = self;
-        home.section()
-            .enter(rt)
-            .value()
-            .park(home.seal(), key, parker)
+        let Turn {
+            step,
+            section,
+            of: _,
+        } = self;
+        let tag = section.enter(rt).value().park(step, listed.key(), parker);
+        listed.found(&tag);
+        tag
     }
 
     /// Takes the tag of a told listener, once the thread has slept.
     #[inline(always)]
-    pub(crate) fn look<R: Wait>(self, rt: &R, key: Key, parker: &Parker) -> Option<T>
-        requires { L.slept (parker_of parker.now) None }
-        ensures { OnSome L.did (seal_of self.entry.home.now) (looks key (parker_of parker.now) result) }
+    pub(crate) fn look<R: Wait>(self, rt: &R, listed: &mut Listed, parker: &Parker) -> Option<T>
+        requires slept { L.slept (parker_of parker.now) None }
+        requires listed { is_none listed.old.key ≡ false }
+        ensures did { (key : Key) × (listed.old.key ≡ Some key) × OnSome L.did self.entry.step.seal.now.id (looks key (parker_of parker.now) result) }
+        ensures taken { IfSome result (λ _. listed.new.key ≡ None) }
+        ensures waits { IfNone result (listed.new ≡ listed.old) }
     {
-        let Turn { home } = self;
-        home.section()
-            .enter(rt)
-            .value()
-            .look(home.seal(), key, parker)
+        let Turn {
+            step,
+            section,
+            of: _,
+        } = self;
+        let tag = section.enter(rt).value().look(step, listed.key(), parker);
+        listed.found(&tag);
+        tag
     }
 
     /// Takes a listener off, with the tag of a told one, once its time has gone by.
@@ -104,30 +205,42 @@ impl<'a, T, L: Steps<T>> Turn<'a, T, L> {
     pub(crate) fn leave<R: Wait>(
         self,
         rt: &R,
-        key: Key,
+        listed: &mut Listed,
         parker: &Parker,
         timeout: Duration,
     ) -> Option<T>
-        requires { Lapsed L.read L.read_again L.slept (parker_of parker.now) timeout }
-        ensures { OnSome L.did (seal_of self.entry.home.now) (leaves key timeout result) }
+        requires lapsed { Lapsed L.read L.read_again L.slept (parker_of parker.now) timeout }
+        requires listed { is_none listed.old.key ≡ false }
+        ensures did { (key : Key) × (listed.old.key ≡ Some key) × OnSome L.did self.entry.step.seal.now.id (leaves key timeout result) }
+        ensures off { listed.new.key ≡ None }
     {
-        let Turn { home } = self;
-        home.section()
+        let Turn {
+            step,
+            section,
+            of: _,
+        } = self;
+        let tag = section
             .enter(rt)
             .value()
-            .leave(home.seal(), key, parker, timeout)
+            .leave(step, listed.key(), parker, timeout);
+        listed.key = None;
+        tag
     }
 
     /// Takes a listener off: whether it was told. A told one may pass its notice on.
     #[inline(always)]
-    pub(crate) fn remove<R: Wait>(self, rt: &R, key: Key, pass_on: bool) -> bool
-        ensures { OnSome L.did (seal_of self.entry.home.now) (removes key pass_on result) }
+    pub(crate) fn remove<R: Wait>(self, rt: &R, listed: Listed, pass_on: bool) -> bool
+        requires { is_none listed.key ≡ false }
+        ensures { (key : Key) × (listed.key ≡ Some key) × OnSome L.did self.entry.step.seal.now.id (removes key pass_on result) }
     {
-        let Turn { home } = self;
-        home.section()
-            .enter(rt)
-            .value()
-            .remove(home.seal(), rt, key, pass_on)
+        let Turn {
+            step,
+            section,
+            of: _,
+        } = self;
+        let key = listed.key();
+        let Listed { key: _ } = listed;
+        section.enter(rt).value().remove(step, rt, key, pass_on)
     }
 
     /// Tells listeners.
@@ -138,30 +251,39 @@ impl<'a, T, L: Steps<T>> Turn<'a, T, L> {
         notice: N,
     ) -> Result<usize, NotifyError>
         requires { N.can_give notice }
-        ensures { TellsIn N.size N.gives notice result (λ tags. OnSome L.did (seal_of self.entry.home.now) (notifies (N.additional notice) (N.size notice) tags result)) }
+        ensures { TellsIn N.size N.gives notice result (λ tags. OnSome L.did self.entry.step.seal.now.id (notifies (N.additional notice) (N.size notice) tags result)) }
     {
-        let Turn { home } = self;
-        home.section()
-            .enter(rt)
-            .value()
-            .notify(home.seal(), rt, notice)
+        let Turn {
+            step,
+            section,
+            of: _,
+        } = self;
+        section.enter(rt).value().notify(step, rt, notice)
     }
 
     /// How many are told.
     #[inline(always)]
     pub(crate) fn told<R: Wait>(self, rt: &R) -> usize
-        ensures { OnSome L.did (seal_of self.entry.home.now) (counts_told result) }
+        ensures { OnSome L.did self.entry.step.seal.now.id (counts_told result) }
     {
-        let Turn { home } = self;
-        home.section().enter(rt).value().told(home.seal())
+        let Turn {
+            step,
+            section,
+            of: _,
+        } = self;
+        section.enter(rt).value().told(step)
     }
 
     /// How many there are.
     #[inline(always)]
     pub(crate) fn total<R: Wait>(self, rt: &R) -> usize
-        ensures { OnSome L.did (seal_of self.entry.home.now) (counts_all result) }
+        ensures { OnSome L.did self.entry.step.seal.now.id (counts_all result) }
     {
-        let Turn { home } = self;
-        home.section().enter(rt).value().total(home.seal())
+        let Turn {
+            step,
+            section,
+            of: _,
+        } = self;
+        section.enter(rt).value().total(step)
     }
 }

@@ -7,6 +7,8 @@ mod checks;
 #[cfg(test)]
 mod counted;
 #[cfg(test)]
+mod counting;
+#[cfg(test)]
 mod crowds;
 #[cfg(test)]
 mod event;

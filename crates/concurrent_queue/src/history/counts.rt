@@ -1,4 +1,5 @@
-//! Operations on the two words with which a machine counts. Each is asked to be the next step of its party's machine.
+//! Operations on the two words with which a machine counts, as the handles of a channel. Each is asked to be the next step of its party's
+//! machine. None waits.
 
 ghost use Rattle.std.specs.Prelude.{◌≡◌, ℕ, ◌+◌, ◌-◌, ◌<◌, ◌^◌};
 ghost use Rattle.concurrent_queue.specs.history.Shared.{slots_of, words_of, count_at};
@@ -22,7 +23,7 @@ fn count_index<T, A, P: Machine<T, A>>(table: &KitTable<T, A, P>, which: Counter
 }
 
 impl<'a, T, A, P: Machine<T, A>> CallSeat<'a, T, A, P> {
-    /// What the word holds. It costs a load.
+    /// What the word holds.
     #[inline(always)]
     pub fn count(&mut self, which: Counter) -> u64
         requires next { (n : ℕ) → (a : A) × P.counts self.old.seat.me.0.form self.old.seat.me.0.state a which Read n }
@@ -30,10 +31,12 @@ impl<'a, T, A, P: Machine<T, A>> CallSeat<'a, T, A, P> {
         ensures same { (self.new.seat.table_id ≡ self.old.seat.table_id) × (self.new.seat.me.0.who ≡ self.old.seat.me.0.who) × (self.new.seat.me.0.form ≡ self.old.seat.me.0.form) × (self.new.seat.me.0.over ≡ self.old.seat.me.0.over) }
     {
         let at = count_index(self.table, which);
+        // One load: what it finds is the count of this moment, as the history has it.
         self.table.shared.load::<CountReads<P>>(&mut self.seat, at)
     }
 
-    /// Makes the word one less, and answers what it held.
+    /// Makes the word one less, and answers what it held. A word that holds 0 wraps to 2^64 - 1; whether it can hold 0 is for the machine to
+    /// exclude.
     #[inline(always)]
     pub fn lower_count(&mut self, which: Counter) -> u64
         requires next { (n : ℕ) → (a : A) × P.counts self.old.seat.me.0.form self.old.seat.me.0.state a which Lower n }
@@ -41,7 +44,7 @@ impl<'a, T, A, P: Machine<T, A>> CallSeat<'a, T, A, P> {
         ensures same { (self.new.seat.table_id ≡ self.old.seat.table_id) × (self.new.seat.me.0.who ≡ self.old.seat.me.0.who) × (self.new.seat.me.0.form ≡ self.old.seat.me.0.form) × (self.new.seat.me.0.over ≡ self.old.seat.me.0.over) }
     {
         let at = count_index(self.table, which);
-        // One step: of two who lower the word at once, only one may find that it was the last.
+        // Read and lowered in one operation: of two who lower the word at once, only one may find that it was the last.
         self.table
             .shared
             .fetch_sub::<CountLowers<P>>(&mut self.seat, at, 1)
@@ -56,7 +59,7 @@ impl<'a, T, A, P: Machine<T, A>> CallSeat<'a, T, A, P> {
         ensures same { (self.new.seat.table_id ≡ self.old.seat.table_id) × (self.new.seat.me.0.who ≡ self.old.seat.me.0.who) × (self.new.seat.me.0.form ≡ self.old.seat.me.0.form) × (self.new.seat.me.0.over ≡ self.old.seat.me.0.over) }
     {
         let at = count_index(self.table, which);
-        // An exchange and no addition: who raises has tested that there is room above `from`, and of another number nothing was tested.
+        // An exchange and no addition: the caller has tested that there is room above `from`, and of another number it knows nothing.
         self.table
             .shared
             .compare_exchange::<CountRaises<P>>(&mut self.seat, at, from, from + 1)

@@ -1,5 +1,5 @@
 //! What a seat of the table knows, the machine whose history the table has, the rule that the table is what this history made of it, and the
-//! kinds of steps that keep the rule. All but `Counter` is for the proofs alone: no value of it is made.
+//! kinds of steps that keep the rule. All but `Counter` is for the proofs alone: no value of these types is made.
 
 use crate::QueueForm;
 use atomic_table::{Join, Play, Split, TableRule};
@@ -59,29 +59,31 @@ pub trait Machine<T, A> {
     /// The state of a party that has done nothing.
     ghost first: { A };
 
-    /// The state of a table's first party, and what the two counting words hold then.
+    /// The state of a table's first party.
     ghost opened: { A };
 
+    /// What both counting words hold at first.
     ghost counted: { ℕ };
 
-    /// On a queue of this form, this event leads from the one state to the other.
+    /// On a queue of this form, this event leads a party from the one state to the other.
     ghost moves: { QueueForm → A → Event T → A → Type 0 };
 
     /// A new party may be at this state.
     ghost enters: { QueueForm → A → Type 0 };
 
-    /// A step leads from the one state to the other that touches no cell and no count.
+    /// A step that touches no cell and no count leads a party from the one state to the other, as the beginning of a call.
     ghost turns: { QueueForm → A → A → Type 0 };
 
-    /// An operation on a counting word does, which found this number there.
+    /// This operation on this counting word does, where it found this number.
     ghost counts: { QueueForm → A → A → Counter → CountStep → ℕ → Type 0 };
 
-    /// The state of a party that has taken in another, and of the one that was taken in.
+    /// The state of a party that has taken in what lies with another, by the states of both.
     ghost both: { A → A → A };
 
+    /// What is left to the other, by its state.
     ghost left: { A → A };
 
-    /// Of what a party at the first state has, it keeps what the second says, and a new party has what the third says.
+    /// Of what lies with a party at the first state, the second is with it after some went to a new party, and the third with that.
     ghost parts: { QueueForm → A → A → A → Type 0 };
 
     /// A party at this state has no call under way.

@@ -1,5 +1,9 @@
-//! The seats of parties between their calls: how a party comes, goes on, and rests; how one is told of the history; and how what lies with one
-//! goes to another. Nothing else makes a seat that acts or lets one go, so a body that stops in the midst of a call is no program.
+//! Seats of parties: how a party comes, rests and goes on; how a look tells it of the history; and how what lies with one seat goes to
+//! another. Nothing else makes the seat of a party that acts, or lets one go, so a body that stops in the midst of a call does not
+//! type-check. No call here waits.
+//!
+//! A view of the table changes only in an atomic operation. Where a step of a machine touches no cell and no count, this is a load whose
+//! answer nobody needs: without it no view could say that the step was made.
 
 ghost use Rattle.std.specs.Prelude.{true, false, ◌≡◌, ℕ, [], None};
 ghost use Rattle.concurrent_queue.specs.history.Shared.{Shown, both_views, left_view, spent_as, spent_view};
@@ -12,9 +16,9 @@ use crate::history::table::{CallSeat, RuledTable, flag_index};
 use atomic_table::Seat;
 use std::marker::Brand;
 
-/// The seat of a party that has no call under way, which knows its number: a value of no bytes. It names no table by reference, so it can
-/// lie in a struct, and in a slot of another table. Nothing makes one of a party that has a call under way; what its party's state is, who
-/// keeps it says.
+/// The seat of a party that has no call under way, and that knows its number: a value of no bytes. It has no reference to the table, so it
+/// can lie in a struct, and in a slot of another table. Nothing makes one of a party that has a call under way. At which state the party
+/// rests is for the one to know who keeps the seat.
 #[derive(Drop)]
 pub struct IdleSeat<T, A> {
     pub(crate) seat: Seat<Option<T>, View<T, A>>,
@@ -24,7 +28,7 @@ pub struct IdleSeat<T, A> {
     ghost named: { seat.me.0.nameless ≡ false },
 }
 
-/// The same of a party that may not know its number, as one that came of another: it can't look.
+/// The same of a party that may not know its number, as one to which `part` gave what it has. It can be taken in, and it can't look.
 #[derive(Drop)]
 pub struct NamelessSeat<T, A> {
     pub(crate) seat: Seat<Option<T>, View<T, A>>,
@@ -34,7 +38,7 @@ pub struct NamelessSeat<T, A> {
 }
 
 impl<T, A> IdleSeat<T, A> {
-    /// The same seat, of which nobody knows any more whether it knows its number. It makes no operation.
+    /// The same seat, as one that can be taken in. It makes no atomic operation.
     #[inline(always)]
     pub fn forget_name(self) -> NamelessSeat<T, A>
         ensures { result.seat ≡ self.seat }
@@ -45,7 +49,7 @@ impl<T, A> IdleSeat<T, A> {
 }
 
 impl<T, A, P: Machine<T, A>> RuledTable<T, A, P> {
-    /// A new party comes, at a state that the proof of the caller picks, by the first one; the caller says what it is about. It costs a load, which makes its seat.
+    /// A new party comes. At which state, the proof of the caller picks, by what the caller says it is about. It costs one load.
     #[inline(always)]
     pub fn enter<E: Picks<A>, X>(&self, _about: &X) -> CallSeat<'_, T, A, P>
         requires enters { P.enters self.now.table.shared.key (E.to P.first) }
@@ -54,6 +58,7 @@ impl<T, A, P: Machine<T, A>> RuledTable<T, A, P> {
         ensures alone { result.seat.me.0.over ≡ [] }
     {
         let at = flag_index(&self.table);
+        // The load makes the seat. It is on the line of the flag, which nobody writes but the first foreign call.
         let (_, seat) = self.table.shared.load_new_seat::<Enters<P, E>>(at);
         CallSeat {
             table: &self.table,
@@ -62,7 +67,7 @@ impl<T, A, P: Machine<T, A>> RuledTable<T, A, P> {
         }
     }
 
-    /// The party of this seat goes on. It makes no operation.
+    /// The party of this seat goes on, at the state where it rested. It makes no atomic operation.
     #[inline(always)]
     pub fn go_on(&self, idle: IdleSeat<T, A>) -> CallSeat<'_, T, A, P>
         requires same { idle.seat.table_id ≡ self.now.table.shared.table_id }
@@ -77,7 +82,7 @@ impl<T, A, P: Machine<T, A>> RuledTable<T, A, P> {
         }
     }
 
-    /// A seat is told its number, so that its party can make calls that are told of the history. It costs a load.
+    /// The seat gets to know its number, so that its party can make calls, and look. It costs one load.
     #[inline(always)]
     pub fn name(&self, nameless: NamelessSeat<T, A>) -> IdleSeat<T, A>
         requires same { nameless.seat.table_id ≡ self.now.table.shared.table_id }
@@ -86,24 +91,26 @@ impl<T, A, P: Machine<T, A>> RuledTable<T, A, P> {
         let NamelessSeat { seat } = nameless;
         let mut seat = seat;
         let at = flag_index(&self.table);
+        // Its view says the number from this load on; a look finds a party by the number that its view says.
         self.table.shared.load::<Names>(&mut seat, at);
         IdleSeat { seat }
     }
 
-    /// At any moment, whatever threads are in the midst of: there is one history of what all parties did, in which the party of this seat
-    /// stands where its view says, and so does each that was joined in. It costs a load. `false`: a foreign call was admitted, and nothing is
-    /// told; of a machine that admits none it always tells.
+    /// At any moment, whatever other threads are in the midst of: there is one history of what all parties did, in which the party of this
+    /// seat stands where its view says, and so does each party that was joined in. It costs one load. `false`: a foreign call was admitted,
+    /// and nothing is known. Of a machine that admits none the history is known whatever the answer.
     pub fn look(&self, idle: &mut IdleSeat<T, A>) -> bool
         requires same { idle.old.seat.table_id ≡ self.now.table.shared.table_id }
         ensures history { (P.admits → result ≡ true) → Shown P.history idle.old.seat.me.0 }
         ensures kept { (idle.new.seat.me ≡ idle.old.seat.me) × (idle.new.seat.table_id ≡ idle.old.seat.table_id) }
     {
         let at = flag_index(&self.table);
+        // It has to read the flag: once that is raised, a foreign operation may have changed the cells as no machine does.
         let found = self.table.shared.load::<Looks<P>>(&mut idle.seat, at);
         found == 0
     }
 
-    /// Joins another party into the view of this one, so that one look tells of both in one history. It costs a load.
+    /// Joins another party into the view of this one, so that one look tells of both in one history. It costs one load.
     pub fn join(&self, one: &mut IdleSeat<T, A>, other: IdleSeat<T, A>)
         requires one { one.old.seat.table_id ≡ self.now.table.shared.table_id }
         requires other { other.seat.table_id ≡ self.now.table.shared.table_id }
@@ -129,7 +136,7 @@ impl<T, A, P: Machine<T, A>> RuledTable<T, A, P> {
 }
 
 impl<'a, T, A, P: Machine<T, A>> CallSeat<'a, T, A, P> {
-    /// The party rests, which has no call under way. It makes no operation.
+    /// The party rests, which has no call under way. It makes no atomic operation.
     #[inline(always)]
     pub fn rest(self) -> IdleSeat<T, A>
         requires rests { P.rests self.seat.me.0.state }
@@ -143,8 +150,8 @@ impl<'a, T, A, P: Machine<T, A>> CallSeat<'a, T, A, P> {
         IdleSeat { seat }
     }
 
-    /// The party makes a step that touches no cell and no count, to a state that the proof of the caller picks, by the one where it
-    /// stands; the caller says what it is about. It costs a load.
+    /// The party makes a step that touches no cell and no count, as the beginning of a call. Where it leads, the proof of the caller picks, by
+    /// what the caller says it is about. It costs one load.
     #[inline(always)]
     pub fn turn<E: Picks<A>, X>(&mut self, _about: &X)
         requires next { P.turns self.old.seat.me.0.form self.old.seat.me.0.state (E.to self.old.seat.me.0.state) }
@@ -155,18 +162,20 @@ impl<'a, T, A, P: Machine<T, A>> CallSeat<'a, T, A, P> {
         self.table.shared.load::<Turns<E>>(&mut self.seat, at);
     }
 
-    /// As `look` of the table, of a party that acts.
+    /// As `look` of the table, for a party that acts.
     #[inline(always)]
     pub fn look(&mut self) -> bool
         ensures history { (P.admits → result ≡ true) → Shown P.history self.old.seat.me.0 }
         ensures kept { (self.new.seat.me ≡ self.old.seat.me) × (self.new.seat.table_id ≡ self.old.seat.table_id) }
     {
         let at = flag_index(self.table);
+        // The flag, as in `look` of the table.
         let found = self.table.shared.load::<Looks<P>>(&mut self.seat, at);
         found == 0
     }
 
-    /// The party takes in what lies with another seat of the table. Who was joined into the other's view is listed no more. It costs a load.
+    /// The party takes in what lies with another seat of the table, which is used up. The parties that were joined into the other's view are
+    /// not joined into this one's. It costs one load.
     #[inline(always)]
     pub fn take_in(&mut self, other: NamelessSeat<T, A>)
         requires other { other.seat.table_id ≡ self.old.seat.table_id }
@@ -190,8 +199,8 @@ impl<'a, T, A, P: Machine<T, A>> CallSeat<'a, T, A, P> {
             .join_seat::<TakesIn<P, E>>(&mut self.seat, seat);
     }
 
-    /// Some of what lies with the party goes to a new one, which has no call under way; the proof of the caller picks what, and
-    /// the caller says what it is about. It costs a load.
+    /// Some of what lies with the party goes to a new party, which has no call under way. What stays and what goes, the proof of the caller
+    /// picks, by what the caller says it is about. It costs one load.
     #[inline(always)]
     pub fn part<E: PicksTwo<A>, X>(&mut self, _about: &X) -> NamelessSeat<T, A>
         requires parts { P.parts self.old.seat.me.0.form self.old.seat.me.0.state (E.stays self.old.seat.me.0.state) (E.goes self.old.seat.me.0.state) }

@@ -169,7 +169,7 @@ impl<'a, T: Drop> Witnessed<'a, T> {
         (answer, Witnessed { table, witness })
     }
 
-    /// Closes the queue, as `close` of the queue does.
+    /// Closes the queue, as `close` of the queue does. It waits for nobody.
     pub fn close(self) -> (bool, Witnessed<'a, T>)
         ensures called { HasCalled self.entry ask.Close (reply.Close result.0) result.1 }
     {

@@ -1,12 +1,11 @@
 use Rattle.std.proofs.Common.{subst, inl}
-use Rattle.event_listener.specs.Homes.{seal_of}
 use Rattle.event_listener.specs.Listening.{EventView}
 use Rattle.event_listener.proofs.event.Event.notify.Goals as goal
 
 pub returns-in-Some : goal.returns-in-Some
 returns-in-Some g c =
     let told = c.notify.ensures in
-    let list = seal_of c.in-Some.turn.home.now in
+    let list = c.in-Some.turn.step.seal.now.id in
     record {
       tells = (
         c.into_notification-notice.result,

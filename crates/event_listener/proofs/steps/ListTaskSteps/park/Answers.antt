@@ -8,5 +8,5 @@ returns g c = (
   c.tag_given.ensures ∙ ap (λ answer. tag_given answer) c.register.ensures.answer,
   Parked c.args.parker,
   refl,
-  (c.register.ensures.lists, c.register.ensures.serials),
+  search c,
 )

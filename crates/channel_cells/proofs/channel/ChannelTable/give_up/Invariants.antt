@@ -1,0 +1,10 @@
+use Rattle.std.specs.Prelude.{◌≡◌}
+use Rattle.channel_calls.specs.declared.ask.ChannelAsk.TheVariants as ask
+use Rattle.channel_calls.specs.declared.reply.Reply.TheVariants as reply
+use Rattle.channel_cells.proofs.channel.ChannelTable.give_up.Given as goal
+
+abbrev pub ghosts-begin_on : goal.ghosts-begin_on
+ghosts-begin_on g a = record { ask = ask.GiveUp a.about.now.0 a.about.now.2.now a.about.now.1 }
+
+abbrev pub ghosts-end : goal.ghosts-end
+ghosts-end g a = record { gave = λ c. c.reply ≡ reply.GivenUp a.about.now }

@@ -1,0 +1,26 @@
+use Rattle.std.proofs.Common.{[], refl}
+use Rattle.channel_calls.specs.declared.reply.Reply.TheVariants as reply
+use Rattle.channel_calls.specs.declared.stage.WaitList.TheVariants.{Closings}
+use Rattle.channel_cells.specs.Channel.{standing_of}
+use Rattle.channel_cells.proofs.Calling.{begins_here, cells_reply, may_end_so, has_polled}
+use Rattle.channel_cells.proofs.Leaving.{may_poll_closed, left_listed, rests_with}
+use Rattle.channel_cells.proofs.channel.ChannelTable.poll_closed.Goals as goal
+
+pub begin_on-cells-requires-clause-asks : goal.begin_on-cells-requires-clause-asks
+begin_on-cells-requires-clause-asks g c = may_poll_closed c.args.self.now (standing_of c.args.seat) c.args.key c.args.task c.requires.listener
+
+pub poll_closed-polled-requires-clause-stands : goal.poll_closed-polled-requires-clause-stands
+poll_closed-polled-requires-clause-stands g c = begins_here c.begin_on-cells.ensures.begun
+
+pub end-seat-requires : goal.end-seat-requires
+end-seat-requires g c = record { ended = may_end_so (cells_reply g.S.Wakes.wakes _ _ _ _ c.begin_on-cells.ensures.begun c.poll_closed-polled.ensures.deeds) }
+
+pub returns-clause-called : goal.returns-clause-called
+returns-clause-called g c =
+    let e = c.end-seat.ensures in
+    has_polled (cells_reply g.S.Wakes.wakes _ _ _ _ c.begin_on-cells.ensures.begun c.poll_closed-polled.ensures.deeds) c.end-seat.result e.ended e.table
+
+pub returns-clause-listener : goal.returns-clause-listener
+returns-clause-listener g c =
+    let polled = c.poll_closed-polled in
+    rests_with [] _ (returns-clause-called g c).1 refl (left_listed {T = g.row.T.Denot} reply.ClosedPoll Closings (λ key. refl) polled.result.0 polled.result.1.key polled.ensures.listed)

@@ -1,0 +1,28 @@
+use Rattle.std.proofs.Common.{[], ◌∷◌, sym, subst}
+use Rattle.std.specs.Prelude.{◌≡◌, IfOk, IfSome}
+use Rattle.channel_calls.specs.Calls.{upgraded_answer}
+use Rattle.channel_history.specs.CallEnds.{Rests}
+use Rattle.channel_cells.specs.Channel.{standing_of}
+use Rattle.channel_cells.proofs.Calling.{begins_here, cells_reply}
+use Rattle.channel_cells.proofs.Leaving.{may_end_like, has_called_like, upgrade_rests}
+use Rattle.channel_cells.proofs.channel.ChannelTable.upgrade.Goals as goal
+
+pub upgrade-made-requires : goal.upgrade-made-requires
+upgrade-made-requires g c = record { stands = begins_here c.begin-cells.ensures.begun }
+
+pub end-seat-requires : goal.end-seat-requires
+end-seat-requires g c =
+    let d = c.upgrade-made.ensures.deeds in
+    record { ended = may_end_like (λ z. c.upgrade-made.result ≡ upgraded_answer z.reply) (cells_reply g.S.Wakes.wakes _ _ _ d.1.0 c.begin-cells.ensures.begun d.1.1) d.2 }
+
+pub returns-clause-called : goal.returns-clause-called
+returns-clause-called g c =
+    let d = c.upgrade-made.ensures.deeds in
+    let e = c.end-seat.ensures in
+    let called = has_called_like (λ z. c.upgrade-made.result ≡ upgraded_answer z.reply) (cells_reply g.S.Wakes.wakes _ _ _ d.1.0 c.begin-cells.ensures.begun d.1.1) d.2 c.end-seat.result e.ended e.table in
+    (called.0.reply, called.2, called.1)
+
+pub returns-clause-handle : goal.returns-clause-handle
+returns-clause-handle g c =
+    let called = returns-clause-called g c in
+    subst (λ z. IfOk z (λ made. IfSome made (λ u. Rests (g.K.Kind.side ∷ []) [] (standing_of c.end-seat.result)))) (sym called.2) (upgrade_rests g.K.Kind.side called.0 called.1.2)
