@@ -70,7 +70,7 @@ fn of_closed(polled: Poll<Result<(), ListenError>>) -> Polled {
     }
 }
 
-fn of_next(polled: Poll<Option<Result<u64, ListenError>>>) -> Polled {
+pub(crate) fn of_next(polled: Poll<Option<Result<u64, ListenError>>>) -> Polled {
     match polled {
         Poll::Pending => Polled::Waits,
         Poll::Ready(None) => Polled::Closed,
