@@ -87,3 +87,11 @@ module _ {T W : Type 0} where
 
       pub cells_called : (seat : IdleSeat T (Standing T W)) → EndsSo (form_in e.0) (λ (x : Completed T). x.reply ≡ r) (view_of e.0) (standing_of seat) → seat_table seat ≡ table_in e.0 → HasCalled (id_of channel) s a r seat
       cells_called = has_called (cells_reply wakes c e r d.0 b d.1)
+
+    -- and of a question over its words
+    module _ (c e : CallWords T W) (r : Reply T) (b : HasBegun channel s a (words_form c) (words_table c) (words_view c)) (d : WalkedTo (CellsDid words_form words_view IsSameTable) (first a) c r e) where
+      pub words_may_end : HasEnded (words_form e) (λ (x : Completed T). x.reply ≡ r) (words_view e)
+      words_may_end = may_end (words_reply c e r d.0 b d.1)
+
+      pub words_called : (seat : IdleSeat T (Standing T W)) → EndsSo (words_form e) (λ (x : Completed T). x.reply ≡ r) (words_view e) (standing_of seat) → seat_table seat ≡ words_table e → HasCalled (id_of channel) s a r seat
+      words_called = has_called (words_reply c e r d.0 b d.1)

@@ -34,8 +34,7 @@ module _ {T W : Type 0} (form : QueueForm) (s : Standing T W) (side : Side) (k :
   pub refuses : 2 ^ 64 - 1 ≤ k → May form (raised side k false) s → (t : Standing T W) × turns form s t × Did form (raised side k false) s t
   refuses over may =
       let goes = (sections_act T W).count_goes form (raised side k false) s tt may in
-      let acts = (sections_act T W).count_acts form (raised side k false) s goes.0 goes.1 in
-      (
+      let acts = (sections_act T W).count_acts form (raised side k false) s goes.0 goes.1 in (
         goes.0,
         is_refused side k over acts.0 (λ i. record { lists = acts.1 i; handles = acts.2.0 i; listeners = acts.2.1 i }),
         goes.1.1,

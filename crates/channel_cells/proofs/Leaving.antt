@@ -79,7 +79,6 @@ module _ {T : Type 0} where
   send_listed p (Some v) key listed = left_listed reply.SendPoll Sends (λ k. refl) p key listed
   send_listed p None key none = subst (λ (k : Option Key). kept_on (reply.SendPoll p) k ≡ listed_on Sends k) (sym none) refl
 
-
 module _ {T W : Type 0} where
   -- the party of a call that is over rests with what it left
   pub rests_with : {gave : Completed T → Type 0} {s : Standing T W} {a : ChannelAsk T W} {r : Reply T} {kept : Returned T} {t : Standing T W} (handles : List Side) (listeners : List ListenerRef)
@@ -115,8 +114,7 @@ module _ {T W : Type 0} where
         let given = ended_so form s a r kept now h.answered (AnsweredLike like form a now) (is, (s, h.answered)) (standing_of seat) e in
         let c : Completed T = given.completed in
         let answered = given.gives.1.1 in
-        let own : (standing_of seat).own ≡ answered.rests.own = e.own ∙ sym answered.own in
-        (
+        let own : (standing_of seat).own ≡ answered.rests.own = e.own ∙ sym answered.own in (
           c,
           given.gives.0,
           (

@@ -5,6 +5,7 @@ ghost use Rattle.std.specs.Prelude.{◌≡◌, [], ◌∷◌, None, IfOk, IfErr,
 ghost use Rattle.channel_calls.specs.Calls.{made_answer, upgraded_answer};
 ghost use Rattle.channel_calls.specs.declared.ask.ChannelAsk.TheVariants as ask;
 ghost use Rattle.channel_calls.specs.declared.reply.Reply.{Reply as Answer};
+ghost use Rattle.channel_calls.specs.declared.reply.Reply.TheVariants as reply;
 ghost use Rattle.channel_calls.specs.declared.stage.Side.TheVariants.{Senders, Receivers};
 ghost use Rattle.channel_calls.specs.declared.stage.WaitList.TheVariants.{Streams};
 ghost use Rattle.channel_history.specs.InHand.{listed_on};
@@ -70,7 +71,8 @@ impl<T: Drop, W: Drop> ChannelTable<T, W> {
     ) -> Seat<T, W>
         requires here { seat_table seat ≡ id_of self.now }
         requires handle { Rests (Senders ∷ []) [] (standing_of seat) }
-        ensures called { (r : Answer T) × HasCalled (id_of self.now) (standing_of seat) ask.DropSender r result }
+        ensures called { HasCalled (id_of self.now) (standing_of seat) ask.DropSender reply.Unit result }
+        ensures nothing { Rests [] [] (standing_of result) }
     {
         let mut cells = self.begin_on::<Brand, R, ()>(rt, seat, &());
         raised::drop_sender(rt, raised, &mut cells, sink);
@@ -89,11 +91,12 @@ impl<T: Drop, W: Drop> ChannelTable<T, W> {
     ) -> Seat<T, W>
         requires here { seat_table seat ≡ id_of self.now }
         requires handle { Rests (Receivers ∷ []) (listed_on Streams key) (standing_of seat) }
-        ensures called { (r : Answer T) × HasCalled (id_of self.now) (standing_of seat) (ask.DropReceiver key) r result }
+        ensures called { HasCalled (id_of self.now) (standing_of seat) (ask.DropReceiver key) reply.Unit result }
+        ensures nothing { Rests [] [] (standing_of result) }
     {
         let mut cells = self.begin_on::<Brand, R, Option<Key>>(rt, seat, &key);
         raised::drop_receiver(rt, raised, key, &mut cells, sink);
-        cells.end::<Brand, Option<Key>, ()>(&key, &())
+        cells.end::<Brand, (), ()>(&(), &())
     }
 
     /// The seat of a receiver takes in that of its stream, with the listener that the stream may have. It costs a load.

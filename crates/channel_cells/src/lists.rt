@@ -1,5 +1,8 @@
 //! A list of listeners as it lies behind its lock.
 
+ghost use Rattle.std.specs.Prelude.{◌≡◌, ◌<◌};
+ghost use Rattle.channel_cells.specs.Lists.{index_of};
+
 use crate::machine::OfChannel;
 use channel_calls::stage::WaitList;
 use channel_history::party::Standing;
@@ -7,9 +10,6 @@ use concurrent_queue::history::seats::NamelessSeat;
 use concurrent_queue::history::table::RuledTable;
 use event_listener::list::List;
 use keyed_lock::Keeps;
-
-ghost use Rattle.std.specs.Prelude.{◌≡◌, ◌<◌};
-ghost use Rattle.channel_cells.specs.Lists.{index_of};
 
 /// The table of a channel.
 pub(crate) type Table<T, W> = RuledTable<T, Standing<T, W>, OfChannel>;

@@ -50,11 +50,15 @@ impl<T: Drop, W: Drop> ChannelTable<T, W> {
         ensures listed { is_some result.1.key ≡ is_pending result.0 }
         ensures listener { Rests [] (listed_on Receives result.1.key) (standing_of result.2) }
     {
-        let mut cells =
-            self.begin_on::<Brand, R, (Option<Key>, &Option<W>)>(rt, seat, &(key, &task));
+        let mut cells = self.begin_on::<Brand, R, (Option<Key>, &Option<W>)>(
+            rt,
+            seat,
+            &(key, &task),
+        );
         let (polled, left) = polls::poll_recv(rt, key, task, &mut cells, sink);
-        let seat = cells
-            .end::<Brand, Poll<Result<T, Refused<RecvError>>>, Returned<T>>(&polled, &left);
+        let seat = cells.end::<Brand, Poll<Result<T, Refused<RecvError>>>, Returned<T>>(
+            &polled, &left,
+        );
         (polled, left, seat)
     }
 
@@ -68,7 +72,11 @@ impl<T: Drop, W: Drop> ChannelTable<T, W> {
         key: Option<Key>,
         task: Option<W>,
         sink: &mut S,
-    ) -> (Poll<Result<(), Refused<SendError<T>>>>, Returned<T>, Seat<T, W>)
+    ) -> (
+        Poll<Result<(), Refused<SendError<T>>>>,
+        Returned<T>,
+        Seat<T, W>,
+    )
         requires here { seat_table seat ≡ id_of self.now }
         requires finished { message ≡ None → key ≡ None }
         requires listener { Rests [] (listed_on Sends key) (standing_of seat) }
@@ -83,8 +91,9 @@ impl<T: Drop, W: Drop> ChannelTable<T, W> {
             &(&message, key, &task),
         );
         let (polled, left) = polls::poll_send(rt, message, key, task, &mut cells, sink);
-        let seat = cells
-            .end::<Brand, Poll<Result<(), Refused<SendError<T>>>>, Returned<T>>(&polled, &left);
+        let seat = cells.end::<Brand, Poll<Result<(), Refused<SendError<T>>>>, Returned<T>>(
+            &polled, &left,
+        );
         (polled, left, seat)
     }
 
@@ -103,8 +112,11 @@ impl<T: Drop, W: Drop> ChannelTable<T, W> {
         ensures listed { is_some result.1.key ≡ is_pending result.0 }
         ensures listener { Rests [] (listed_on Closings result.1.key) (standing_of result.2) }
     {
-        let mut cells =
-            self.begin_on::<Brand, R, (Option<Key>, &Option<W>)>(rt, seat, &(key, &task));
+        let mut cells = self.begin_on::<Brand, R, (Option<Key>, &Option<W>)>(
+            rt,
+            seat,
+            &(key, &task),
+        );
         let (polled, left) = polls::poll_closed(rt, key, task, &mut cells, sink);
         let seat = cells.end::<Brand, Poll<Result<(), ListenError>>, Returned<T>>(&polled, &left);
         (polled, left, seat)
@@ -118,18 +130,26 @@ impl<T: Drop, W: Drop> ChannelTable<T, W> {
         key: Option<Key>,
         task: Option<W>,
         sink: &mut S,
-    ) -> (Poll<Option<Result<T, ListenError>>>, Returned<T>, Seat<T, W>)
+    ) -> (
+        Poll<Option<Result<T, ListenError>>>,
+        Returned<T>,
+        Seat<T, W>,
+    )
         requires here { seat_table seat ≡ id_of self.now }
         requires listener { Rests [] (listed_on Streams key) (standing_of seat) }
         ensures called { HasPolled (id_of self.now) (standing_of seat) (next_ask key task) (reply.Next result.0) result.1 result.2 }
         ensures listed { is_some result.1.key ≡ is_pending result.0 }
         ensures listener { Rests [] (listed_on Streams result.1.key) (standing_of result.2) }
     {
-        let mut cells =
-            self.begin_on::<Brand, R, (Option<Key>, &Option<W>)>(rt, seat, &(key, &task));
+        let mut cells = self.begin_on::<Brand, R, (Option<Key>, &Option<W>)>(
+            rt,
+            seat,
+            &(key, &task),
+        );
         let (polled, left) = polls::poll_next(rt, key, task, &mut cells, sink);
-        let seat = cells
-            .end::<Brand, Poll<Option<Result<T, ListenError>>>, Returned<T>>(&polled, &left);
+        let seat = cells.end::<Brand, Poll<Option<Result<T, ListenError>>>, Returned<T>>(
+            &polled, &left,
+        );
         (polled, left, seat)
     }
 

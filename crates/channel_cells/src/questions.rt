@@ -1,4 +1,5 @@
-//! Questions that wait for nobody: they are made on words of the table alone, without the runtime.
+//! Questions that wait for nobody: they are made on words of the table alone, without the runtime. A new party asks each of them, and its
+//! seat is given beside the answer; who wants the answer alone lets the seat go.
 
 ghost use Rattle.std.specs.Prelude.{◌≡◌};
 ghost use Rattle.concurrent_queue.specs.Replies.{MayCall, room_of};
@@ -6,7 +7,6 @@ ghost use Rattle.concurrent_queue.specs.SharedQueue.{IsWordsAlone};
 ghost use Rattle.concurrent_queue.specs.Walked.{Walked, standing};
 ghost use Rattle.channel_calls.specs.declared.ask.ChannelAsk.TheVariants as ask;
 ghost use Rattle.channel_calls.specs.declared.reply.Reply.TheVariants as reply;
-ghost use Rattle.channel_history.specs.Machine.{side_of};
 ghost use Rattle.channel_history.specs.Party.{fresh};
 ghost use Rattle.channel_history.specs.WholeCalls.{MayAsk};
 ghost use Rattle.channel_cells.specs.Calls.{HasBegun, HasCalled};
@@ -101,7 +101,7 @@ impl<T: Drop, W: Drop> ChannelTable<T, W> {
         }
     }
 
-    /// How many messages it holds at most. It touches no cell, so it is no call of the history, and waits for nobody.
+    /// How many messages the channel holds at most; there is always a bound. It touches no cell, so it is no call of the history.
     #[inline(always)]
     pub fn capacity(&self) -> Option<usize>
         ensures { result ≡ room_of (form_of self.now) }
@@ -120,7 +120,7 @@ impl<T: Drop, W: Drop> ChannelTable<T, W> {
         (closed, seat)
     }
 
-    /// Whether it holds no message. It waits for nobody.
+    /// Whether the channel holds no message. It waits for nobody.
     #[inline(always)]
     pub fn is_empty(&self) -> (bool, Seat<T, W>)
         ensures called { HasCalled (id_of self.now) fresh ask.IsEmpty (reply.Flag result.0) result.1 }
@@ -131,7 +131,7 @@ impl<T: Drop, W: Drop> ChannelTable<T, W> {
         (empty, seat)
     }
 
-    /// Whether it holds as many messages as its capacity. It waits for nobody.
+    /// Whether the channel holds as many messages as its capacity. It waits for nobody.
     #[inline(always)]
     pub fn is_full(&self) -> (bool, Seat<T, W>)
         ensures called { HasCalled (id_of self.now) fresh ask.IsFull (reply.Flag result.0) result.1 }
@@ -142,7 +142,7 @@ impl<T: Drop, W: Drop> ChannelTable<T, W> {
         (full, seat)
     }
 
-    /// Whether a receiver got its last message: whether the channel is closed, and then whether it is empty. It waits for nobody.
+    /// Whether no message will come any more: whether the channel is closed, and then whether it is empty. It waits for nobody.
     #[inline(always)]
     pub fn is_terminated(&self) -> (bool, Seat<T, W>)
         ensures called { HasCalled (id_of self.now) fresh ask.IsTerminated (reply.Flag result.0) result.1 }

@@ -35,14 +35,13 @@ module _ {T W : Type 0} where
 
   -- and parts from it
   pub lists_part : (form : QueueForm) (v : Standing T W) → parts form v (without_lists v) (lists_alone v)
-  lists_part form v =
-      (
-        record v.own { lists = [] },
-        record { lists = v.own.lists; handles = []; listeners = [] },
-        refl,
-        refl,
-        λ i. record { lists = v.own.lists; handles = sym (append-nil v.own.handles) i; listeners = sym (append-nil v.own.listeners) i },
-      )
+  lists_part form v = (
+    record v.own { lists = [] },
+    record { lists = v.own.lists; handles = []; listeners = [] },
+    refl,
+    refl,
+    λ i. record { lists = v.own.lists; handles = sym (append-nil v.own.handles) i; listeners = sym (append-nil v.own.listeners) i },
+  )
 
   pub lies_alone : (line : WaitList) (lists : Listeners W) (v : Standing T W) → HoldsList line lists v → LiesAlone line lists (lists_alone v)
   lies_alone line lists v (l, is, holds) =
@@ -67,8 +66,7 @@ module _ {T W : Type 0} where
         let k : ListView Unit W = left_with lists in
         let acts = act.section_acts form line l k d s t gone.1 in
         let made : Makes form s (on_wait_lists d) t = (acts.0.0, acts.0.1, record { more = acts.0.2.more; acts = acts.0.2.acts; given = acts.0.2.given; asked = acts.0.2.asked }) in
-        let none_left = no_list form d s t gone.1.1 in
-        (
+        let none_left = no_list form d s t gone.1.1 in (
           both t (with_list line k),
           section form s t line l k none none_left d (made, acts.1) changes,
           (t, k, subst (λ (x : Standing T W). Did form d x t) (sym (outside line l s none)) gone.1.1, refl, refl),

@@ -13,9 +13,10 @@ use std::time::{Clock, Duration};
 /// How many locks there are.
 const LOCKS: usize = 4;
 
-/// How many threads increment, and how often each.
+/// How many threads increment.
 pub const THREADS: usize = 4;
 
+/// How many increments each thread makes.
 pub const ROUNDS: usize = 400;
 
 /// In one round of so many a thread holds the lock for so long that those who wait for it sleep.

@@ -117,9 +117,7 @@ impl<'a, T: Drop, W: Drop, R: Wait> ChannelCells<T, W> for CallCells<'a, T, W, R
     // without an operation on the count.
     fn raise(&mut self, side: Side, from: usize) -> bool {
         if from == usize::MAX {
-            self.queue
-                .seat
-                .turn_by::<Brand, Side, usize>(&side, &from);
+            self.queue.seat.turn_by::<Brand, Side, usize>(&side, &from);
             return false;
         }
         let found = self.queue.seat.raise_count(counter_of(side), from as u64) as usize;

@@ -36,9 +36,7 @@ fn part_list<T: Drop, W: Drop>(
 }
 
 /// The seat of the first receiver, with whose seat that of the first sender was made.
-fn part_receiver<T: Drop, W: Drop>(
-    seat: &mut Calling<'_, T, W>,
-) -> NamelessSeat<T, Standing<T, W>>
+fn part_receiver<T: Drop, W: Drop>(seat: &mut Calling<'_, T, W>) -> NamelessSeat<T, Standing<T, W>>
     requires both { seat.old.seat.me.0.state ≡ opening_at 0 }
     ensures stays { seat.new.seat.me.0.state ≡ with_handles (Senders ∷ []) }
     ensures goes { (result.seat.me.0.state ≡ with_handles (Receivers ∷ [])) × (result.seat.table_id ≡ seat.old.seat.table_id) }

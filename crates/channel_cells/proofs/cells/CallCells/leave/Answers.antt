@@ -22,7 +22,7 @@ give-requires g c =
     let alone : LiesAlone c.args.line lists (lists_alone s) = lies_alone c.args.line lists s c.requires.inside in (
       goes.3 ∙ (c.args.self.now.same ∙ sym (ap (λ t. t.table.shared.table_id) c.requires.taken.0)),
       subst (λ (line : WaitList). LiesAlone line lists c.part-seat.result.seat.me.0.state) (sym is)
-        (subst (λ (x : Standing g.row.T.Denot g.row.W.Denot). LiesAlone c.args.line lists x) (sym goes.0) alone),
+          (subst (λ (x : Standing g.row.T.Denot g.row.W.Denot). LiesAlone c.args.line lists x) (sym goes.0) alone),
     )
 
 pub returns-clause-outside : goal.returns-clause-outside

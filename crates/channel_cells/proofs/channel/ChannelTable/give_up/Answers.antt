@@ -2,7 +2,7 @@ use Rattle.std.proofs.Common.{[], refl}
 use Rattle.channel_calls.specs.declared.ask.ChannelAsk.TheVariants as ask
 use Rattle.channel_calls.specs.declared.reply.Reply.TheVariants as reply
 use Rattle.channel_cells.specs.Channel.{standing_of}
-use Rattle.channel_cells.proofs.Calling.{begins_here, cells_reply, may_end, has_called}
+use Rattle.channel_cells.proofs.Calling.{begins_here, cells_may_end, cells_called}
 use Rattle.channel_cells.proofs.Leaving.{may_ask_of, left_none, rests_with}
 use Rattle.channel_cells.proofs.channel.ChannelTable.give_up.Goals as goal
 
@@ -13,15 +13,12 @@ pub give_up-back-requires-clause-stands : goal.give_up-back-requires-clause-stan
 give_up-back-requires-clause-stands g c = begins_here c.begin_on-cells.ensures.begun
 
 pub end-seat-requires : goal.end-seat-requires
-end-seat-requires g c =
-    let d = c.give_up-back.ensures.deeds in
-    record { ended = may_end (cells_reply g.S.Wakes.wakes _ _ _ d.0 c.begin_on-cells.ensures.begun d.1) }
+end-seat-requires g c = record { ended = cells_may_end g.S.Wakes.wakes _ _ _ c.begin_on-cells.ensures.begun c.give_up-back.ensures.deeds }
 
 pub returns-clause-called : goal.returns-clause-called
 returns-clause-called g c =
-    let d = c.give_up-back.ensures.deeds in
     let e = c.end-seat.ensures in
-    has_called (cells_reply g.S.Wakes.wakes _ _ _ d.0 c.begin_on-cells.ensures.begun d.1) c.end-seat.result e.ended e.table
+    cells_called g.S.Wakes.wakes _ _ _ c.begin_on-cells.ensures.begun c.give_up-back.ensures.deeds c.end-seat.result e.ended e.table
 
 pub returns-clause-listener : goal.returns-clause-listener
 returns-clause-listener g c =

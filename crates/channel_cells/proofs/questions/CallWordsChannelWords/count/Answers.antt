@@ -1,18 +1,7 @@
-use Rattle.std.proofs.Common.{subst, sym}
-use Rattle.channel_calls.specs.Deeds.{counted}
-use Rattle.channel_calls.specs.declared.stage.Side.{Side}
-use Rattle.channel_history.specs.Cells.{May}
-use Rattle.channel_history.proofs.CellActs.{sections_act}
+use Rattle.concurrent_queue.specs.declared.history.rule.CountStep.TheVariants.{Read}
 use Rattle.channel_cells.specs.Words.{words_form, words_view}
+use Rattle.channel_cells.proofs.Counting.{may_count}
 use Rattle.channel_cells.proofs.questions.CallWordsChannelWords.count.Goals as goal
 
 pub count-requires : goal.count-requires
-count-requires g c = record {
-  next = λ n.
-      let s = c.args.self.now in
-      let T = g.row.T.Denot in
-      let W = g.row.W.Denot in
-      let may = subst (λ (side : Side). May {T = T} {W = W} (words_form s) (counted side n) (words_view s)) (sym c.counter_of.ensures) (c.requires.may n) in
-      let goes = (sections_act T W).count_goes (words_form s) _ (words_view s) tt may in
-      (goes.0, (goes.1, tt));
-}
+count-requires g c = record { next = may_count (words_form c.args.self.now) (words_view c.args.self.now) c.counter_of.result c.args.side c.counter_of.ensures Read c.requires.may (λ n. tt) }
