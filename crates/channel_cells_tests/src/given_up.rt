@@ -47,7 +47,8 @@ impl<'a> Wakes<u64> for Flags<'a> {
     ghost wakes = { λ _ _ _. Unit {0} };
 
     fn wake(&mut self, task: u64) {
-        if let Some(flag) = self.notified.get(task as usize) {
+        let notified = self.notified;
+        if let Some(flag) = notified.get(task as usize) {
             flag.store(true, Ordering::SeqCst);
         }
     }

@@ -1,6 +1,6 @@
 //! A polled operation: a party of its own, with the listener that it may have.
 
-ghost use Rattle.std.specs.Prelude.{◌≡◌, None};
+ghost use Rattle.std.specs.Prelude.{◌≡◌, [], None};
 ghost use Rattle.channel_calls.specs.declared.stage.WaitList.TheVariants.{Sends};
 ghost use Rattle.channel_cells.specs.Channel.{id_of, seat_table, standing_of};
 ghost use Rattle.channel_history.specs.CallEnds.{Rests};
