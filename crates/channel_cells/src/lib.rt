@@ -17,5 +17,3 @@ pub mod lists;
 pub mod machine;
 pub mod polls;
 pub mod questions;
-#[cfg(test)]
-mod tests;
