@@ -69,7 +69,11 @@ fn a_forced_send_displaces_the_oldest(rt: HostRuntime) {
     expect_equal(&rt, &channel.force_send(&rt, 7, &mut Nobody).0, &Ok(None));
     expect_equal(&rt, &channel.force_send(&rt, 8, &mut Nobody).0, &Ok(None));
     expect_equal(&rt, &channel.force_send(&rt, 9, &mut Nobody).0, &Ok(None));
-    expect_equal(&rt, &channel.force_send(&rt, 1, &mut Nobody).0, &Ok(Some(7)));
+    expect_equal(
+        &rt,
+        &channel.force_send(&rt, 1, &mut Nobody).0,
+        &Ok(Some(7)),
+    );
     let empty = Some(TryRecvError::Empty);
     expect_equal(&rt, &emptied(&rt, &channel), &(891, empty));
 }
@@ -100,12 +104,19 @@ fn several_messages_come_in_order(rt: HostRuntime) {
     expect_equal(&rt, &taken.as_slice(), &[0u64, 1].as_slice());
     let empty = Refused::Plain(TryRecvError::Empty);
     expect_equal(&rt, &emptied(&rt, &channel).0, &2);
-    expect_equal(&rt, &several(&rt, &channel, 2, rt.alloc()).err(), &Some(empty));
+    expect_equal(
+        &rt,
+        &several(&rt, &channel, 2, rt.alloc()).err(),
+        &Some(empty),
+    );
 }
 
 #[test]
 fn several_messages_come_into_room(rt: HostRuntime) {
-    let (Some(Opened { channel, .. }), Some(mut names)) = (opened(rt.alloc(), 3), Names::new(rt.alloc())) else {
+    let (Some(Opened { channel, .. }), Some(mut names)) = (
+        opened(rt.alloc(), 3),
+        Names::new(rt.alloc()),
+    ) else {
         return;
     };
     let _ = filled(&rt, &channel);
@@ -129,7 +140,11 @@ fn a_closed_channel_gives_what_it_has_and_takes_nothing(rt: HostRuntime) {
     let unsent = Refused::Plain(TrySendError::Closed(8));
     expect_equal(&rt, &channel.try_send(&rt, 8, &mut Nobody).0, &Err(unsent));
     let unsent = Refused::Plain(SendError(9));
-    expect_equal(&rt, &channel.force_send(&rt, 9, &mut Nobody).0, &Err(unsent));
+    expect_equal(
+        &rt,
+        &channel.force_send(&rt, 9, &mut Nobody).0,
+        &Err(unsent),
+    );
     let closed = Some(TryRecvError::Closed);
     expect_equal(&rt, &emptied(&rt, &channel), &(7, closed));
     expect_equal(&rt, &asked(&channel), &[true, true, false, true]);

@@ -88,11 +88,13 @@ fn upgrade_receiver<R: Wait>(rt: &R, channel: &Channel) -> Option<usize> {
 
 #[test]
 fn the_last_sender_closes(rt: HostRuntime) {
-    let Some(Opened {
-        channel,
-        sender,
-        receiver,
-    }) = opened(rt.alloc(), 1)
+    let Some(
+        Opened {
+            channel,
+            sender,
+            receiver,
+        },
+    ) = opened(rt.alloc(), 1)
     else {
         return;
     };
@@ -101,9 +103,17 @@ fn the_last_sender_closes(rt: HostRuntime) {
     expect_equal(&rt, &clone_receiver(&rt, &channel), &Some(2));
     expect_equal(&rt, &upgrade_sender(&rt, &channel), &Some(2));
     expect_equal(&rt, &upgrade_receiver(&rt, &channel), &Some(2));
-    expect_equal(&rt, &(counts(&channel), channel.is_closed().0), &([1, 1], false));
+    expect_equal(
+        &rt,
+        &(counts(&channel), channel.is_closed().0),
+        &([1, 1], false),
+    );
     let _ = channel.drop_sender(&rt, first_sender, sender, &mut Nobody);
-    expect_equal(&rt, &(counts(&channel), channel.is_closed().0), &([0, 1], true));
+    expect_equal(
+        &rt,
+        &(counts(&channel), channel.is_closed().0),
+        &([0, 1], true),
+    );
     expect_equal(&rt, &upgrade_sender(&rt, &channel), &None);
     expect_equal(&rt, &upgrade_receiver(&rt, &channel), &None);
     let _ = channel.drop_receiver(&rt, first_receiver, None, receiver, &mut Nobody);
@@ -142,9 +152,17 @@ fn the_last_receiver_closes(rt: HostRuntime) {
     let (first_sender, first_receiver) = Counters::new().1.handles();
     let seat = channel.gather(receiver, seat);
     let _ = channel.drop_receiver(&rt, first_receiver, key, seat, &mut names);
-    expect_equal(&rt, &(counts(&channel), channel.is_closed().0), &([1, 0], true));
+    expect_equal(
+        &rt,
+        &(counts(&channel), channel.is_closed().0),
+        &([1, 0], true),
+    );
     expect_equal(&rt, &names.are(&[1, 2]), &true);
-    expect_equal(&rt, &closing.poll(&rt, Some(2), &mut names).0, &Polled::Done);
+    expect_equal(
+        &rt,
+        &closing.poll(&rt, Some(2), &mut names).0,
+        &Polled::Done,
+    );
     let _ = channel.drop_sender(&rt, first_sender, sender, &mut names);
     expect_equal(&rt, &counts(&channel), &[0, 0]);
 }
@@ -162,7 +180,10 @@ fn come_and_go<R: Wait>(rt: &R, channel: &Channel) -> bool {
 }
 
 /// Threads make handles and drop them, all at once: whether each was made, the counts then, and whether the channel is closed.
-fn made_at_once<R: Threads + Wait + Sync>(rt: &R, alloc: Global) -> Option<([usize; 2], [bool; 2])> {
+fn made_at_once<R: Threads + Wait + Sync>(
+    rt: &R,
+    alloc: Global,
+) -> Option<([usize; 2], [bool; 2])> {
     let Opened { channel, .. } = opened(alloc, 1)?;
     let made = thread::map_indices(rt, alloc, THREADS, &|_| come_and_go(rt, &channel)).ok()?;
     let all = made.iter().all(|it| *it);

@@ -35,7 +35,11 @@ fn a_send_notifies_a_receive(rt: HostRuntime) {
     expect_equal(&rt, &channel.try_send(&rt, 7, &mut names).0, &Ok(()));
     expect_equal(&rt, &names.are(&[1]), &true);
     let (polled, receive) = receive.poll(&rt, Some(1), &mut names);
-    expect_equal(&rt, &(polled, receive.is_listed()), &(Polled::Came(7), false));
+    expect_equal(
+        &rt,
+        &(polled, receive.is_listed()),
+        &(Polled::Came(7), false),
+    );
     expect_equal(&rt, &names.are(&[1]), &true);
 }
 
@@ -105,7 +109,11 @@ fn a_poll_without_a_task_leaves_no_listener(rt: HostRuntime) {
     };
     let (_, receive) = first_poll(&rt, &channel, WaitList::Receives, 1);
     let (polled, receive) = receive.poll(&rt, None, &mut names);
-    expect_equal(&rt, &(polled, receive.is_listed()), &(Polled::WantsMemory, false));
+    expect_equal(
+        &rt,
+        &(polled, receive.is_listed()),
+        &(Polled::WantsMemory, false),
+    );
     expect_equal(&rt, &channel.try_send(&rt, 7, &mut names).0, &Ok(()));
     expect_equal(&rt, &names.are(&[]), &true);
 }
