@@ -68,6 +68,11 @@ module _ {T : Type 0} where
   left_none r never None = refl
   left_none r never (Some k) = never k
 
+  -- where no handle was wanted none was made
+  nothing_made : (r : Reply T) → if_made r [] ≡ []
+  nothing_made reply.Made = refl
+  nothing_made r = refl
+
   -- a poll leaves a listener to its operation where it is pending
   pub left_listed : {A : Type 0} (of : Poll A → Reply T) (line : WaitList) → ((k : Key) → kept_on (of Pending) (Some k) ≡ listed_on line (Some k)) → (p : Poll A) (key : Option Key)
       → is_some key ≡ is_pending p → kept_on (of p) key ≡ listed_on line key
@@ -84,6 +89,11 @@ module _ {T W : Type 0} where
   pub rests_with : {gave : Completed T → Type 0} {s : Standing T W} {a : ChannelAsk T W} {r : Reply T} {kept : Returned T} {t : Standing T W} (handles : List Side) (listeners : List ListenerRef)
       → HasGiven gave s a r kept t → if_made r (handle_wanted a) ≡ handles → kept_on r kept.key ≡ listeners → Rests handles listeners t
   rests_with handles listeners given made left = (given.idle, λ i. record { lists = given.lists i; handles = (given.handles ∙ made) i; listeners = (given.listeners ∙ left) i })
+
+  -- and that of a call by which no handle is made and no listener is left rests with nothing
+  pub called_rests : {table : TableId} {s : Standing T W} {a : ChannelAsk T W} {r : Reply T} (seat : IdleSeat T (Standing T W)) → HasCalled table s a r seat → handle_wanted a ≡ [] → ((k : Key) → kept_on r (Some k) ≡ [])
+      → Rests [] [] (standing_of seat)
+  called_rests {r = r} seat called wants never = rests_with [] [] called.2 (ap (λ (sides : List Side). if_made r sides) wants ∙ nothing_made r) (left_none r never called.0.key)
 
   -- with the seat of a clone and of an upgrade lies the handle that it made
   pub clone_rests : (side : Side) {gave : Completed T → Type 0} {s : Standing T W} (r : Reply T) {kept : Returned T} {t : Standing T W} → HasGiven gave s (ask.CloneHandle side) r kept t

@@ -1,17 +1,17 @@
-//! How a call begins and ends on a channel's cells, and the calls that wait for no message and no place. Each is that of `channel_calls`, and
-//! gives the seat of its party, whose view says what it asked and what it was answered.
+//! How a call begins and ends on a channel's cells, and the calls that wait for no message and no place. Each is that of `channel_calls`, made
+//! by the party of a seat that has no call under way and nothing lent to it, and gives the seat back, whose view says what the party asked
+//! and what it was answered.
 
-ghost use Rattle.std.specs.Prelude.{◌≡◌, ◌≤◌, ◌<◌, IfErr, MatchResult, Ok, Err};
+ghost use Rattle.std.specs.Prelude.{◌≡◌, ◌≤◌, ◌<◌, [], IfErr, MatchResult, Ok, Err};
 ghost use Rattle.std.specs.Vec.{vec_capacity, vec_ptr};
 ghost use Rattle.concurrent_queue.specs.Replies.{is_bounded};
 ghost use Rattle.channel_calls.specs.Filling.{room_in, StandsBehind};
 ghost use Rattle.channel_calls.specs.Replies.{RefusesTrySend, RefusesForceSend, GivesUpTo};
 ghost use Rattle.channel_calls.specs.declared.ask.ChannelAsk.TheVariants as ask;
 ghost use Rattle.channel_calls.specs.declared.reply.Reply.TheVariants as reply;
-ghost use Rattle.channel_history.specs.Party.{fresh};
 ghost use Rattle.channel_history.specs.WholeCalls.{MayAsk};
 ghost use Rattle.channel_cells.specs.Calls.{HasBegun, HasCalled, many_reply, filled_reply};
-ghost use Rattle.channel_history.specs.CallEnds.{HasEnded, EndsSo};
+ghost use Rattle.channel_history.specs.CallEnds.{HasEnded, EndsSo, Rests};
 ghost use Rattle.channel_cells.specs.Cells.{view_of, form_in, table_in};
 ghost use Rattle.channel_cells.specs.Channel.{form_of, id_of, seat_table, standing_of};
 
@@ -50,24 +50,6 @@ impl<T> Answers<T> for Brand {
 }
 
 impl<T: Drop, W: Drop> ChannelTable<T, W> {
-    /// A new party begins a call. It costs a load, which makes its seat.
-    #[inline(always)]
-    pub(crate) fn begin<'a, E: Asks<T, W>, R: Wait, X>(
-        &'a self,
-        rt: &'a R,
-        about: &X,
-    ) -> CallCells<'a, T, W, R>
-        requires asks { MayAsk (form_of self.now) fresh E.ask }
-        ensures begun { HasBegun self.now fresh E.ask (form_in result) (table_in result) (view_of result) }
-    {
-        let seat = self.table.enter::<Brand, X>(about);
-        CallCells {
-            channel: self,
-            rt,
-            queue: HistoryCells { seat },
-        }
-    }
-
     /// The party of this seat begins a call. It costs a load.
     #[inline(always)]
     pub(crate) fn begin_on<'a, E: Asks<T, W>, R: Wait, X>(
@@ -110,109 +92,145 @@ impl<'a, T: Drop, W: Drop, R: Wait> CallCells<'a, T, W, R> {
 }
 
 impl<T: Drop, W: Drop> ChannelTable<T, W> {
-    /// Sends the message where there is a place for it, as a new party.
+    /// Sends the message where there is a place for it.
     #[inline(always)]
     pub fn try_send<R: Wait, S: Wakes<W>>(
         &self,
         rt: &R,
+        seat: Seat<T, W>,
         message: T,
         sink: &mut S,
     ) -> (Result<(), Refused<TrySendError<T>, T>>, Seat<T, W>)
-        ensures called { HasCalled (id_of self.now) fresh (ask.TrySend message) (reply.TrySend result.0) result.1 }
+        requires here { seat_table seat ≡ id_of self.now }
+        requires rests { Rests [] [] (standing_of seat) }
+        ensures called { HasCalled (id_of self.now) (standing_of seat) (ask.TrySend message) (reply.TrySend result.0) result.1 }
+        ensures rests { Rests [] [] (standing_of result.1) }
         ensures refused { IfErr result.0 (λ e. RefusesTrySend (is_bounded (form_of self.now)) message e) }
     {
-        let mut cells = self.begin::<Brand, R, T>(rt, &message);
+        let mut cells = self.begin_on::<Brand, R, T>(rt, seat, &message);
         let sent = calls::try_send(rt, message, &mut cells, sink);
         let seat = cells.end::<Brand, Result<(), Refused<TrySendError<T>, T>>, ()>(&sent, &());
         (sent, seat)
     }
 
-    /// Takes the oldest message, as a new party.
+    /// Takes the oldest message.
     #[inline(always)]
     pub fn try_recv<R: Wait, S: Wakes<W>>(
         &self,
         rt: &R,
+        seat: Seat<T, W>,
         sink: &mut S,
     ) -> (Result<T, TryRecvError>, Seat<T, W>)
-        ensures called { HasCalled (id_of self.now) fresh ask.TryRecv (reply.TryRecv result.0) result.1 }
+        requires here { seat_table seat ≡ id_of self.now }
+        requires rests { Rests [] [] (standing_of seat) }
+        ensures called { HasCalled (id_of self.now) (standing_of seat) ask.TryRecv (reply.TryRecv result.0) result.1 }
+        ensures rests { Rests [] [] (standing_of result.1) }
     {
-        let mut cells = self.begin::<Brand, R, ()>(rt, &());
+        let mut cells = self.begin_on::<Brand, R, ()>(rt, seat, &());
         let received = calls::try_recv(rt, &mut cells, sink);
         let seat = cells.end::<Brand, Result<T, TryRecvError>, ()>(&received, &());
         (received, seat)
     }
 
-    /// Sends the message; where the channel is full, its oldest message leaves for it and is answered. As a new party.
+    /// Sends the message; where the channel is full, its oldest message leaves for it and is answered.
     #[inline(always)]
     pub fn force_send<R: Wait, S: Wakes<W>>(
         &self,
         rt: &R,
+        seat: Seat<T, W>,
         message: T,
         sink: &mut S,
     ) -> (Result<Option<T>, Refused<SendError<T>, T>>, Seat<T, W>)
-        ensures called { HasCalled (id_of self.now) fresh (ask.ForceSend message) (reply.ForceSend result.0) result.1 }
+        requires here { seat_table seat ≡ id_of self.now }
+        requires rests { Rests [] [] (standing_of seat) }
+        ensures called { HasCalled (id_of self.now) (standing_of seat) (ask.ForceSend message) (reply.ForceSend result.0) result.1 }
+        ensures rests { Rests [] [] (standing_of result.1) }
         ensures refused { IfErr result.0 (λ e. RefusesForceSend (is_bounded (form_of self.now)) message e) }
     {
-        let mut cells = self.begin::<Brand, R, T>(rt, &message);
+        let mut cells = self.begin_on::<Brand, R, T>(rt, seat, &message);
         let sent = calls::force_send(rt, message, &mut cells, sink);
         let seat = cells.end::<Brand, Result<Option<T>, Refused<SendError<T>, T>>, ()>(&sent, &());
         (sent, seat)
     }
 
-    /// Takes the oldest messages, at most `limit`, in order. As a new party.
+    /// Takes the oldest messages, at most `limit`, in order.
     pub fn recv_many<R: Wait, S: Wakes<W>>(
         &self,
         rt: &R,
+        seat: Seat<T, W>,
         limit: usize,
         alloc: Global,
         sink: &mut S,
     ) -> (Result<Vec<T>, Refused<TryRecvError>>, Seat<T, W>)
-        ensures called { HasCalled (id_of self.now) fresh (ask.RecvMany limit) (many_reply result.0) result.1 }
+        requires here { seat_table seat ≡ id_of self.now }
+        requires rests { Rests [] [] (standing_of seat) }
+        ensures called { HasCalled (id_of self.now) (standing_of seat) (ask.RecvMany limit) (many_reply result.0) result.1 }
+        ensures rests { Rests [] [] (standing_of result.1) }
         ensures most { MatchResult result.0 (λ messages. GivesUpTo limit (reply.RecvMany (Ok messages.items))) (λ e. GivesUpTo {T = T} limit (reply.RecvMany (Err e))) }
     {
-        let mut cells = self.begin::<Brand, R, usize>(rt, &limit);
+        let mut cells = self.begin_on::<Brand, R, usize>(rt, seat, &limit);
         let received = calls::recv_many(rt, limit, alloc, &mut cells, sink);
         let seat = cells.end::<Brand, Result<Vec<T>, Refused<TryRecvError>>, ()>(&received, &());
         (received, seat)
     }
 
     /// Takes the oldest messages into the room that is there, behind what is in it, in order, until it is full or no further message is
-    /// there: how many. Refused where there is none; where there is no room, nothing is tried. It asks for no memory. As a new party.
+    /// there: how many. Refused where there is none; where there is no room, nothing is tried. It asks for no memory.
     pub fn recv_many_into<R: Wait, S: Wakes<W>>(
         &self,
         rt: &R,
+        seat: Seat<T, W>,
         into: &mut Vec<T>,
         sink: &mut S,
     ) -> (Result<usize, TryRecvError>, Seat<T, W>)
-        ensures called { HasCalled (id_of self.now) fresh (ask.RecvMany (room_in into.old)) (filled_reply result.0 into.new.items) result.1 }
+        requires here { seat_table seat ≡ id_of self.now }
+        requires rests { Rests [] [] (standing_of seat) }
+        ensures called { HasCalled (id_of self.now) (standing_of seat) (ask.RecvMany (room_in into.old)) (filled_reply result.0 into.new.items) result.1 }
+        ensures rests { Rests [] [] (standing_of result.1) }
         ensures taken { StandsBehind into.old.items result.0 into.new.items }
         ensures most { MatchResult result.0 (λ n. (n ≤ room_in into.old) × (n ≡ 0 → room_in into.old ≡ 0)) (λ _. 0 < room_in into.old) }
         ensures room { vec_capacity into.new ≡ vec_capacity into.old }
         ensures in_place { vec_ptr into.new ≡ vec_ptr into.old }
     {
-        let mut cells = self.begin::<Brand, R, Vec<T>>(rt, into);
+        let mut cells = self.begin_on::<Brand, R, Vec<T>>(rt, seat, into);
         let received = filling::recv_many_into(rt, into, &mut cells, sink);
         let seat = cells.end::<Brand, Result<usize, TryRecvError>, Vec<T>>(&received, into);
         (received, seat)
     }
 
-    /// Closes the channel. As a new party.
+    /// Closes the channel.
     #[inline(always)]
-    pub fn close<R: Wait, S: Wakes<W>>(&self, rt: &R, sink: &mut S) -> (bool, Seat<T, W>)
-        ensures called { HasCalled (id_of self.now) fresh ask.Close (reply.Closed result.0) result.1 }
+    pub fn close<R: Wait, S: Wakes<W>>(
+        &self,
+        rt: &R,
+        seat: Seat<T, W>,
+        sink: &mut S,
+    ) -> (bool, Seat<T, W>)
+        requires here { seat_table seat ≡ id_of self.now }
+        requires rests { Rests [] [] (standing_of seat) }
+        ensures called { HasCalled (id_of self.now) (standing_of seat) ask.Close (reply.Closed result.0) result.1 }
+        ensures rests { Rests [] [] (standing_of result.1) }
     {
-        let mut cells = self.begin::<Brand, R, ()>(rt, &());
+        let mut cells = self.begin_on::<Brand, R, ()>(rt, seat, &());
         let closed = calls::close(rt, &mut cells, sink);
         let seat = cells.end::<Brand, bool, ()>(&closed, &());
         (closed, seat)
     }
 
-    /// How many messages the channel held at a moment of the call. As a new party.
+    /// How many messages the channel held at a moment of the call.
     #[inline(always)]
-    pub fn len<R: Wait, S: Wakes<W>>(&self, rt: &R, sink: &mut S) -> (usize, Seat<T, W>)
-        ensures called { HasCalled (id_of self.now) fresh ask.Len (reply.Count result.0) result.1 }
+    pub fn len<R: Wait, S: Wakes<W>>(
+        &self,
+        rt: &R,
+        seat: Seat<T, W>,
+        sink: &mut S,
+    ) -> (usize, Seat<T, W>)
+        requires here { seat_table seat ≡ id_of self.now }
+        requires rests { Rests [] [] (standing_of seat) }
+        ensures called { HasCalled (id_of self.now) (standing_of seat) ask.Len (reply.Count result.0) result.1 }
+        ensures rests { Rests [] [] (standing_of result.1) }
     {
-        let mut cells = self.begin::<Brand, R, ()>(rt, &());
+        let mut cells = self.begin_on::<Brand, R, ()>(rt, seat, &());
         let count = calls::len(rt, &mut cells, sink);
         let seat = cells.end::<Brand, usize, ()>(&count, &());
         (count, seat)

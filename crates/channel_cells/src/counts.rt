@@ -10,7 +10,6 @@ ghost use Rattle.channel_calls.specs.declared.stage.Side.TheVariants.{Senders, R
 ghost use Rattle.channel_calls.specs.declared.stage.WaitList.TheVariants.{Streams};
 ghost use Rattle.channel_history.specs.InHand.{listed_on};
 ghost use Rattle.channel_history.specs.Machine.{both};
-ghost use Rattle.channel_history.specs.Party.{fresh};
 ghost use Rattle.channel_cells.specs.Calls.{HasCalled};
 ghost use Rattle.channel_history.specs.CallEnds.{Rests};
 ghost use Rattle.channel_cells.specs.Channel.{id_of, seat_table, standing_of};
@@ -26,19 +25,22 @@ use std::marker::Brand;
 use std::sync::Wait;
 
 impl<T: Drop, W: Drop> ChannelTable<T, W> {
-    /// Counts one more strong handle of this kind, as a new party: it is the handle's from then on. Refused where more than half of
+    /// Counts one more strong handle of this kind: the party of this seat is the handle's from then on. Refused where more than half of
     /// `usize::MAX` live. It may wait for other clonings.
     pub fn clone_handle<K: Kind, R: Wait, S: Wakes<W>>(
         &self,
         rt: &R,
+        seat: Seat<T, W>,
         sink: &mut S,
     ) -> (Result<Raised<K>, HandleError>, Seat<T, W>)
-        ensures called { (r : Answer T) × HasCalled (id_of self.now) fresh (ask.CloneHandle K.side) r result.1 × (result.0 ≡ made_answer r) }
+        requires here { seat_table seat ≡ id_of self.now }
+        requires rests { Rests [] [] (standing_of seat) }
+        ensures called { (r : Answer T) × HasCalled (id_of self.now) (standing_of seat) (ask.CloneHandle K.side) r result.1 × (result.0 ≡ made_answer r) }
         ensures handle { IfOk result.0 (λ _. Rests (K.side ∷ []) [] (standing_of result.1)) }
         ensures reason { IfErr result.0 (λ e. e ≡ HandleError.TooMany) }
     {
         let side = K::side();
-        let mut cells = self.begin::<Brand, R, Side>(rt, &side);
+        let mut cells = self.begin_on::<Brand, R, Side>(rt, seat, &side);
         let made = raised::clone_handle(rt, &mut cells, sink);
         let seat = cells.end::<Brand, Result<Raised<K>, HandleError>, ()>(&made, &());
         (made, seat)
@@ -48,14 +50,17 @@ impl<T: Drop, W: Drop> ChannelTable<T, W> {
     pub fn upgrade<K: Kind, R: Wait, S: Wakes<W>>(
         &self,
         rt: &R,
+        seat: Seat<T, W>,
         sink: &mut S,
     ) -> (Result<Option<Raised<K>>, HandleError>, Seat<T, W>)
-        ensures called { (r : Answer T) × HasCalled (id_of self.now) fresh (ask.Upgrade K.side) r result.1 × (result.0 ≡ upgraded_answer r) }
+        requires here { seat_table seat ≡ id_of self.now }
+        requires rests { Rests [] [] (standing_of seat) }
+        ensures called { (r : Answer T) × HasCalled (id_of self.now) (standing_of seat) (ask.Upgrade K.side) r result.1 × (result.0 ≡ upgraded_answer r) }
         ensures handle { IfOk result.0 (λ made. IfSome made (λ _. Rests (K.side ∷ []) [] (standing_of result.1))) }
         ensures reason { IfErr result.0 (λ e. e ≡ HandleError.TooMany) }
     {
         let side = K::side();
-        let mut cells = self.begin::<Brand, R, Side>(rt, &side);
+        let mut cells = self.begin_on::<Brand, R, Side>(rt, seat, &side);
         let made = raised::upgrade(rt, &mut cells, sink);
         let seat = cells.end::<Brand, Result<Option<Raised<K>>, HandleError>, ()>(&made, &());
         (made, seat)

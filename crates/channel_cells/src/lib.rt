@@ -2,9 +2,10 @@
 //! is that there is one history of what all threads did: it leads from a new channel to this one, and each party's part of it is what the
 //! machine of its calls does. So whatever is proved of every such history holds at every moment of every schedule.
 //!
-//! A call begins by a new seat of the table, or by that of a handle or an operation, and its seat can't be let go before the machine of
-//! the call has answered. Each operation of the call's cells is asked to be the machine's next. Contracts of the calls say what this party
-//! asked and what it was answered; [`look`](ChannelTable::look) tells of the history in which that stands.
+//! A call is made by the party of a seat, a new one or that of a handle or an operation, and gives the seat back. It can't be let go before
+//! its machine has answered. Each operation of the call's cells is asked to be the machine's next. Contracts of the calls say what this
+//! party asked and what it was answered, behind all that it had asked before; [`look`](ChannelTable::look) tells of the history in which
+//! that stands.
 //!
 //! The calls themselves are those of `channel_calls`, over these cells.
 #![tactic(auto)]

@@ -1,16 +1,15 @@
-//! Questions that wait for nobody: they are made on words of the table alone, without the runtime. A new party asks each of them, and its
-//! seat is given beside the answer; who wants the answer alone lets the seat go.
+//! Questions that wait for nobody: they are made on words of the table alone, without the runtime. The party of a seat asks each of them, and
+//! the seat is given back beside the answer.
 
-ghost use Rattle.std.specs.Prelude.{◌≡◌};
+ghost use Rattle.std.specs.Prelude.{◌≡◌, []};
 ghost use Rattle.concurrent_queue.specs.Replies.{MayCall, room_of};
 ghost use Rattle.concurrent_queue.specs.SharedQueue.{IsWordsAlone};
 ghost use Rattle.concurrent_queue.specs.Walked.{Walked, standing};
 ghost use Rattle.channel_calls.specs.declared.ask.ChannelAsk.TheVariants as ask;
 ghost use Rattle.channel_calls.specs.declared.reply.Reply.TheVariants as reply;
-ghost use Rattle.channel_history.specs.Party.{fresh};
 ghost use Rattle.channel_history.specs.WholeCalls.{MayAsk};
 ghost use Rattle.channel_cells.specs.Calls.{HasBegun, HasCalled};
-ghost use Rattle.channel_history.specs.CallEnds.{HasEnded, EndsSo};
+ghost use Rattle.channel_history.specs.CallEnds.{HasEnded, EndsSo, Rests};
 ghost use Rattle.channel_cells.specs.Words.{words_view, words_form, words_table};
 ghost use Rattle.channel_cells.specs.Channel.{form_of, id_of, seat_table, standing_of};
 
@@ -89,13 +88,15 @@ fn complete_question<T: Drop, C: Cells<T>>(call: QueueCall<T>, cells: &mut C) ->
 }
 
 impl<T: Drop, W: Drop> ChannelTable<T, W> {
-    /// A new party asks a question. It costs a load, which makes its seat.
+    /// The party of this seat asks a question. It costs a load.
     #[inline(always)]
-    fn asks<E: Asks<T, W>, X>(&self, about: &X) -> CallWords<'_, T, W>
-        requires asks { MayAsk (form_of self.now) fresh E.ask }
-        ensures begun { HasBegun self.now fresh E.ask (words_form result) (words_table result) (words_view result) }
+    fn asks<E: Asks<T, W>, X>(&self, seat: Seat<T, W>, about: &X) -> CallWords<'_, T, W>
+        requires same { seat_table seat ≡ id_of self.now }
+        requires asks { MayAsk (form_of self.now) (standing_of seat) E.ask }
+        ensures begun { HasBegun self.now (standing_of seat) E.ask (words_form result) (words_table result) (words_view result) }
     {
-        let seat = self.table.enter::<Brand, X>(about);
+        let mut seat = self.table.go_on(seat);
+        seat.turn::<Brand, X>(about);
         CallWords {
             queue: HistoryCells { seat },
         }
@@ -111,10 +112,13 @@ impl<T: Drop, W: Drop> ChannelTable<T, W> {
 
     /// Whether the channel is closed. It waits for nobody.
     #[inline(always)]
-    pub fn is_closed(&self) -> (bool, Seat<T, W>)
-        ensures called { HasCalled (id_of self.now) fresh ask.IsClosed (reply.Flag result.0) result.1 }
+    pub fn is_closed(&self, seat: Seat<T, W>) -> (bool, Seat<T, W>)
+        requires here { seat_table seat ≡ id_of self.now }
+        requires rests { Rests [] [] (standing_of seat) }
+        ensures called { HasCalled (id_of self.now) (standing_of seat) ask.IsClosed (reply.Flag result.0) result.1 }
+        ensures rests { Rests [] [] (standing_of result.1) }
     {
-        let mut words = self.asks::<Brand, ()>(&());
+        let mut words = self.asks::<Brand, ()>(seat, &());
         let closed = questions::is_closed(&mut words);
         let seat = words.end::<Brand, bool>(&closed);
         (closed, seat)
@@ -122,10 +126,13 @@ impl<T: Drop, W: Drop> ChannelTable<T, W> {
 
     /// Whether the channel holds no message. It waits for nobody.
     #[inline(always)]
-    pub fn is_empty(&self) -> (bool, Seat<T, W>)
-        ensures called { HasCalled (id_of self.now) fresh ask.IsEmpty (reply.Flag result.0) result.1 }
+    pub fn is_empty(&self, seat: Seat<T, W>) -> (bool, Seat<T, W>)
+        requires here { seat_table seat ≡ id_of self.now }
+        requires rests { Rests [] [] (standing_of seat) }
+        ensures called { HasCalled (id_of self.now) (standing_of seat) ask.IsEmpty (reply.Flag result.0) result.1 }
+        ensures rests { Rests [] [] (standing_of result.1) }
     {
-        let mut words = self.asks::<Brand, ()>(&());
+        let mut words = self.asks::<Brand, ()>(seat, &());
         let empty = questions::is_empty(&mut words);
         let seat = words.end::<Brand, bool>(&empty);
         (empty, seat)
@@ -133,10 +140,13 @@ impl<T: Drop, W: Drop> ChannelTable<T, W> {
 
     /// Whether the channel holds as many messages as its capacity. It waits for nobody.
     #[inline(always)]
-    pub fn is_full(&self) -> (bool, Seat<T, W>)
-        ensures called { HasCalled (id_of self.now) fresh ask.IsFull (reply.Flag result.0) result.1 }
+    pub fn is_full(&self, seat: Seat<T, W>) -> (bool, Seat<T, W>)
+        requires here { seat_table seat ≡ id_of self.now }
+        requires rests { Rests [] [] (standing_of seat) }
+        ensures called { HasCalled (id_of self.now) (standing_of seat) ask.IsFull (reply.Flag result.0) result.1 }
+        ensures rests { Rests [] [] (standing_of result.1) }
     {
-        let mut words = self.asks::<Brand, ()>(&());
+        let mut words = self.asks::<Brand, ()>(seat, &());
         let full = questions::is_full(&mut words);
         let seat = words.end::<Brand, bool>(&full);
         (full, seat)
@@ -144,10 +154,13 @@ impl<T: Drop, W: Drop> ChannelTable<T, W> {
 
     /// Whether no message will come any more: whether the channel is closed, and then whether it is empty. It waits for nobody.
     #[inline(always)]
-    pub fn is_terminated(&self) -> (bool, Seat<T, W>)
-        ensures called { HasCalled (id_of self.now) fresh ask.IsTerminated (reply.Flag result.0) result.1 }
+    pub fn is_terminated(&self, seat: Seat<T, W>) -> (bool, Seat<T, W>)
+        requires here { seat_table seat ≡ id_of self.now }
+        requires rests { Rests [] [] (standing_of seat) }
+        ensures called { HasCalled (id_of self.now) (standing_of seat) ask.IsTerminated (reply.Flag result.0) result.1 }
+        ensures rests { Rests [] [] (standing_of result.1) }
     {
-        let mut words = self.asks::<Brand, ()>(&());
+        let mut words = self.asks::<Brand, ()>(seat, &());
         let terminated = questions::is_terminated(&mut words);
         let seat = words.end::<Brand, bool>(&terminated);
         (terminated, seat)
@@ -155,10 +168,13 @@ impl<T: Drop, W: Drop> ChannelTable<T, W> {
 
     /// How many strong handles of this kind live. It waits for nobody.
     #[inline(always)]
-    pub fn handle_count(&self, side: Side) -> (usize, Seat<T, W>)
-        ensures called { HasCalled (id_of self.now) fresh (ask.HandleCount side) (reply.Count result.0) result.1 }
+    pub fn handle_count(&self, seat: Seat<T, W>, side: Side) -> (usize, Seat<T, W>)
+        requires here { seat_table seat ≡ id_of self.now }
+        requires rests { Rests [] [] (standing_of seat) }
+        ensures called { HasCalled (id_of self.now) (standing_of seat) (ask.HandleCount side) (reply.Count result.0) result.1 }
+        ensures rests { Rests [] [] (standing_of result.1) }
     {
-        let mut words = self.asks::<Brand, Side>(&side);
+        let mut words = self.asks::<Brand, Side>(seat, &side);
         let count = questions::handle_count(side, &mut words);
         let seat = words.end::<Brand, usize>(&count);
         (count, seat)

@@ -39,7 +39,11 @@ pub(crate) fn is_sent<R: Wait, S: Wakes<u64>>(
     sink: &mut S,
 ) -> bool {
     for _ in 0..PATIENCE {
-        if channel.try_send(rt, message, sink).0.is_ok() {
+        if channel
+            .try_send(rt, channel.new_seat(), message, sink)
+            .0
+            .is_ok()
+        {
             return true;
         }
         thread::yield_now();
@@ -56,14 +60,20 @@ fn send_all<R: Wait>(rt: &R, crowd: &Crowd, first: u64) {
         }
     }
     if crowd.silent.fetch_add(1, Ordering::SeqCst) == 1 {
-        let _ = crowd.channel.close(rt, &mut Nobody);
+        let _ = crowd
+            .channel
+            .close(rt, crowd.channel.new_seat(), &mut Nobody);
     }
 }
 
 /// Receives until the channel is closed and empty.
 fn receive_all<R: Wait>(rt: &R, crowd: &Crowd) {
     for _ in 0..PATIENCE {
-        match crowd.channel.try_recv(rt, &mut Nobody).0 {
+        match crowd
+            .channel
+            .try_recv(rt, crowd.channel.new_seat(), &mut Nobody)
+            .0
+        {
             Ok(message) => {
                 crowd.received.fetch_add(1, Ordering::SeqCst);
                 crowd.sum.fetch_add(message, Ordering::SeqCst);
@@ -79,7 +89,7 @@ fn look_on(crowd: &Crowd) {
     let channel = &crowd.channel;
     for _ in 0..PATIENCE {
         let mut seat = channel.new_seat();
-        let (is_closed, other) = channel.is_closed();
+        let (is_closed, other) = channel.is_closed(channel.new_seat());
         channel.join(&mut seat, other);
         channel.look(&mut seat);
         crowd.looks.fetch_add(1, Ordering::SeqCst);
@@ -122,7 +132,7 @@ fn rush<R: Threads + Wait + Sync>(
         crowd.received.load(Ordering::SeqCst),
         crowd.sum.load(Ordering::SeqCst),
         [
-            crowd.channel.is_empty().0,
+            crowd.channel.is_empty(crowd.channel.new_seat()).0,
             crowd.looks.load(Ordering::SeqCst) > 0,
         ],
     ))

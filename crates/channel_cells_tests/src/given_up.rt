@@ -57,7 +57,7 @@ impl<'a> Wakes<u64> for Flags<'a> {
 /// Waits until the channel is empty: nobody sleeps beside a message. False where it isn't for too long.
 fn is_soon_empty(channel: &Channel) -> bool {
     for _ in 0..PATIENCE {
-        if channel.is_empty().0 {
+        if channel.is_empty(channel.new_seat()).0 {
             return true;
         }
         thread::yield_now();
@@ -77,7 +77,9 @@ fn send_all<R: Wait>(rt: &R, shared: &Shared, first: u64) {
     }
     if shared.silent.fetch_add(1, Ordering::SeqCst) == 1 {
         right = is_soon_empty(&shared.channel) && right;
-        let _ = shared.channel.close(rt, &mut sink);
+        let _ = shared
+            .channel
+            .close(rt, shared.channel.new_seat(), &mut sink);
     }
     if !right {
         shared.stuck.store(true, Ordering::SeqCst);
@@ -205,7 +207,7 @@ fn receive_now_and_then<R: Threads + Wait + Sync>(
         shared.sum.load(Ordering::SeqCst),
         [
             shared.given_up.load(Ordering::SeqCst) > 0,
-            shared.channel.is_empty().0,
+            shared.channel.is_empty(shared.channel.new_seat()).0,
             shared.stuck.load(Ordering::SeqCst),
         ],
     ))

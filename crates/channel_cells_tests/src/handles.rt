@@ -29,17 +29,21 @@ const ROUNDS: usize = 200;
 /// How many senders live, and how many receivers.
 fn counts(channel: &Channel) -> [usize; 2] {
     [
-        channel.handle_count(Side::Senders).0,
-        channel.handle_count(Side::Receivers).0,
+        channel.handle_count(channel.new_seat(), Side::Senders).0,
+        channel.handle_count(channel.new_seat(), Side::Receivers).0,
     ]
 }
 
 /// A sender is cloned and dropped: how many there were meanwhile.
 fn clone_sender<R: Wait>(rt: &R, channel: &Channel) -> Option<usize> {
-    let (made, seat) = channel.clone_handle::<OfSenders, R, Nobody>(rt, &mut Nobody);
+    let (made, seat) = channel.clone_handle::<OfSenders, R, Nobody>(
+        rt,
+        channel.new_seat(),
+        &mut Nobody,
+    );
     match made {
         Ok(raised) => {
-            let count = channel.handle_count(Side::Senders).0;
+            let count = channel.handle_count(channel.new_seat(), Side::Senders).0;
             let _ = channel.drop_sender(rt, raised, seat, &mut Nobody);
             Some(count)
         }
@@ -49,10 +53,14 @@ fn clone_sender<R: Wait>(rt: &R, channel: &Channel) -> Option<usize> {
 
 /// A receiver is cloned and dropped: how many there were meanwhile.
 fn clone_receiver<R: Wait>(rt: &R, channel: &Channel) -> Option<usize> {
-    let (made, seat) = channel.clone_handle::<OfReceivers, R, Nobody>(rt, &mut Nobody);
+    let (made, seat) = channel.clone_handle::<OfReceivers, R, Nobody>(
+        rt,
+        channel.new_seat(),
+        &mut Nobody,
+    );
     match made {
         Ok(raised) => {
-            let count = channel.handle_count(Side::Receivers).0;
+            let count = channel.handle_count(channel.new_seat(), Side::Receivers).0;
             let _ = channel.drop_receiver(rt, raised, None, seat, &mut Nobody);
             Some(count)
         }
@@ -62,10 +70,10 @@ fn clone_receiver<R: Wait>(rt: &R, channel: &Channel) -> Option<usize> {
 
 /// A sender is made of none, and dropped: how many there were meanwhile. `None` where none was made.
 fn upgrade_sender<R: Wait>(rt: &R, channel: &Channel) -> Option<usize> {
-    let (made, seat) = channel.upgrade::<OfSenders, R, Nobody>(rt, &mut Nobody);
+    let (made, seat) = channel.upgrade::<OfSenders, R, Nobody>(rt, channel.new_seat(), &mut Nobody);
     match made {
         Ok(Some(raised)) => {
-            let count = channel.handle_count(Side::Senders).0;
+            let count = channel.handle_count(channel.new_seat(), Side::Senders).0;
             let _ = channel.drop_sender(rt, raised, seat, &mut Nobody);
             Some(count)
         }
@@ -75,10 +83,14 @@ fn upgrade_sender<R: Wait>(rt: &R, channel: &Channel) -> Option<usize> {
 
 /// A receiver is made of none, and dropped: how many there were meanwhile. `None` where none was made.
 fn upgrade_receiver<R: Wait>(rt: &R, channel: &Channel) -> Option<usize> {
-    let (made, seat) = channel.upgrade::<OfReceivers, R, Nobody>(rt, &mut Nobody);
+    let (made, seat) = channel.upgrade::<OfReceivers, R, Nobody>(
+        rt,
+        channel.new_seat(),
+        &mut Nobody,
+    );
     match made {
         Ok(Some(raised)) => {
-            let count = channel.handle_count(Side::Receivers).0;
+            let count = channel.handle_count(channel.new_seat(), Side::Receivers).0;
             let _ = channel.drop_receiver(rt, raised, None, seat, &mut Nobody);
             Some(count)
         }
@@ -105,13 +117,13 @@ fn the_last_sender_closes(rt: HostRuntime) {
     expect_equal(&rt, &upgrade_receiver(&rt, &channel), &Some(2));
     expect_equal(
         &rt,
-        &(counts(&channel), channel.is_closed().0),
+        &(counts(&channel), channel.is_closed(channel.new_seat()).0),
         &([1, 1], false),
     );
     let _ = channel.drop_sender(&rt, first_sender, sender, &mut Nobody);
     expect_equal(
         &rt,
-        &(counts(&channel), channel.is_closed().0),
+        &(counts(&channel), channel.is_closed(channel.new_seat()).0),
         &([0, 1], true),
     );
     expect_equal(&rt, &upgrade_sender(&rt, &channel), &None);
@@ -154,7 +166,7 @@ fn the_last_receiver_closes(rt: HostRuntime) {
     let _ = channel.drop_receiver(&rt, first_receiver, key, seat, &mut names);
     expect_equal(
         &rt,
-        &(counts(&channel), channel.is_closed().0),
+        &(counts(&channel), channel.is_closed(channel.new_seat()).0),
         &([1, 0], true),
     );
     expect_equal(&rt, &names.are(&[1, 2]), &true);
@@ -187,7 +199,10 @@ fn made_at_once<R: Threads + Wait + Sync>(
     let Opened { channel, .. } = opened(alloc, 1)?;
     let made = thread::map_indices(rt, alloc, THREADS, &|_| come_and_go(rt, &channel)).ok()?;
     let all = made.iter().all(|it| *it);
-    Some((counts(&channel), [all, channel.is_closed().0]))
+    Some((
+        counts(&channel),
+        [all, channel.is_closed(channel.new_seat()).0],
+    ))
 }
 
 #[test]

@@ -32,7 +32,11 @@ fn a_send_notifies_a_receive(rt: HostRuntime) {
     };
     let (polled, receive) = first_poll(&rt, &channel, WaitList::Receives, 1);
     expect_equal(&rt, &(polled, receive.is_listed()), &(Polled::Waits, true));
-    expect_equal(&rt, &channel.try_send(&rt, 7, &mut names).0, &Ok(()));
+    expect_equal(
+        &rt,
+        &channel.try_send(&rt, channel.new_seat(), 7, &mut names).0,
+        &Ok(()),
+    );
     expect_equal(&rt, &names.are(&[1]), &true);
     let (polled, receive) = receive.poll(&rt, Some(1), &mut names);
     expect_equal(
@@ -50,7 +54,11 @@ fn a_receive_that_is_given_up_hands_its_notice_on(rt: HostRuntime) {
     };
     let (_, first) = first_poll(&rt, &channel, WaitList::Receives, 1);
     let (_, second) = first_poll(&rt, &channel, WaitList::Receives, 2);
-    expect_equal(&rt, &channel.try_send(&rt, 7, &mut names).0, &Ok(()));
+    expect_equal(
+        &rt,
+        &channel.try_send(&rt, channel.new_seat(), 7, &mut names).0,
+        &Ok(()),
+    );
     expect_equal(&rt, &names.are(&[1]), &true);
     expect_equal(&rt, &first.give_up(&rt, &mut names), &None);
     expect_equal(&rt, &names.are(&[1, 2]), &true);
@@ -63,15 +71,27 @@ fn a_receive_notifies_a_send(rt: HostRuntime) {
     let Some((channel, mut names)) = alone(rt.alloc()) else {
         return;
     };
-    expect_equal(&rt, &channel.try_send(&rt, 7, &mut names).0, &Ok(()));
+    expect_equal(
+        &rt,
+        &channel.try_send(&rt, channel.new_seat(), 7, &mut names).0,
+        &Ok(()),
+    );
     let (polled, send) = Operation::send(&channel, 8).polled(&rt, 1, &mut names);
     expect_equal(&rt, &(polled, send.is_listed()), &(Polled::Waits, true));
-    expect_equal(&rt, &channel.try_recv(&rt, &mut names).0, &Ok(7));
+    expect_equal(
+        &rt,
+        &channel.try_recv(&rt, channel.new_seat(), &mut names).0,
+        &Ok(7),
+    );
     expect_equal(&rt, &names.are(&[1]), &true);
     let (polled, send) = send.poll(&rt, Some(1), &mut names);
     expect_equal(&rt, &polled, &Polled::Done);
     expect_equal(&rt, &send.give_up(&rt, &mut names), &None);
-    expect_equal(&rt, &channel.try_recv(&rt, &mut names).0, &Ok(8));
+    expect_equal(
+        &rt,
+        &channel.try_recv(&rt, channel.new_seat(), &mut names).0,
+        &Ok(8),
+    );
 }
 
 #[test]
@@ -79,10 +99,18 @@ fn a_send_that_is_given_up_gives_its_message_back(rt: HostRuntime) {
     let Some((channel, mut names)) = alone(rt.alloc()) else {
         return;
     };
-    expect_equal(&rt, &channel.try_send(&rt, 7, &mut names).0, &Ok(()));
+    expect_equal(
+        &rt,
+        &channel.try_send(&rt, channel.new_seat(), 7, &mut names).0,
+        &Ok(()),
+    );
     let (_, send) = Operation::send(&channel, 8).polled(&rt, 1, &mut names);
     expect_equal(&rt, &send.give_up(&rt, &mut names), &Some(8));
-    expect_equal(&rt, &channel.try_recv(&rt, &mut names).0, &Ok(7));
+    expect_equal(
+        &rt,
+        &channel.try_recv(&rt, channel.new_seat(), &mut names).0,
+        &Ok(7),
+    );
     expect_equal(&rt, &names.are(&[]), &true);
 }
 
@@ -93,11 +121,19 @@ fn a_send_notifies_a_stream(rt: HostRuntime) {
     };
     let (polled, stream) = first_poll(&rt, &channel, WaitList::Streams, 1);
     expect_equal(&rt, &polled, &Polled::Waits);
-    expect_equal(&rt, &channel.try_send(&rt, 7, &mut names).0, &Ok(()));
+    expect_equal(
+        &rt,
+        &channel.try_send(&rt, channel.new_seat(), 7, &mut names).0,
+        &Ok(()),
+    );
     expect_equal(&rt, &names.are(&[1]), &true);
     let (polled, stream) = stream.poll(&rt, Some(1), &mut names);
     expect_equal(&rt, &polled, &Polled::Came(7));
-    expect_equal(&rt, &channel.close(&rt, &mut names).0, &true);
+    expect_equal(
+        &rt,
+        &channel.close(&rt, channel.new_seat(), &mut names).0,
+        &true,
+    );
     let (polled, _) = stream.poll(&rt, Some(1), &mut names);
     expect_equal(&rt, &polled, &Polled::Closed);
 }
@@ -114,7 +150,11 @@ fn a_poll_without_a_task_leaves_no_listener(rt: HostRuntime) {
         &(polled, receive.is_listed()),
         &(Polled::WantsMemory, false),
     );
-    expect_equal(&rt, &channel.try_send(&rt, 7, &mut names).0, &Ok(()));
+    expect_equal(
+        &rt,
+        &channel.try_send(&rt, channel.new_seat(), 7, &mut names).0,
+        &Ok(()),
+    );
     expect_equal(&rt, &names.are(&[]), &true);
 }
 
@@ -123,16 +163,28 @@ fn closing_notifies_all_lists_in_order(rt: HostRuntime) {
     let Some((channel, mut names)) = alone(rt.alloc()) else {
         return;
     };
-    expect_equal(&rt, &channel.try_send(&rt, 7, &mut names).0, &Ok(()));
+    expect_equal(
+        &rt,
+        &channel.try_send(&rt, channel.new_seat(), 7, &mut names).0,
+        &Ok(()),
+    );
     let (_, _told) = Operation::send(&channel, 8).polled(&rt, 5, &mut names);
     let (_, send) = Operation::send(&channel, 9).polled(&rt, 1, &mut names);
     // The first of the two sends is notified, and the second waits beside a channel that is empty.
-    expect_equal(&rt, &channel.try_recv(&rt, &mut names).0, &Ok(7));
+    expect_equal(
+        &rt,
+        &channel.try_recv(&rt, channel.new_seat(), &mut names).0,
+        &Ok(7),
+    );
     let (_, closing) = first_poll(&rt, &channel, WaitList::Closings, 4);
     let (_, stream) = first_poll(&rt, &channel, WaitList::Streams, 3);
     let (_, receive) = first_poll(&rt, &channel, WaitList::Receives, 2);
     expect_equal(&rt, &names.are(&[5]), &true);
-    expect_equal(&rt, &channel.close(&rt, &mut names).0, &true);
+    expect_equal(
+        &rt,
+        &channel.close(&rt, channel.new_seat(), &mut names).0,
+        &true,
+    );
     expect_equal(&rt, &names.are(&[5, 1, 2, 3, 4]), &true);
     let polled = [
         send.poll(&rt, Some(1), &mut names).0,

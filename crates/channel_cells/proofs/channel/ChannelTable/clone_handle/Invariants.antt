@@ -5,8 +5,8 @@ use Rattle.channel_cells.specs.Cells.{view_of, form_in}
 use Rattle.channel_cells.proofs.Leaving.{AnsweredLike}
 use Rattle.channel_cells.proofs.channel.ChannelTable.clone_handle.Given as goal
 
-abbrev pub ghosts-begin : goal.ghosts-begin
-ghosts-begin g a = record { ask = ask.CloneHandle g.K.Kind.side }
+abbrev pub ghosts-begin_on : goal.ghosts-begin_on
+ghosts-begin_on g a = record { ask = ask.CloneHandle g.K.Kind.side }
 
 abbrev pub ghosts-end : goal.ghosts-end
 ghosts-end g a = record { gave = AnsweredLike (λ c. a.about.now ≡ made_answer c.reply) (form_in a.self) (ask.CloneHandle g.K.Kind.side) (view_of a.self) }

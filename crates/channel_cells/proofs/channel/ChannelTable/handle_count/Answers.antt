@@ -1,5 +1,12 @@
 use Rattle.channel_cells.proofs.Calling.{begins_here, words_may_end, words_called}
+use Rattle.channel_calls.specs.declared.ask.ChannelAsk.TheVariants as ask
+use Rattle.channel_cells.specs.Channel.{standing_of}
+use Rattle.channel_cells.proofs.Leaving.{may_ask_of, called_rests}
+use Rattle.std.proofs.Common.{refl}
 use Rattle.channel_cells.proofs.channel.ChannelTable.handle_count.Goals as goal
+
+pub asks-words-requires-clause-asks : goal.asks-words-requires-clause-asks
+asks-words-requires-clause-asks g c = may_ask_of c.args.self.now (standing_of c.args.seat) (ask.HandleCount c.args.side) tt c.requires.rests
 
 pub handle_count-count-requires : goal.handle_count-count-requires
 handle_count-count-requires g c = record { stands = begins_here c.asks-words.ensures.begun }
@@ -10,4 +17,4 @@ end-seat-requires g c = record { ended = words_may_end _ _ _ c.asks-words.ensure
 pub returns : goal.returns
 returns g c =
     let e = c.end-seat.ensures in
-    record { called = words_called _ _ _ c.asks-words.ensures.begun c.handle_count-count.ensures.deeds c.end-seat.result e.ended e.table }
+    record { called = words_called _ _ _ c.asks-words.ensures.begun c.handle_count-count.ensures.deeds c.end-seat.result e.ended e.table; rests = called_rests c.end-seat.result (words_called _ _ _ c.asks-words.ensures.begun c.handle_count-count.ensures.deeds c.end-seat.result e.ended e.table) refl (λ k. refl) }

@@ -1,14 +1,20 @@
 use Rattle.std.proofs.Common.{refl}
 use Rattle.channel_cells.proofs.Calling.{begins_here, cells_may_end, cells_called}
+use Rattle.channel_calls.specs.declared.ask.ChannelAsk.TheVariants as ask
+use Rattle.channel_cells.specs.Channel.{standing_of}
+use Rattle.channel_cells.proofs.Leaving.{may_ask_of, called_rests}
 use Rattle.channel_cells.proofs.channel.ChannelTable.try_recv.Goals as goal
 
+pub begin_on-cells-requires-clause-asks : goal.begin_on-cells-requires-clause-asks
+begin_on-cells-requires-clause-asks g c = may_ask_of c.args.self.now (standing_of c.args.seat) (ask.TryRecv) tt c.requires.rests
+
 pub try_recv-received-requires : goal.try_recv-received-requires
-try_recv-received-requires g c = record { form = (_, refl); stands = begins_here c.begin-cells.ensures.begun }
+try_recv-received-requires g c = record { form = (_, refl); stands = begins_here c.begin_on-cells.ensures.begun }
 
 pub end-seat-requires : goal.end-seat-requires
-end-seat-requires g c = record { ended = cells_may_end g.S.Wakes.wakes _ _ _ c.begin-cells.ensures.begun c.try_recv-received.ensures.deeds }
+end-seat-requires g c = record { ended = cells_may_end g.S.Wakes.wakes _ _ _ c.begin_on-cells.ensures.begun c.try_recv-received.ensures.deeds }
 
 pub returns : goal.returns
 returns g c =
     let e = c.end-seat.ensures in
-    record { called = cells_called g.S.Wakes.wakes _ _ _ c.begin-cells.ensures.begun c.try_recv-received.ensures.deeds c.end-seat.result e.ended e.table }
+    record { called = cells_called g.S.Wakes.wakes _ _ _ c.begin_on-cells.ensures.begun c.try_recv-received.ensures.deeds c.end-seat.result e.ended e.table; rests = called_rests c.end-seat.result (cells_called g.S.Wakes.wakes _ _ _ c.begin_on-cells.ensures.begun c.try_recv-received.ensures.deeds c.end-seat.result e.ended e.table) refl (λ k. refl) }

@@ -3,8 +3,8 @@ use Rattle.channel_calls.specs.declared.ask.ChannelAsk.TheVariants as ask
 use Rattle.channel_calls.specs.declared.reply.Reply.TheVariants as reply
 use Rattle.channel_cells.proofs.channel.ChannelTable.try_send.Given as goal
 
-abbrev pub ghosts-begin : goal.ghosts-begin
-ghosts-begin g a = record { ask = ask.TrySend a.about.now }
+abbrev pub ghosts-begin_on : goal.ghosts-begin_on
+ghosts-begin_on g a = record { ask = ask.TrySend a.about.now }
 
 abbrev pub ghosts-end : goal.ghosts-end
 ghosts-end g a = record { gave = λ c. c.reply ≡ reply.TrySend a.about.now }

@@ -4,22 +4,26 @@ use Rattle.channel_calls.specs.Calls.{upgraded_answer}
 use Rattle.channel_history.specs.CallEnds.{Rests}
 use Rattle.channel_cells.specs.Channel.{standing_of}
 use Rattle.channel_cells.proofs.Calling.{begins_here, cells_reply}
-use Rattle.channel_cells.proofs.Leaving.{may_end_like, has_called_like, upgrade_rests}
+use Rattle.channel_cells.proofs.Leaving.{may_end_like, has_called_like, upgrade_rests, may_ask_of}
+use Rattle.channel_calls.specs.declared.ask.ChannelAsk.TheVariants as ask
 use Rattle.channel_cells.proofs.channel.ChannelTable.upgrade.Goals as goal
 
+pub begin_on-cells-requires-clause-asks : goal.begin_on-cells-requires-clause-asks
+begin_on-cells-requires-clause-asks g c = may_ask_of c.args.self.now (standing_of c.args.seat) (ask.Upgrade g.K.Kind.side) tt c.requires.rests
+
 pub upgrade-made-requires : goal.upgrade-made-requires
-upgrade-made-requires g c = record { stands = begins_here c.begin-cells.ensures.begun }
+upgrade-made-requires g c = record { stands = begins_here c.begin_on-cells.ensures.begun }
 
 pub end-seat-requires : goal.end-seat-requires
 end-seat-requires g c =
     let d = c.upgrade-made.ensures.deeds in
-    record { ended = may_end_like (λ z. c.upgrade-made.result ≡ upgraded_answer z.reply) (cells_reply g.S.Wakes.wakes _ _ _ d.1.0 c.begin-cells.ensures.begun d.1.1) d.2 }
+    record { ended = may_end_like (λ z. c.upgrade-made.result ≡ upgraded_answer z.reply) (cells_reply g.S.Wakes.wakes _ _ _ d.1.0 c.begin_on-cells.ensures.begun d.1.1) d.2 }
 
 pub returns-clause-called : goal.returns-clause-called
 returns-clause-called g c =
     let d = c.upgrade-made.ensures.deeds in
     let e = c.end-seat.ensures in
-    let called = has_called_like (λ z. c.upgrade-made.result ≡ upgraded_answer z.reply) (cells_reply g.S.Wakes.wakes _ _ _ d.1.0 c.begin-cells.ensures.begun d.1.1) d.2 c.end-seat.result e.ended e.table in
+    let called = has_called_like (λ z. c.upgrade-made.result ≡ upgraded_answer z.reply) (cells_reply g.S.Wakes.wakes _ _ _ d.1.0 c.begin_on-cells.ensures.begun d.1.1) d.2 c.end-seat.result e.ended e.table in
     (called.0.reply, called.2, called.1)
 
 pub returns-clause-handle : goal.returns-clause-handle
