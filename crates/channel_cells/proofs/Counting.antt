@@ -1,10 +1,10 @@
 -- An operation on a count, from what the cells of a call asked for.
-use Rattle.std.proofs.Common.{◌≡◌, ℕ, ◌-◌, ◌<◌, ◌≤◌, ◌^◌, false, sym, ap, subst}
+use Rattle.std.proofs.Common.{◌≡◌, ℕ, ◌-◌, ◌≤◌, ◌^◌, false, sym, subst}
 use Rattle.concurrent_queue.specs.declared.cells.QueueForm.{QueueForm}
 use Rattle.concurrent_queue.specs.declared.history.rule.CountStep.{CountStep}
 use Rattle.concurrent_queue.specs.declared.history.rule.CountStep.TheVariants.{Read, Lower, Raise}
 use Rattle.concurrent_queue.specs.declared.history.rule.Counter.{Counter}
-use Rattle.channel_calls.specs.Deeds.{Deed, raised}
+use Rattle.channel_calls.specs.Deeds.{raised}
 use Rattle.channel_calls.specs.declared.stage.Side.{Side}
 use Rattle.channel_history.proofs.CellActs.{sections_act}
 use Rattle.channel_history.specs.Cells.{May, Did}

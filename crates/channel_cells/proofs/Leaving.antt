@@ -1,6 +1,6 @@
 -- What lies with the seat of a party: what an operation or a handle lends to its calls, and what a call that is over left there.
-use Rattle.std.proofs.Common.{◌≡◌, true, false, [], ◌∷◌, List, refl, sym, ap, ◌∙◌, subst}
-use Rattle.std.specs.Prelude.{Option, None, Some, Result, Ok, Err, IfOk, IfSome, is_some}
+use Rattle.std.proofs.Common.{◌≡◌, [], ◌∷◌, List, refl, sym, ap, ◌∙◌, subst}
+use Rattle.std.specs.Prelude.{Option, None, Some, Result, IfOk, IfSome, is_some}
 use Rattle.concurrent_queue.specs.Replies.{is_bounded}
 use Rattle.concurrent_queue.specs.declared.cells.QueueForm.{QueueForm}
 use Rattle.concurrent_queue.specs.declared.history.seats.IdleSeat.{IdleSeat}
@@ -13,7 +13,6 @@ use Rattle.channel_calls.specs.Calls.{send_ask, recv_ask, closed_ask, next_ask, 
 use Rattle.channel_calls.specs.Listed.{SendLists, is_pending}
 use Rattle.channel_calls.specs.declared.ask.ChannelAsk.{ChannelAsk}
 use Rattle.channel_calls.specs.declared.ask.ChannelAsk.TheVariants as ask
-use Rattle.channel_calls.specs.declared.error.HandleError.{HandleError}
 use Rattle.channel_calls.specs.declared.error.Refused.{Refused}
 use Rattle.channel_calls.specs.declared.error.SendError.{SendError}
 use Rattle.channel_calls.specs.declared.reply.Reply.{Reply}

@@ -1,25 +1,18 @@
 -- The end of a call: a party that was answered ends its call, and has given just this then; and who may begin one.
-use Rattle.std.proofs.Common.{◌≡◌, ℕ, zero, suc, true, List, [], ◌∷◌, ◌++◌, map, inr, refl, sym, ap, ◌∙◌, subst, append-nil}
+use Rattle.std.proofs.Common.{◌≡◌, true, List, [], ◌∷◌, ◌++◌, map, inr, refl, sym, ap, ◌∙◌, subst, append-nil}
 use Rattle.std.proofs.lemmas.List.{same_from_push}
 use Rattle.std.specs.Prelude.{Option, None, Some}
 use Rattle.concurrent_queue.specs.Replies.{is_bounded}
 use Rattle.concurrent_queue.specs.declared.cells.QueueForm.{QueueForm}
 use Rattle.concurrent_queue.specs.declared.queue_call.QueueCall.{QueueCall}
-use Rattle.channel_calls.proofs.Carrying.{carried}
-use Rattle.channel_calls.proofs.Standing.{stands_on}
-use Rattle.channel_calls.specs.Asks.{first, kept_by}
-use Rattle.channel_calls.specs.Deeds.{Deed, Done}
-use Rattle.channel_calls.specs.Walks.{ChannelMakes, Leads, WalkedFrom, WalkedTo}
+use Rattle.channel_calls.specs.Asks.{kept_by}
 use Rattle.channel_calls.specs.declared.ask.ChannelAsk.{ChannelAsk}
-use Rattle.channel_calls.specs.declared.mark.Mark.{Mark}
 use Rattle.channel_calls.specs.declared.reply.Reply.{Reply}
-use Rattle.channel_calls.specs.declared.stage.NextStep.{NextStep}
 use Rattle.channel_calls.specs.declared.stage.Returned.{Returned}
 use Rattle.channel_calls.specs.declared.stage.Stage.{Stage}
 use Rattle.channel_calls.specs.declared.whole.Completed.{Completed}
 use Rattle.channel_steps.specs.every_run.Bridge.{Act, does, ActsTo}
 use Rattle.channel_history.specs.CallEnds.{given_then, EndsSo, HasEnded, HasGiven, IsCall, LendsNothing, Rests}
-use Rattle.channel_history.specs.Cells.{Did}
 use Rattle.channel_history.specs.InHand.{lent_by, handles_lent}
 use Rattle.channel_history.specs.Machine.{turns, begins_call, ends_call, enters, rests}
 use Rattle.channel_history.specs.Party.{fresh, asks_of, Ends}

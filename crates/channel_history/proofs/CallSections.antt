@@ -1,16 +1,14 @@
 -- A section of a call on a list, from what its cells asked for and what the list's own call ensures, to the deed that its cells say they did.
 use Rattle.std.proofs.Common.{◌≡◌, List, [], ◌∷◌, ◌++◌, refl, sym, ap, ◌∙◌, subst, append-nil}
-use Rattle.std.specs.Prelude.{Option, None, Some}
 use Rattle.concurrent_queue.specs.declared.cells.QueueForm.{QueueForm}
-use Rattle.event_listener.specs.Lists.{ListView, registration}
-use Rattle.event_listener.specs.declared.key.Key.{Key}
-use Rattle.channel_calls.specs.Deeds.{Deed, registered}
-use Rattle.channel_calls.specs.Parts.{Listeners, Registers}
+use Rattle.event_listener.specs.Lists.{ListView}
+use Rattle.channel_calls.specs.Deeds.{Deed}
+use Rattle.channel_calls.specs.Parts.{Listeners}
 use Rattle.channel_calls.specs.declared.stage.WaitList.{WaitList}
 use Rattle.channel_steps.specs.every_run.Bridge.{on_wait_lists}
-use Rattle.channel_history.specs.CallSections.{HoldsList, LiesAlone, IsInside, without_lists, lists_alone, SectionTo, AnsweredTo, RegisteredTo}
+use Rattle.channel_history.specs.CallSections.{HoldsList, LiesAlone, IsInside, without_lists, lists_alone, SectionTo}
 use Rattle.channel_history.specs.Cells.{May, Did}
-use Rattle.channel_history.specs.Keeps.{ChangesList, Leaves}
+use Rattle.channel_history.specs.Keeps.{ChangesList}
 use Rattle.channel_history.specs.Machine.{both, with_list, parts, turns, new_list}
 use Rattle.channel_history.specs.Party.{Makes, with_own}
 use Rattle.channel_history.specs.Sections.{IsOnList, SectionsAct}

@@ -2,7 +2,6 @@
 use Rattle.std.proofs.Common.{◌≡◌, ◌≢◌, ℕ, zero, suc, ◌+◌, ◌-◌, ◌<◌, ◌≤◌, ◌%◌, ◌^◌, ◌==◌, ◌&&◌, nat_lt, Bool, true, false, List, [], ◌∷◌, ◌++◌, length, set, if◌then◌else◌, inl, inr, refl, sym, ap, ◌∙◌, subst, arith}
 use Rattle.std.proofs.lemmas.Bool.Decides.{nat_tests}
 use Rattle.std.proofs.lemmas.List.{map-set, map-append}
-use Rattle.std.specs.Prelude.{Some}
 use mathlib.Core.Option.{some, some-injective, some-ne-none}
 use native.Mathlib.Decide.{ℕ_discrete}
 use lib.ListN.{get_elem?}
@@ -23,7 +22,7 @@ use Rattle.channel_calls.specs.declared.stage.Side.TheVariants.{Senders, Receive
 use Rattle.channel_history.specs.History.{IsChannelHistory}
 use Rattle.channel_history.specs.Keeps.{IsAt, ChangesCounts, Leaves}
 use Rattle.channel_history.specs.Machine.{side_of, Fits, new_list, count_deed, state_of, states, history, opened, enters, turns, begins_call, ends_call, makes_section, is_refused, counts, both, left, parts}
-use Rattle.channel_history.specs.Party.{nothing, fresh, with_own, standing_of, Makes}
+use Rattle.channel_history.specs.Party.{nothing, fresh, with_own, standing_of}
 use Rattle.channel_history.specs.declared.party.Belongings.{Belongings}
 use Rattle.channel_history.specs.QueueCells.{moves}
 use Rattle.channel_history.specs.declared.party.Standing.{Standing}

@@ -3,7 +3,6 @@
 use Rattle.std.specs.Prelude.{◌≡◌, List, [], ◌∷◌, ◌++◌, Option, None, Some}
 use Rattle.concurrent_queue.specs.declared.cells.QueueForm.{QueueForm}
 use Rattle.concurrent_queue.specs.declared.queue_call.QueueCall.{QueueCall}
-use Rattle.channel_calls.specs.Deeds.{Deed}
 use Rattle.channel_calls.specs.declared.ask.ChannelAsk.{ChannelAsk}
 use Rattle.channel_calls.specs.declared.ask.ChannelAsk.TheVariants.{Capacity}
 use Rattle.channel_calls.specs.declared.reply.Reply.{Reply}
@@ -12,7 +11,6 @@ use Rattle.channel_calls.specs.declared.stage.Returned.{Returned}
 use Rattle.channel_calls.specs.declared.stage.Side.{Side}
 use Rattle.channel_calls.specs.declared.stage.Stage.{Stage}
 use Rattle.channel_calls.specs.declared.whole.Completed.{Completed}
-use Rattle.channel_history.specs.Cells.{Did}
 use Rattle.channel_history.specs.InHand.{kept_on, lent_by, handles_lent}
 use Rattle.channel_history.specs.Party.{Ends}
 use Rattle.channel_history.specs.WholeCalls.{if_made, handle_wanted}

@@ -1,5 +1,5 @@
 -- A section of a call on a list, as its cells make it: the list's seat is taken into the call's, the event is made, and the seat leaves.
-use Rattle.std.specs.Prelude.{◌≡◌, List, [], ◌∷◌, Option}
+use Rattle.std.specs.Prelude.{◌≡◌, [], ◌∷◌, Option}
 use Rattle.concurrent_queue.specs.declared.cells.QueueForm.{QueueForm}
 use Rattle.event_listener.specs.Lists.{ListView, registration}
 use Rattle.event_listener.specs.declared.key.Key.{Key}

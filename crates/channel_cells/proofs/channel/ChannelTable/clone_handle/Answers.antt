@@ -1,5 +1,5 @@
 use Rattle.std.proofs.Common.{[], ◌∷◌, sym, subst}
-use Rattle.std.specs.Prelude.{◌≡◌, IfOk, IfSome}
+use Rattle.std.specs.Prelude.{◌≡◌, IfOk}
 use Rattle.channel_calls.specs.Calls.{made_answer}
 use Rattle.channel_history.specs.CallEnds.{Rests}
 use Rattle.channel_cells.specs.Channel.{standing_of}

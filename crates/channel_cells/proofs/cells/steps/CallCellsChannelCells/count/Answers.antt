@@ -1,4 +1,3 @@
-use Rattle.std.proofs.Common.{ℕ}
 use Rattle.concurrent_queue.specs.declared.history.rule.CountStep.TheVariants.{Read}
 use Rattle.channel_cells.proofs.Counting.{may_count, counted_so}
 use Rattle.channel_cells.proofs.cells.steps.CallCellsChannelCells.count.Goals as goal

@@ -1,4 +1,4 @@
-use Rattle.std.proofs.Common.{◌≡◌, ◌∙◌, Err, refl, sym, subst}
+use Rattle.std.proofs.Common.{◌∙◌, Err, refl, sym, subst}
 use Rattle.concurrent_queue.specs.declared.cells.QueueForm.{QueueForm}
 use Rattle.channel_calls.specs.Deeds.{Deed, inserted}
 use Rattle.channel_history.proofs.ListTurns.{insert_changes}

@@ -1,6 +1,6 @@
 use Rattle.std.proofs.Common.{ℕ, ◌<◌, ◌≤◌, ◌-◌, ◌^◌, ◌==◌, false, arith}
 use Rattle.concurrent_queue.specs.declared.history.rule.CountStep.TheVariants.{Raise}
-use Rattle.channel_cells.proofs.Counting.{may_count, counted_so, refuses}
+use Rattle.channel_cells.proofs.Counting.{may_count, refuses}
 use Rattle.channel_cells.proofs.cells.steps.CallCellsChannelCells.raise.Goals as goal
 use Rattle.channel_cells.specs.Cells.{view_of, form_in}
 

@@ -1,4 +1,4 @@
-use Rattle.std.proofs.Common.{◌≡◌, ◌∙◌, refl, sym, subst}
+use Rattle.std.proofs.Common.{◌∙◌, refl, sym, subst}
 use Rattle.std.specs.Prelude.{Option, None}
 use Rattle.concurrent_queue.specs.declared.cells.QueueForm.{QueueForm}
 use Rattle.event_listener.specs.Lists.{registration}
