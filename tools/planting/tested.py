@@ -37,11 +37,13 @@ def write(texts, folder):
             it.write(text)
 
 
-def red_tests(room, crate):
-    """The tests of a crate that fail in the copy, run unproved, and all that was printed."""
-    ran = subprocess.run(["rt", "try", "--test", "--seconds", "600"], cwd=f"{room}/crates/{crate}", stdin=subprocess.DEVNULL,
+def run_test(room, crate, test):
+    """Whether a test of a crate fails in the copy, run unproved, or None where there is no such test; and all that was printed."""
+    ran = subprocess.run(["rt", "try", "--test", "--seconds", "120", "--", test], cwd=f"{room}/crates/{crate}", stdin=subprocess.DEVNULL,
                          stdout=subprocess.PIPE, stderr=subprocess.STDOUT, encoding="utf-8", errors="replace")
-    return set(re.findall(r"(?m)^test (\S+) .*FAILED$", ran.stdout)), set(re.findall(r"(?m)^test (\S+) ", ran.stdout)), ran.stdout
+    lines = re.findall(r"(?m)^test (\S+) (.*)$", ran.stdout)
+    ends = {name: "FAILED" in said for name, said in lines}
+    return ends.get(test), ran.stdout
 
 
 def fault_as_it_stands(edit, stands):
@@ -49,10 +51,10 @@ def fault_as_it_stands(edit, stands):
     if edit.fault or not edit.tests:
         return edit.fault or "it has no line 'test: CRATE TEST'"
     for crate, test in edit.tests:
-        red, known, output = stands[crate]
-        if test not in known:
+        is_red, output = stands[crate, test]
+        if is_red is None:
             return f"{crate} has no test {test}: {output.strip()[-200:]}"
-        if test in red:
+        if is_red:
             return f"the test {test} of {crate} fails as it stands"
     return ""
 
@@ -65,8 +67,8 @@ def fault_of(edit, room, stands):
     was = write_planted(edit, room)
     try:
         for crate, test in edit.tests:
-            red, _, output = red_tests(room, crate)
-            if test not in red:
+            is_red, output = run_test(room, crate, test)
+            if not is_red:
                 return f"the test {test} of {crate} passes: {output.strip()[-200:]}"
     finally:
         write(was, f"{room}/crates/{edit.crate}")
@@ -79,7 +81,7 @@ def try_all(chosen, top="."):
     room, failed = copy_of(os.path.abspath(top)), 0
     crates = sorted({crate for edit in edits for crate, _ in edit.tests})
     print(f"{len(edits)} mutants for the tests of {', '.join(crates) or 'no crate'}, each run unproved", flush=True)
-    stands = {crate: red_tests(room, crate) for crate in crates}
+    stands = {it: run_test(room, *it) for it in sorted({(crate, test) for edit in edits for crate, test in edit.tests})}
     for edit in edits:
         fault = fault_of(edit, room, stands)
         failed += bool(fault)
