@@ -38,7 +38,7 @@ def write(texts, folder):
 
 
 def run_test(room, crate, test):
-    """Whether a test of a crate fails in the copy, run unproved, or None where there is no such test; and all that was printed."""
+    """Whether a test of a crate fails in the copy, run unproved, or None where nothing was said of it; and all that was printed."""
     ran = subprocess.run(["rt", "try", "--test", "--seconds", "120", "--", test], cwd=f"{room}/crates/{crate}", stdin=subprocess.DEVNULL,
                          stdout=subprocess.PIPE, stderr=subprocess.STDOUT, encoding="utf-8", errors="replace")
     lines = re.findall(r"(?m)^test (\S+) (.*)$", ran.stdout)
@@ -68,6 +68,9 @@ def fault_of(edit, room, stands):
     try:
         for crate, test in edit.tests:
             is_red, output = run_test(room, crate, test)
+            if is_red is None:
+                # (it doesn't compile, or hangs until its time is over: neither shows that the test sees it)
+                return f"nothing is said of the test {test} of {crate}: {output.strip()[-200:]}"
             if not is_red:
                 return f"the test {test} of {crate} passes: {output.strip()[-200:]}"
     finally:
