@@ -127,13 +127,21 @@ BODIES = {
     "a pass forgets what it packs": [],
     "a check of numbers passes a message out of turn": [],
     "a parcel is unpacked at another office": [],
-    # Asked for of the channel whose wake-ups are proved between threads, at its own code.
-    "between threads: a send tells nobody": [],
-    "between threads: a receive pends without a second try": [],
-    "between threads: a notice is not passed on": [],
-    "between threads: a notice is swallowed": [],
-    "between threads: two pushers win one place": [],
-    "between threads: a closing tells first": [],
+    # Asked for of the channel with a bound that threads share.
+    "a send notifies nobody": [],
+    "a notice is swallowed": [],
+    "a listener that leaves with its notice": [],
+    "a poll that ends leaves its listener listed": [],
+    "a registration that is forgotten": [],
+    "a closing notifies first": [],
+    "a drop of the last handle that doesn't close": [],
+    "a clone that raises nothing": [],
+    "a count that is lowered by a load and a lowering": [],
+    "a call that is let go": [],
+    "a call that answers another thing": [],
+    "a section that is not left": [],
+    "a list given back into another lock": [],
+    "locks of another channel": [],
 }
 # What a sentence doesn't cite by its number: a rule, a paper, a section, an issue.
 CITED = re.compile(r"\b[A-Z]\d+\b|\b0[1-4]\b|\b(issue|paper|document|section|request)s? \d")

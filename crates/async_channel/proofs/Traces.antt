@@ -12,7 +12,10 @@ use Rattle.async_channel.specs.Counts.{CloneRefused, UpgradeRefused, Clones, Upg
 use Rattle.async_channel.specs.Polls.{Polls, PollsSend}
 use Rattle.async_channel.specs.Saw.{Saw, SeenOn, DidBeside}
 use Rattle.async_channel.specs.Several.{ReceivesMany}
+use Rattle.std.specs.Prelude.{MatchOption}
+use Rattle.atomic_table.specs.Seated.{TableId}
 use Rattle.async_channel.specs.Watched.{WasSeen}
+use Rattle.async_channel.proofs.Forms.{without}
 use Rattle.async_channel.specs.declared.cells.SharedWords.{SharedWords}
 use Rattle.async_channel.specs.declared.seen.Seen.{Seen}
 use Rattle.channel_calls.proofs.Interface.{carried}
@@ -251,6 +254,11 @@ module _ {T W X A : Type 0} (did : cell.Deed T → X → X → Type 0) (shown : 
       → Does (Saw did shown form) here answer after → SeenOn did shown entered channel Does before answer after
   unfolding SeenOn
   on_channel channel form before here answer after is enters does = (here, enters, subst (λ (f : QueueForm). Does (Saw did shown f) here answer after) is does)
+
+  -- and so it is said of a channel without a bound
+  pub seen_of : (P : TableId → Type 0) (channel : Handle) (form : QueueForm) (before here : X) (answer : A) (after : X) → channel.table ≡ None → form ≡ channel.form → entered channel.seal before here
+      → Does (Saw did shown form) here answer after → MatchOption channel.table (WasSeen did shown entered channel Does answer) P
+  seen_of P channel form before here answer after none is enters does = without _ P channel.table none (before, after, on_channel channel form before here answer after is enters does)
 
 -- what was seen on a channel was seen on one that is equal
 module _ {T W X A : Type 0} (did : cell.Deed T → X → X → Type 0) (shown : Deed T W → X → X → Type 0) (entered : ℕ → X → X → Type 0) (Does : (Deed T W → X → X → Type 0) → X → A → X → Type 0) where

@@ -3,6 +3,7 @@
 use crate::cells::{Beds, SharedCells};
 use event_listener::parker::Parker;
 use event_listener::waking::Task;
+use std::alloc::Global;
 use std::sync::{Arc, Wait};
 
 /// The parker of a call that blocks its thread, which is made when the call is to sleep first.
@@ -16,18 +17,13 @@ impl Bed {
     pub(crate) fn new() -> Bed {
         Bed { parker: None }
     }
-}
 
-impl<'a, T: Drop, R: Wait> Beds<T> for SharedCells<'a, T, R, Bed> {
-    ghost parked = { λ _ _ _. Unit {0} };
-
-    ghost slept = { λ _ _. Unit {0} };
-
-    fn park(&mut self) -> Option<Task> {
-        if self.bed.parker.is_none() {
-            self.bed.parker = Arc::new(self.shared.alloc, Parker::new()).ok();
+    /// A task whose waking ends the next sleep on this bed; `None` where memory for it was refused.
+    pub(crate) fn task(&mut self, alloc: Global) -> Option<Task> {
+        if self.parker.is_none() {
+            self.parker = Arc::new(alloc, Parker::new()).ok();
         }
-        match &self.bed.parker {
+        match &self.parker {
             Some(parker) => match Arc::try_clone(parker) {
                 Ok(parker) => Some(Task::Parked(parker)),
                 Err(_) => None,
@@ -36,9 +32,24 @@ impl<'a, T: Drop, R: Wait> Beds<T> for SharedCells<'a, T, R, Bed> {
         }
     }
 
-    fn sleep(&mut self) {
-        if let Some(parker) = &self.bed.parker {
-            parker.sleep(self.rt);
+    /// Sleeps until such a task is woken.
+    pub(crate) fn sleep<R: Wait>(&self, rt: &R) {
+        if let Some(parker) = &self.parker {
+            parker.sleep(rt);
         }
+    }
+}
+
+impl<'a, T: Drop, R: Wait> Beds<T> for SharedCells<'a, T, R, Bed> {
+    ghost parked = { λ _ _ _. Unit {0} };
+
+    ghost slept = { λ _ _. Unit {0} };
+
+    fn park(&mut self) -> Option<Task> {
+        self.bed.task(self.shared.alloc)
+    }
+
+    fn sleep(&mut self) {
+        self.bed.sleep(self.rt);
     }
 }

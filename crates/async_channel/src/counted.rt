@@ -1,91 +1,204 @@
 //! What a strong handle has of its channel's count.
 
-ghost use Rattle.std.specs.Prelude.{◌≡◌, IfOk, IfErr, IfSome};
-ghost use Rattle.channel_calls.specs.declared.ask.ChannelAsk.TheVariants as ask;
-ghost use Rattle.async_channel.specs.Counts.{Clones, Upgrades, Drops};
+mod questions;
+
+ghost use Rattle.std.specs.Prelude.{◌≡◌, IfOk, IfErr, IfSome, MatchOption};
+ghost use Rattle.channel_calls.specs.declared.stage.Side.TheVariants as side;
+ghost use Rattle.async_channel.specs.Called.{ClonedSo, UpgradedSo};
+ghost use Rattle.async_channel.specs.Counts.{Clones, Upgrades};
 ghost use Rattle.async_channel.specs.Handles.{handle_of};
-ghost use Rattle.async_channel.specs.Saw.{SeenOn};
+ghost use Rattle.async_channel.specs.Parties.{IsHandleOf, IsPartyOf};
+ghost use Rattle.async_channel.specs.Watched.{WasSeen};
 
 use crate::calls::counts;
 use crate::link::Link;
 use crate::polls::line::OfStreams;
 use crate::polls::waits::Waits;
-use crate::seen::{Seen, Trace};
+use crate::seen::{self, Seen, Trace};
+use crate::with_bound::Witness;
 use channel_calls::error::HandleError;
 use channel_calls::kind::{Kind, OfReceivers, OfSenders};
 use channel_calls::raised::Raised;
-use std::sync::Wait;
+use event_listener::waking::WakeNow;
+use kept::Kept;
+use std::sync::{Arc, Wait};
 
-/// A tie to a channel, with what is counted there of one handle of this kind.
+/// A tie to a channel, with what is counted there of one handle of this kind. On a channel with a bound the handle is a party of its own,
+/// with whose seat it lies that the handle is counted.
 ///
 /// It can't be let go: it becomes a handle, or is given to `lower`. Nor can it be made of a tie alone, or be taken apart but for the
 /// lowering: what is counted ([`Raised`]) is given by the step that counts, and is taken by the one that lowers the count.
 pub(crate) struct Counted<T: Drop, K: Kind> {
     pub(crate) link: Link<T>,
     raised: Raised<K>,
+    seat: Option<Kept<Witness<T>>>,
+    ghost handle: { IsHandleOf K.side (handle_of link).table seat },
 }
 
 impl<T: Drop, K: Kind> Counted<T, K> {
     /// The first handle of its kind, which a new channel counts already.
-    pub(crate) fn first(link: Link<T>, raised: Raised<K>) -> Counted<T, K>
+    pub(crate) fn first(
+        link: Link<T>,
+        raised: Raised<K>,
+        seat: Option<Kept<Witness<T>>>,
+    ) -> Counted<T, K>
+        requires handle { IsHandleOf K.side (handle_of link).table seat }
         ensures { handle_of result.link ≡ handle_of link }
     {
-        Counted { link, raised }
+        Counted { link, raised, seat }
     }
 
-    /// One more handle of this kind. Refused where more than half of `usize::MAX` live.
-    pub(crate) fn one_more<R: Wait, S: Trace<T>>(
-        link: Link<T>,
+    /// One more handle of this kind. Refused where more than half of `usize::MAX` live, or where no tie was got.
+    pub(crate) fn one_more<R: Wait, S: Trace<T> + Copy>(
+        link: &Link<T>,
         rt: &R,
-        trace: S,
-    ) -> (Result<Counted<T, K>, HandleError>, S)
-        ensures walked { SeenOn S.did S.shown S.entered (handle_of link) (λ saw. Clones saw K.side) trace (result.0) (result.1) }
-        ensures made { IfOk (result.0) (λ more. handle_of more.link ≡ handle_of link) }
-        ensures reason { IfErr (result.0) (λ e. e ≡ HandleError.TooMany) }
+        watch: S,
+    ) -> Result<Counted<T, K>, HandleError>
+        ensures walked { MatchOption (handle_of link.now).table (WasSeen S.did S.shown S.entered (handle_of link.now) (λ saw. Clones saw K.side) result) (λ table. ClonedSo S.called table K.side result) }
+        ensures made { IfOk result (λ more. handle_of more.link ≡ handle_of link.now) }
     {
-        let (counted, trace) = counts::clone_handle(rt, Seen::cells(&link.shared, rt, (), trace));
-        match counted {
-            Ok(raised) => (Ok(Counted { link, raised }), trace),
-            Err(error) => (Err(error), trace),
+        match link {
+            Link::Bounded(channel) => {
+                let Ok(tie) = Arc::try_clone(channel) else {
+                    return Err(HandleError::NoMemory);
+                };
+                let table = &channel.table;
+                let (made, seat) = table.clone_handle(rt, table.new_seat(), &mut WakeNow { rt });
+                match made {
+                    Ok(raised) => {
+                        let link = Link::Bounded(tie);
+                        let seat = Some(Kept::new(seat));
+                        Ok(Counted { link, raised, seat })
+                    }
+                    Err(error) => {
+                        seen::tell(&watch, seat);
+                        Err(error)
+                    }
+                }
+            }
+            Link::Unbounded(shared) => {
+                let seen = Seen::cells(shared, rt, (), watch);
+                let Ok(tie) = Arc::try_clone(shared) else {
+                    let _ = seen.into_trace();
+                    return Err(HandleError::NoMemory);
+                };
+                match counts::clone_handle(rt, seen).0 {
+                    Ok(raised) => {
+                        let link = Link::Unbounded(tie);
+                        Ok(Counted {
+                            link,
+                            raised,
+                            seat: None,
+                        })
+                    }
+                    Err(error) => Err(error),
+                }
+            }
         }
     }
 
     /// One more handle of this kind, where the channel is open and one lives. Refused as above.
-    pub(crate) fn upgraded<R: Wait, S: Trace<T>>(
-        link: Link<T>,
+    pub(crate) fn upgraded<R: Wait, S: Trace<T> + Copy>(
+        link: &Link<T>,
         rt: &R,
-        trace: S,
-    ) -> (Result<Option<Counted<T, K>>, HandleError>, S)
-        ensures walked { SeenOn S.did S.shown S.entered (handle_of link) (λ saw. Upgrades saw K.side) trace (result.0) (result.1) }
-        ensures made { IfOk (result.0) (λ made. IfSome made (λ more. handle_of more.link ≡ handle_of link)) }
-        ensures reason { IfErr (result.0) (λ e. e ≡ HandleError.TooMany) }
+        watch: S,
+    ) -> Result<Option<Counted<T, K>>, HandleError>
+        ensures walked { MatchOption (handle_of link.now).table (WasSeen S.did S.shown S.entered (handle_of link.now) (λ saw. Upgrades saw K.side) result) (λ table. UpgradedSo S.called table K.side result) }
+        ensures made { IfOk result (λ made. IfSome made (λ more. handle_of more.link ≡ handle_of link.now)) }
     {
-        let (counted, trace) = counts::upgrade(rt, Seen::cells(&link.shared, rt, (), trace));
-        match counted {
-            Ok(Some(raised)) => (Ok(Some(Counted { link, raised })), trace),
-            Ok(None) => (Ok(None), trace),
-            Err(error) => (Err(error), trace),
+        match link {
+            Link::Bounded(channel) => {
+                let Ok(tie) = Arc::try_clone(channel) else {
+                    return Err(HandleError::NoMemory);
+                };
+                let table = &channel.table;
+                let (made, seat) = table.upgrade(rt, table.new_seat(), &mut WakeNow { rt });
+                match made {
+                    Ok(Some(raised)) => {
+                        let link = Link::Bounded(tie);
+                        let seat = Some(Kept::new(seat));
+                        Ok(Some(Counted { link, raised, seat }))
+                    }
+                    Ok(None) => {
+                        seen::tell(&watch, seat);
+                        Ok(None)
+                    }
+                    Err(error) => {
+                        seen::tell(&watch, seat);
+                        Err(error)
+                    }
+                }
+            }
+            Link::Unbounded(shared) => {
+                let seen = Seen::cells(shared, rt, (), watch);
+                let Ok(tie) = Arc::try_clone(shared) else {
+                    let _ = seen.into_trace();
+                    return Err(HandleError::NoMemory);
+                };
+                match counts::upgrade(rt, seen).0 {
+                    Ok(Some(raised)) => {
+                        let link = Link::Unbounded(tie);
+                        Ok(Some(Counted {
+                            link,
+                            raised,
+                            seat: None,
+                        }))
+                    }
+                    Ok(None) => Ok(None),
+                    Err(error) => Err(error),
+                }
+            }
         }
     }
 }
 
 impl<T: Drop> Counted<T, OfSenders> {
     /// Drops the sender that is counted, which lowers the count; the last one closes.
-    pub(crate) fn lower<R: Wait, S: Trace<T>>(self, rt: &R, trace: S) -> S
-        ensures walked { SeenOn S.did S.shown S.entered (handle_of self.link) (λ saw. Drops saw ask.DropSender) trace tt result }
-    {
-        let Counted { link, raised } = self;
-        counts::drop_sender(rt, raised, Seen::cells(&link.shared, rt, (), trace))
+    pub(crate) fn lower<R: Wait, S: Trace<T> + Copy>(self, rt: &R, watch: S) {
+        let Counted { link, raised, seat } = self;
+        match link {
+            Link::Bounded(channel) => {
+                let Some(kept) = seat else { unreachable!() };
+                let seat = kept.into_inner();
+                let left = channel
+                    .table
+                    .drop_sender(rt, raised, seat, &mut WakeNow { rt });
+                seen::tell(&watch, left);
+            }
+            Link::Unbounded(shared) => {
+                let _ = counts::drop_sender(rt, raised, Seen::cells(&shared, rt, (), watch));
+            }
+        }
     }
 }
 
 impl<T: Drop> Counted<T, OfReceivers> {
     /// Drops the receiver that is counted, which lowers the count, and then the listener that it may have as a stream; the last one
     /// closes.
-    pub(crate) fn lower<R: Wait, S: Trace<T>>(self, rt: &R, stream: Waits<OfStreams>, trace: S) -> S
-        ensures walked { SeenOn S.did S.shown S.entered (handle_of self.link) (λ saw. Drops saw (ask.DropReceiver stream.key)) trace tt result }
+    pub(crate) fn lower<R: Wait, S: Trace<T> + Copy>(
+        self,
+        rt: &R,
+        stream: Waits<T, OfStreams>,
+        watch: S,
+    )
+        requires here { IsPartyOf (handle_of self.link).table stream.seat stream.key }
     {
-        let Counted { link, raised } = self;
-        link.shared.drop_receiver(rt, raised, stream, trace)
+        let Counted { link, raised, seat } = self;
+        match link {
+            Link::Bounded(channel) => {
+                let Some(kept) = seat else { unreachable!() };
+                let seat = kept.into_inner();
+                let mut stream = stream;
+                let (party, key) = stream.take(&channel.table);
+                let _ = stream.end();
+                let both = channel.table.gather(seat, party);
+                let sink = &mut WakeNow { rt };
+                let left = channel.table.drop_receiver(rt, raised, key, both, sink);
+                seen::tell(&watch, left);
+            }
+            Link::Unbounded(shared) => {
+                let _ = shared.drop_receiver(rt, raised, stream, watch);
+            }
+        }
     }
 }

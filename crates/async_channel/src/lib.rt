@@ -8,32 +8,33 @@
 //! The channel is closed by [`close`](Sender::close), by the drop of the last sender and by that of the last receiver. What
 //! was sent before can still be received. [`WeakSender`] and [`WeakReceiver`] don't keep it open.
 //!
-//! A call of a handle that changes the channel is a [`ChannelCall`] of `channel_calls`, stepped on cells that threads share: a
-//! queue, four lists of listeners behind a lock each, two counts. The function that makes a step is the one whose every
-//! interleaving `channel_world` is proved for, over cells of one owner; a step of the queue's call is here all of them, up to its
-//! answer. Over cells of any kind a function of `channel_calls` is proved to make the steps of this machine, these and no others: a
-//! `try_send` and a `try_recv` in straight code, a blocking call by rounds of polls, between which it sleeps, a question on words alone.
+//! A call of a handle is a [`ChannelCall`] of `channel_calls`: the function that makes a step is the one whose every interleaving
+//! `channel_world` is proved for, over cells of one owner.
 //!
-//! Each call of a handle or an operation has one body for whatever trace of the caller's ([`Trace`]). It is proved that from the trace
-//! before to the trace after stand the deeds that the call's machine makes up to the very answer that came out, and no others. With a
-//! trace of his own a caller makes it by [`Sender::traced`] and [`Receiver::traced`], and by the functions `poll_traced`,
-//! `poll_next_traced`, `give_up_traced`, `try_clone_traced` and `upgrade_traced`. Only the cells tell a trace anything ([`Sight`]).
+//! **With a bound** the cells are those of `channel_cells`: a table of words and slots, with the two counts of handles among the words, and
+//! four lists of listeners behind a lock each, under the rule that there is one history of all that was done to the channel, by whatever
+//! threads. Each operation of a call is proved to be the next of its machine. So the headline holds of running threads: each message comes
+//! once and in order, each answer is that of its call at moments of it, each count is the number of handles, and nobody who is pending
+//! sleeps beside a message, a free place or a closing that no other answers for. [`Witnessed::look`] tells so at any moment, as long as
+//! the queue's positions last. Each call leaves a [`Witness`], by whose view its party asked this and was answered this:
+//! [`Sender::calls`] and [`Receiver::calls`] give it, and a plain call gives it to the trace that its channel is watched by. A call that
+//! blocks tries some times, each time as a call of its own, and then polls; what it says is said of its last call.
 //!
-//! A channel may be watched ([`bounded_watched`]): each call of its handles takes a copy of one trace. So a handle's own call, one line
-//! over that body, says the same of its own answer: between two states of that trace the machine's call was seen to give it. A channel
-//! that nobody watches has [`NoTrace`], which keeps nothing. The code is the same for both, and so is what it says.
+//! **Without a bound** the cells are a queue, four lists behind a lock each, and two counts. Each call has one body for whatever trace of the
+//! caller's ([`Trace`]), and it is proved that from the trace before to the trace after stand the deeds that the call's machine makes up to
+//! the very answer that came out, and no others. That threads together do what such steps do one after another is no contract here: a law
+//! of `handle_laws` ties it to one of `channel_steps`.
 //!
-//! Of a step of the queue's call a trace is shown the queue's own operations. Not bound is that a handle's line makes its call once, since
-//! no clause says what was not done. That threads together do what such steps do one after another is no contract here: a law of
-//! `handle_laws` ties it to one of `channel_steps`. Since other threads may step in between, a handle's own contract says what holds
-//! whatever they do: a refused message is the one that was handed in, a pending poll has armed its context and kept its message, the
-//! capacity is as given.
+//! A channel may be watched ([`bounded_watched`], [`unbounded_watched`]): each call of its handles takes a copy of one trace. A channel that
+//! nobody watches has [`NoTrace`], which keeps nothing. The code is the same for both, and so is what a call says of its answer. Not bound is
+//! that a handle's line makes its call once, since no clause says what was not done.
 //!
 //! Calls that may wait (for a lock, for a place, for a message) take the runtime, which each handle has with it; the other
 //! ones are made of functions that don't take it.
 #![tactic(auto)]
 
 mod bed;
+mod by_form;
 mod calls;
 mod cells;
 mod counted;
@@ -47,7 +48,10 @@ mod seen;
 mod shared;
 mod traced;
 mod waiters;
+mod with_bound;
+mod witnessed;
 
+pub use by_form::Calls;
 pub use channel_calls::ask::ChannelAsk;
 pub use channel_calls::call::ChannelCall;
 pub use channel_calls::cells::ChannelCells;
@@ -78,3 +82,5 @@ pub use open::{bounded, bounded_watched, unbounded, unbounded_watched};
 pub use runtime::Runtime;
 pub use seen::{Shown, Sight, Trace};
 pub use traced::Traced;
+pub use with_bound::Witness;
+pub use witnessed::Witnessed;

@@ -4,12 +4,14 @@ ghost use Rattle.std.specs.Prelude.{◌≡◌, ◌↔◌, IsTrue, IfSome};
 ghost use Rattle.async_channel.specs.Handles.{handle_of};
 
 use crate::shared::Shared;
+use crate::with_bound::Bounded;
 use std::sync::Arc;
 
 /// The shared part of a channel, which has the identity too: a tie has nothing beside it.
 #[derive(Drop)]
-pub(crate) struct Link<T: Drop> {
-    pub(crate) shared: Arc<Shared<T>>,
+pub(crate) enum Link<T: Drop> {
+    Bounded(Arc<Bounded<T>>),
+    Unbounded(Arc<Shared<T>>),
 }
 
 impl<T: Drop> Link<T> {
@@ -17,9 +19,19 @@ impl<T: Drop> Link<T> {
     pub(crate) fn try_clone(&self) -> Option<Link<T>>
         ensures { IfSome result (λ l. handle_of l ≡ handle_of self.now) }
     {
-        match Arc::try_clone(&self.shared) {
-            Ok(shared) => Some(Link { shared }),
-            Err(_) => None,
+        match self {
+            Link::Bounded(channel) => Some(Link::Bounded(Arc::try_clone(channel).ok()?)),
+            Link::Unbounded(shared) => Some(Link::Unbounded(Arc::try_clone(shared).ok()?)),
+        }
+    }
+
+    /// The identity.
+    fn id(&self) -> u64
+        ensures { result ≡ (handle_of self.now).id }
+    {
+        match self {
+            Link::Bounded(channel) => channel.id,
+            Link::Unbounded(shared) => shared.id,
         }
     }
 
@@ -27,6 +39,6 @@ impl<T: Drop> Link<T> {
     pub(crate) fn is_same(&self, other: &Link<T>) -> bool
         ensures { IsTrue result ↔ ((handle_of self.now).id ≡ (handle_of other.now).id) }
     {
-        self.shared.id == other.shared.id
+        self.id() == other.id()
     }
 }

@@ -2,10 +2,11 @@
 
 pub(crate) mod no_trace;
 
-ghost use Rattle.std.specs.Prelude.{◌≡◌, ◌+◌, ◌-◌, ◌^◌, ◌<◌, ◌≤◌, Some, None, IfOk, OnOk, OnErr, Err};
+ghost use Rattle.std.specs.Prelude.{◌≡◌, ◌+◌, ◌-◌, ◌^◌, ◌<◌, ◌≤◌, Some, None, IfOk, OnOk, OnErr, Err, IsSome};
 ghost use Rattle.concurrent_queue.specs.Replies.{room_of};
-ghost use Rattle.concurrent_queue.specs.SharedQueue.{limit};
-ghost use Rattle.async_channel.specs.Handles.{new_receiving};
+ghost use Rattle.channel_calls.specs.declared.stage.Side.TheVariants.{Senders, Receivers};
+ghost use Rattle.async_channel.specs.Handles.{handle_of, new_receiving};
+ghost use Rattle.async_channel.specs.Parties.{IsHandleOf};
 
 use crate::counted::Counted;
 use crate::handles::receiver::Receiver;
@@ -14,48 +15,48 @@ use crate::link::Link;
 use crate::open::no_trace::NoTrace;
 use crate::seen::Trace;
 use crate::shared::Shared;
+use crate::with_bound::{Bounded, Witness};
 use channel_calls::error::OpenError;
-use channel_calls::raised::Counters;
+use channel_calls::raised::{Counters, Opening};
 use concurrent_queue::shared::queue::ConcurrentQueue;
 use event_listener::id::EventIds;
+use kept::Kept;
 use std::alloc::Global;
 use std::sync::{Arc, Wait};
 
-/// The two handles of a channel over this queue. The memory is taken first, then the four identities.
+/// More places than any memory has.
+const MOST: usize = 1 << 58;
+
+/// The two handles of a channel that this ties to. Their memory is taken first, then the four identities.
 ///
 /// An identity that was taken can't be given back, so the shared part is made with the number that the first one is going to have.
 fn open<T: Drop, R: Wait + Copy, S: Trace<T> + Copy>(
     rt: R,
-    alloc: Global,
-    queue: ConcurrentQueue<T>,
+    link: Link<T>,
+    opening: Opening,
+    seats: (Option<Kept<Witness<T>>>, Option<Kept<Witness<T>>>),
     ids: &mut EventIds,
     watch: S,
 ) -> Result<(Sender<T, R, S>, Receiver<T, R, S>), OpenError>
-    ensures sender { IfOk result (λ ends. room_of ends.0.form ≡ limit queue) }
+    requires sender { IsHandleOf Senders (handle_of link).table seats.0 }
+    requires receiver { IsHandleOf Receivers (handle_of link).table seats.1 }
+    ensures channel { IfOk result (λ ends. ends.0 ≡ handle_of link) }
     ensures receiver { IfOk result (λ ends. ends.1 ≡ new_receiving ends.0) }
-    ensures named { IfOk result (λ ends. ends.0.id ≡ ids.old) }
     ensures given { OnOk result (ids.new ≡ ids.old + 4) }
     ensures unchanged { OnErr result (ids.new ≡ ids.old) }
     ensures used_up { result ≡ Err OpenError.IdsUsedUp → 2 ^ 64 - 1 < ids.old + 4 }
 {
-    let (counters, opening) = Counters::new();
-    let Ok(shared) = Arc::new(alloc, Shared::new(alloc, queue, counters, ids.given())) else {
-        return Err(OpenError::NoMemory);
-    };
-    let Ok(other) = Arc::try_clone(&shared) else {
-        drop(shared);
+    let Some(other) = link.try_clone() else {
         return Err(OpenError::NoMemory);
     };
     let Ok(four) = ids.next_four() else {
-        drop(shared);
-        drop(other);
         return Err(OpenError::IdsUsedUp);
     };
     drop(four);
-    let (sender, receiver) = opening.handles();
+    let (first, second) = opening.handles();
     Ok((
-        Sender::new(rt, watch, Counted::first(Link { shared }, sender)),
-        Receiver::new(rt, watch, Counted::first(Link { shared: other }, receiver)),
+        Sender::new(rt, watch, Counted::first(link, first, seats.0)),
+        Receiver::new(rt, watch, Counted::first(other, second, seats.1)),
     ))
 }
 
@@ -79,6 +80,7 @@ pub fn bounded<T: Drop, R: Wait + Copy>(
 ) -> Result<(Sender<T, R>, Receiver<T, R>), OpenError>
     requires { 0 < capacity }
     ensures capacity { IfOk result (λ ends. room_of ends.0.form ≡ Some capacity) }
+    ensures table { IfOk result (λ ends. IsSome ends.0.table) }
     ensures receiver { IfOk result (λ ends. ends.1 ≡ new_receiving ends.0) }
     ensures most { OnOk result (capacity ≤ 2 ^ 58) }
     ensures named { IfOk result (λ ends. ends.0.id ≡ ids.old) }
@@ -104,6 +106,7 @@ pub fn unbounded<T: Drop, R: Wait + Copy>(
     ids: &mut EventIds,
 ) -> Result<(Sender<T, R>, Receiver<T, R>), OpenError>
     ensures capacity { IfOk result (λ ends. room_of ends.0.form ≡ None) }
+    ensures table { IfOk result (λ ends. ends.0.table ≡ None) }
     ensures receiver { IfOk result (λ ends. ends.1 ≡ new_receiving ends.0) }
     ensures named { IfOk result (λ ends. ends.0.id ≡ ids.old) }
     ensures given { OnOk result (ids.new ≡ ids.old + 4) }
@@ -130,6 +133,7 @@ pub fn bounded_watched<T: Drop, R: Wait + Copy, S: Trace<T> + Copy>(
 ) -> Result<(Sender<T, R, S>, Receiver<T, R, S>), OpenError>
     requires { 0 < capacity }
     ensures capacity { IfOk result (λ ends. room_of ends.0.form ≡ Some capacity) }
+    ensures table { IfOk result (λ ends. IsSome ends.0.table) }
     ensures receiver { IfOk result (λ ends. ends.1 ≡ new_receiving ends.0) }
     ensures most { OnOk result (capacity ≤ 2 ^ 58) }
     ensures named { IfOk result (λ ends. ends.0.id ≡ ids.old) }
@@ -137,10 +141,24 @@ pub fn bounded_watched<T: Drop, R: Wait + Copy, S: Trace<T> + Copy>(
     ensures unchanged { OnErr result (ids.new ≡ ids.old) }
     ensures used_up { result ≡ Err OpenError.IdsUsedUp → 2 ^ 64 - 1 < ids.old + 4 }
 {
-    match ConcurrentQueue::bounded(alloc, capacity) {
-        Ok(queue) => open(rt, alloc, queue, ids, watch),
-        Err(_) => Err(OpenError::NoMemory),
+    if capacity > MOST {
+        return Err(OpenError::NoMemory);
     }
+    let Ok((channel, sender, receiver)) = Bounded::open(alloc, capacity, ids.given()) else {
+        return Err(OpenError::NoMemory);
+    };
+    let Ok(channel) = Arc::new(alloc, channel) else {
+        return Err(OpenError::NoMemory);
+    };
+    let seats = (Some(Kept::new(sender)), Some(Kept::new(receiver)));
+    open(
+        rt,
+        Link::Bounded(channel),
+        Opening::of_words(),
+        seats,
+        ids,
+        watch,
+    )
 }
 
 /// [`unbounded`] with a trace that the channel is watched by, as [`bounded_watched`]. Own to this project.
@@ -151,14 +169,26 @@ pub fn unbounded_watched<T: Drop, R: Wait + Copy, S: Trace<T> + Copy>(
     watch: S,
 ) -> Result<(Sender<T, R, S>, Receiver<T, R, S>), OpenError>
     ensures capacity { IfOk result (λ ends. room_of ends.0.form ≡ None) }
+    ensures table { IfOk result (λ ends. ends.0.table ≡ None) }
     ensures receiver { IfOk result (λ ends. ends.1 ≡ new_receiving ends.0) }
     ensures named { IfOk result (λ ends. ends.0.id ≡ ids.old) }
     ensures given { OnOk result (ids.new ≡ ids.old + 4) }
     ensures unchanged { OnErr result (ids.new ≡ ids.old) }
     ensures used_up { result ≡ Err OpenError.IdsUsedUp → 2 ^ 64 - 1 < ids.old + 4 }
 {
-    match ConcurrentQueue::unbounded(alloc) {
-        Ok(queue) => open(rt, alloc, queue, ids, watch),
-        Err(_) => Err(OpenError::NoMemory),
-    }
+    let Ok(queue) = ConcurrentQueue::unbounded(alloc) else {
+        return Err(OpenError::NoMemory);
+    };
+    let (counters, opening) = Counters::new();
+    let Ok(shared) = Arc::new(alloc, Shared::new(alloc, queue, counters, ids.given())) else {
+        return Err(OpenError::NoMemory);
+    };
+    open(
+        rt,
+        Link::Unbounded(shared),
+        opening,
+        (None, None),
+        ids,
+        watch,
+    )
 }

@@ -36,10 +36,12 @@ impl<T: Drop> Shared<T> {
         &self,
         rt: &R,
         message: Option<T>,
-        waits: &mut Waits<OfSends>,
+        waits: &mut Waits<T, OfSends>,
         cx: &mut Context<'_>,
         trace: S,
     ) -> (Poll<Result<(), Refused<SendError<T>>>>, Option<T>, S)
+        requires unbounded { waits.old.seat ≡ None }
+        ensures unbounded { waits.new.seat ≡ None }
         ensures walked { SeenOn S.did S.shown S.entered (channel_of self.now) (λ saw begin r end. PollsSend saw (send_ask message waits.old.key) begin r waits.new.key (result.1) end) trace (reply.SendPoll (result.0)) (result.2) }
         ensures message { SendsOn message (result.0) (result.1) }
         ensures listed { SendLists message (result.0) waits.new.key }
@@ -58,10 +60,12 @@ impl<T: Drop> Shared<T> {
     pub(crate) fn poll_recv<R: Wait, S: Trace<T>>(
         &self,
         rt: &R,
-        waits: &mut Waits<OfReceives>,
+        waits: &mut Waits<T, OfReceives>,
         cx: &mut Context<'_>,
         trace: S,
     ) -> (Poll<Result<T, Refused<RecvError>>>, S)
+        requires unbounded { waits.old.seat ≡ None }
+        ensures unbounded { waits.new.seat ≡ None }
         ensures walked { SeenOn S.did S.shown S.entered (channel_of self.now) (λ saw begin r end. Polls saw (recv_ask waits.old.key) begin r waits.new.key end) trace (reply.RecvPoll (result.0)) (result.1) }
         ensures listed { is_some waits.new.key ≡ is_pending (result.0) }
         ensures armed { OnPending (result.0) (IsArmed cx.new) }
@@ -79,10 +83,12 @@ impl<T: Drop> Shared<T> {
     pub(crate) fn poll_closed<R: Wait, S: Trace<T>>(
         &self,
         rt: &R,
-        waits: &mut Waits<OfClosings>,
+        waits: &mut Waits<T, OfClosings>,
         cx: &mut Context<'_>,
         trace: S,
     ) -> (Poll<Result<(), ListenError>>, S)
+        requires unbounded { waits.old.seat ≡ None }
+        ensures unbounded { waits.new.seat ≡ None }
         ensures walked { SeenOn S.did S.shown S.entered (channel_of self.now) (λ saw begin r end. Polls saw (closed_ask waits.old.key) begin r waits.new.key end) trace (reply.ClosedPoll (result.0)) (result.1) }
         ensures listed { is_some waits.new.key ≡ is_pending (result.0) }
         ensures armed { OnPending (result.0) (IsArmed cx.new) }
@@ -100,10 +106,12 @@ impl<T: Drop> Shared<T> {
     pub(crate) fn poll_next<R: Wait, S: Trace<T>>(
         &self,
         rt: &R,
-        waits: &mut Waits<OfStreams>,
+        waits: &mut Waits<T, OfStreams>,
         cx: &mut Context<'_>,
         trace: S,
     ) -> (Poll<Option<Result<T, ListenError>>>, S)
+        requires unbounded { waits.old.seat ≡ None }
+        ensures unbounded { waits.new.seat ≡ None }
         ensures walked { SeenOn S.did S.shown S.entered (channel_of self.now) (λ saw begin r end. Polls saw (next_ask waits.old.key) begin r waits.new.key end) trace (reply.Next (result.0)) (result.1) }
         ensures listed { is_some waits.new.key ≡ is_pending (result.0) }
         ensures armed { OnPending (result.0) (IsArmed cx.new) }
@@ -122,7 +130,7 @@ impl<T: Drop> Shared<T> {
         &self,
         rt: &R,
         message: Option<T>,
-        waits: Waits<L>,
+        waits: Waits<T, L>,
         trace: S,
     ) -> (Option<T>, S)
         ensures walked { SeenOn S.did S.shown S.entered (channel_of self.now) (λ saw. WalkedTo saw (first (ask.GiveUp L.line message waits.key))) trace (reply.GivenUp (result.0)) (result.1) }
@@ -136,7 +144,7 @@ impl<T: Drop> Shared<T> {
     pub(crate) fn leave<L: Line, R: Wait, S: Trace<T>>(
         &self,
         rt: &R,
-        waits: Waits<L>,
+        waits: Waits<T, L>,
         trace: S,
     ) -> S
         ensures walked { SeenOn S.did S.shown S.entered (channel_of self.now) (λ saw. WalkedTo saw (first (ask.GiveUp L.line None waits.key))) trace (reply.GivenUp None) result }
@@ -150,7 +158,7 @@ impl<T: Drop> Shared<T> {
     pub(crate) fn let_go<L: Line, R: Wait, S: Trace<T>>(
         &self,
         rt: &R,
-        waits: Waits<L>,
+        waits: Waits<T, L>,
         trace: S,
     ) -> S
         ensures walked { IsSome waits.key → SeenOn S.did S.shown S.entered (channel_of self.now) (λ saw. WalkedTo saw (first (ask.GiveUp L.line None waits.key))) trace (reply.GivenUp None) result }
@@ -169,7 +177,7 @@ impl<T: Drop> Shared<T> {
         &self,
         rt: &R,
         raised: Raised<OfReceivers>,
-        waits: Waits<OfStreams>,
+        waits: Waits<T, OfStreams>,
         trace: S,
     ) -> S
         ensures walked { SeenOn S.did S.shown S.entered (channel_of self.now) (λ saw. Drops saw (ask.DropReceiver waits.key)) trace tt result }

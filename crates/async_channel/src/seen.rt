@@ -9,6 +9,7 @@ ghost use Rattle.channel_calls.specs.Deeds.{Deed};
 
 use crate::cells::{Beds, Places, SharedCells, SharedWords, Words};
 use crate::shared::Shared;
+use crate::with_bound::Witness;
 use channel_calls::cells::ChannelCells;
 use channel_calls::sleeps::Sleeps;
 use channel_calls::stage::{Side, Telling, WaitList};
@@ -77,9 +78,13 @@ impl Clone for Shown<'_> {
 /// of a queue does. Its method says that this was seen, and nothing else: so a trace of which nothing is known but this trait can be led
 /// from one value to another by these very deeds alone.
 ///
-/// The method is lent a [`Sight`] of this very trace, which only the cells that do these deeds have. Own to this project.
+/// That is so of channels without a bound. Of one with a bound the trace is told of each call once it is over, by what the call left
+/// ([`Witness`]): which call that was and what it answered is said by the seat that it is given.
+///
+/// The methods are lent a [`Sight`] of this very trace, which only the cells that do these deeds have. Own to this project.
 pub trait Trace<T>: queue::Trace<T> {
     ghost use Rattle.std.specs.Prelude.{ℕ};
+    ghost use Rattle.async_channel.specs.Parties.{Seat};
     ghost use Rattle.channel_calls.specs.declared.stage.WaitList.{WaitList as Waits};
     ghost use Rattle.async_channel.specs.Shown.{Sees};
 
@@ -98,9 +103,35 @@ pub trait Trace<T>: queue::Trace<T> {
     /// Whether the thread was seen to sleep between the two.
     ghost slept: { Self → Self → Type 0 };
 
+    /// Whether it was told of a call that left this seat.
+    ghost called: { Seat T → Type 0 };
+
     /// This was seen.
     fn saw(&mut self, sight: &Sight<Self>, it: Shown<'_>)
         ensures { Sees entered shown offering parked slept it.entry self.old self.new };
+
+    /// A call was made on a channel with a bound, and left this.
+    fn heard(&self, sight: &Sight<Self>, call: Witness<T>)
+        ensures { called call };
+}
+
+/// Tells the trace that a channel with a bound is watched by of a call, by the seat that the call left.
+#[inline(always)]
+pub(crate) fn tell<T: Drop, S: Trace<T>>(watch: &S, call: Witness<T>)
+    ensures { S.called call }
+{
+    watch.heard(&Sight { of: PhantomData }, call);
+}
+
+/// The answer of a call, of which the trace is told that its channel is watched by.
+#[inline(always)]
+pub(crate) fn answer<T: Drop, A, S: Trace<T>>(watch: &S, made: (A, Witness<T>)) -> A
+    ensures answer { result ≡ made.0 }
+    ensures told { S.called made.1 }
+{
+    let (answer, call) = made;
+    tell(watch, call);
+    answer
 }
 
 /// Cells that the threads of a channel share, and a trace that sees each deed on them. Made here alone.

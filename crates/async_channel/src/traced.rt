@@ -1,4 +1,4 @@
-//! The calls of a channel with a trace of the caller's, which sees each deed that a call does to its channel, and no other.
+//! The calls of a channel without a bound with a trace of the caller's, which sees each deed that a call does to its channel, and no other.
 //!
 //! Each is one body for whatever trace, and makes its call on cells that show each deed to the trace that it was given. So its clause
 //! `walked` says of the trace, before and after, what was done: the deeds of the call's machine, from its first turn to the very answer
@@ -6,8 +6,6 @@
 //! shown, on this channel or on another, is to be read here. The calls of handles and operations are these with a copy of the trace that
 //! the channel is watched by.
 
-mod counts;
-mod operations;
 mod receives;
 mod sends;
 
@@ -18,47 +16,54 @@ ghost use Rattle.channel_calls.specs.Walks.{WalkedTo};
 ghost use Rattle.channel_calls.specs.declared.ask.ChannelAsk.TheVariants as ask;
 ghost use Rattle.channel_calls.specs.declared.reply.Reply.TheVariants as reply;
 ghost use Rattle.channel_calls.specs.declared.stage.Side.TheVariants as side;
-ghost use Rattle.async_channel.specs.Handles.{handle_of, form_of};
+ghost use Rattle.async_channel.specs.Handles.{channel_of, form_of};
 ghost use Rattle.async_channel.specs.Saw.{SeenOn};
 
 use crate::bed::Bed;
 use crate::calls;
 use crate::cells::SharedCells;
-use crate::counted::Counted;
 use crate::seen::{Seen, Trace};
+use crate::shared::Shared;
 use channel_calls::kind::Kind;
 use channel_calls::stage::Side;
-use std::marker::Model;
+use std::marker::{Model, PhantomData};
 use std::sync::Wait;
 
-/// The calls of a sender or of a receiver with a trace of the caller's, which each call takes and gives back with its answer.
+/// The calls of a sender or of a receiver of a channel without a bound, with a trace of the caller's, which each call takes and gives back with its answer.
 ///
 /// `walked` of a call says of the trace what the call did to its channel, whatever other threads do; what else it says, and whether it
 /// may wait, is said at the handle's own call of that name. Contracts see the channel. Own to this project.
 ///
 /// ```text
-/// let (sent, log) = sender.traced().try_send(1, Log::new(alloc));
+/// if let Calls::Traced(channel) = sender.calls() {
+///     let (sent, log) = channel.try_send(1, Log::new(alloc));
+/// }
 /// ```
 #[derive(Drop)]
 pub struct Traced<'a, T: Drop, R: Wait + Copy, K: Kind> {
-    counted: &'a Counted<T, K>,
+    shared: &'a Shared<T>,
     rt: &'a R,
+    kind: PhantomData<K>,
 }
 
 impl<'a, T: Drop, R: Wait + Copy, K: Kind> Model for Traced<'a, T, R, K> {
-    ghost use Rattle.async_channel.specs.Handles.{Handle, handle_of};
+    ghost use Rattle.async_channel.specs.Handles.{Handle, channel_of};
 
     ghost Value = { Handle };
 
-    ghost view = { λ c. handle_of c.counted.now.link };
+    ghost view = { λ c. channel_of c.shared.now };
 }
 
 impl<'a, T: Drop, R: Wait + Copy, K: Kind> Traced<'a, T, R, K> {
     #[inline(always)]
-    pub(crate) fn new(counted: &'a Counted<T, K>, rt: &'a R) -> Traced<'a, T, R, K>
-        ensures { result ≡ handle_of counted.now.link }
+    pub(crate) fn new(shared: &'a Shared<T>, rt: &'a R) -> Traced<'a, T, R, K>
+        ensures { result ≡ channel_of shared.now }
     {
-        Traced { counted, rt }
+        Traced {
+            shared,
+            rt,
+            kind: PhantomData,
+        }
     }
 
     /// The cells of the channel, seen by this trace.
@@ -67,7 +72,7 @@ impl<'a, T: Drop, R: Wait + Copy, K: Kind> Traced<'a, T, R, K> {
         ensures form { form_of result.cells.shared.now ≡ self.now.form }
         ensures trace { S.entered self.now.seal trace result.trace }
     {
-        Seen::cells(&self.counted.link.shared, self.rt, (), trace)
+        Seen::cells(self.shared, self.rt, (), trace)
     }
 
     /// The same for a call that blocks its thread.
@@ -76,7 +81,7 @@ impl<'a, T: Drop, R: Wait + Copy, K: Kind> Traced<'a, T, R, K> {
         ensures form { form_of result.cells.shared.now ≡ self.now.form }
         ensures trace { S.entered self.now.seal trace result.trace }
     {
-        Seen::cells(&self.counted.link.shared, self.rt, Bed::new(), trace)
+        Seen::cells(self.shared, self.rt, Bed::new(), trace)
     }
 
     /// Closes the channel.
@@ -103,7 +108,7 @@ impl<'a, T: Drop, R: Wait + Copy, K: Kind> Traced<'a, T, R, K> {
     pub fn is_closed<S: Trace<T>>(&self, trace: S) -> (bool, S)
         ensures walked { SeenOn S.did S.shown S.entered self.now (λ saw. WalkedTo saw (first ask.IsClosed)) trace (reply.Flag (result.0)) (result.1) }
     {
-        self.counted.link.shared.is_closed(trace)
+        self.shared.is_closed(trace)
     }
 
     /// Whether it holds no message.
@@ -111,7 +116,7 @@ impl<'a, T: Drop, R: Wait + Copy, K: Kind> Traced<'a, T, R, K> {
     pub fn is_empty<S: Trace<T>>(&self, trace: S) -> (bool, S)
         ensures walked { SeenOn S.did S.shown S.entered self.now (λ saw. WalkedTo saw (first ask.IsEmpty)) trace (reply.Flag (result.0)) (result.1) }
     {
-        self.counted.link.shared.is_empty(trace)
+        self.shared.is_empty(trace)
     }
 
     /// Whether it holds as many messages as it can; one without a bound never does.
@@ -120,7 +125,7 @@ impl<'a, T: Drop, R: Wait + Copy, K: Kind> Traced<'a, T, R, K> {
         ensures walked { SeenOn S.did S.shown S.entered self.now (λ saw. WalkedTo saw (first ask.IsFull)) trace (reply.Flag (result.0)) (result.1) }
         ensures bound { room_of self.now.form ≡ None → result.0 ≡ false }
     {
-        self.counted.link.shared.is_full(trace)
+        self.shared.is_full(trace)
     }
 
     /// How many messages it can hold, if there is a bound.
@@ -129,7 +134,7 @@ impl<'a, T: Drop, R: Wait + Copy, K: Kind> Traced<'a, T, R, K> {
         ensures walked { SeenOn S.did S.shown S.entered self.now (λ saw. WalkedTo saw (first ask.Capacity)) trace (reply.Cap (result.0)) (result.1) }
         ensures room { result.0 ≡ room_of self.now.form }
     {
-        self.counted.link.shared.capacity(trace)
+        self.shared.capacity(trace)
     }
 
     /// How many senders live.
@@ -137,7 +142,7 @@ impl<'a, T: Drop, R: Wait + Copy, K: Kind> Traced<'a, T, R, K> {
     pub fn sender_count<S: Trace<T>>(&self, trace: S) -> (usize, S)
         ensures walked { SeenOn S.did S.shown S.entered self.now (λ saw. WalkedTo saw (first (ask.HandleCount side.Senders))) trace (reply.Count (result.0)) (result.1) }
     {
-        self.counted.link.shared.handle_count(Side::Senders, trace)
+        self.shared.handle_count(Side::Senders, trace)
     }
 
     /// How many receivers live.
@@ -145,9 +150,6 @@ impl<'a, T: Drop, R: Wait + Copy, K: Kind> Traced<'a, T, R, K> {
     pub fn receiver_count<S: Trace<T>>(&self, trace: S) -> (usize, S)
         ensures walked { SeenOn S.did S.shown S.entered self.now (λ saw. WalkedTo saw (first (ask.HandleCount side.Receivers))) trace (reply.Count (result.0)) (result.1) }
     {
-        self.counted
-            .link
-            .shared
-            .handle_count(Side::Receivers, trace)
+        self.shared.handle_count(Side::Receivers, trace)
     }
 }

@@ -141,9 +141,9 @@ impl<'a, R: Wait + Copy + RandomSource + AllocGlobal> Lent<'a, R> {
         let Ok(task) = MockTask::new(&self.rt) else {
             return MEMORY;
         };
-        match self.operations.push(Some(Operation { task, waiting })) {
-            Ok(()) => Said::Ok,
-            Err(_) => MEMORY,
+        match self.operations.push(Some(Operation { task, waiting })).ok() {
+            Some(()) => Said::Ok,
+            None => MEMORY,
         }
     }
 

@@ -1,11 +1,10 @@
-//! Questions to handles while a push is suspended between winning its place and finishing, as when its thread is preempted. The trace of a
-//! send asks them in the midst of the call. The channels are watched by another trace, which counts what each question does: so one that
-//! waits is seen, even where its answer is right.
+//! Questions to handles of a channel without a bound while a push is suspended between winning its place and finishing, as when its
+//! thread is preempted. The trace of a send asks them in the midst of the call. The channels are watched by another trace, which counts
+//! what each question does: so one that waits is seen, even where its answer is right.
 //!
 //! | Line | What it does | What it answers |
 //! |---|---|---|
-//! | `bounded N`, `unbounded` | the form of the channels that the next lines open | `ok` |
-//! | `passed N` | so many messages pass through each of them first | `ok` |
+//! | `passed N` | so many messages pass first through each channel that the next lines open | `ok` |
 //! | `closed` | each of them is closed once the push has won its place | `ok` |
 //! | `moments` | makes a send | at how many moments a question is asked: after each operation from the one that wins the place, and before the message is written |
 //! | `QUESTION s`, `QUESTION r` | makes a send, and asks its channel's sender or receiver at each such moment | the answer, and how much the question showed its trace: the beginning of each call, and each operation |
@@ -13,7 +12,7 @@
 use crate::checks::{expect_rows, expect_true};
 use crate::standing_rows::QUESTIONS;
 use async_channel::{
-    EventIds, Receiver, Sender, Shown, Sight, Trace, bounded_watched, unbounded_watched,
+    Calls, EventIds, Receiver, Sender, Shown, Sight, Trace, Witness, unbounded_watched,
 };
 use channel_test_helpers::calls::MEMORY;
 use concurrent_queue::cells::{Slot, Word};
@@ -69,9 +68,15 @@ impl<R: Abort> Trace<u64> for Counter<'_, R> {
 
     ghost slept = { λ _ _. Unit {0} };
 
+    ghost called = { λ _. Unit {0} };
+
     fn saw(&mut self, _sight: &Sight<Self>, _it: Shown<'_>) {
         self.note();
     }
+
+    fn heard(&self, _sight: &Sight<Self>, _call: Witness<u64>)
+        ensures { Unit {0} }
+    {}
 }
 
 /// The first two handles of a channel that is watched.
@@ -223,7 +228,7 @@ impl<R: Wait + Copy + Abort> queue::Trace<u64> for Asking<'_, '_, R> {
     ghost brought = { λ _ _ _ _. Unit {0} };
 
     fn operated(&mut self, _sight: &queue::Sight<Self>, it: queue::Shown) {
-        if let queue::Shown::Exchanged(Word::Tail | Word::State, _, _, Ok(_)) = it {
+        if let queue::Shown::Exchanged(Word::Tail, _, _, Ok(_)) = it {
             self.is_won = true;
         }
         self.ask();
@@ -247,7 +252,13 @@ impl<R: Wait + Copy + Abort> Trace<u64> for Asking<'_, '_, R> {
 
     ghost slept = { λ _ _. Unit {0} };
 
+    ghost called = { λ _. Unit {0} };
+
     fn saw(&mut self, _sight: &Sight<Self>, _it: Shown<'_>) {}
+
+    fn heard(&self, _sight: &Sight<Self>, _call: Witness<u64>)
+        ensures { Unit {0} }
+    {}
 }
 
 /// A player of such lines. Each makes its send on a channel of its own.
@@ -256,8 +267,6 @@ struct Standing<'a, R: Wait + Copy + Abort> {
     rt: R,
     count: &'a Cell<u32>,
     alloc: Global,
-    /// 0 for channels without a bound.
-    capacity: usize,
     passed: u64,
     closes: bool,
 }
@@ -269,11 +278,7 @@ impl<'a, R: Wait + Copy + Abort> Standing<'a, R> {
             rt: self.rt,
             count: self.count,
         };
-        if self.capacity == 0 {
-            unbounded_watched(self.rt, self.alloc, ids, watch).ok()
-        } else {
-            bounded_watched(self.rt, self.alloc, self.capacity, ids, watch).ok()
-        }
+        unbounded_watched(self.rt, self.alloc, ids, watch).ok()
     }
 
     fn handles(&self) -> Option<Handles<'a, R>> {
@@ -295,8 +300,11 @@ impl<'a, R: Wait + Copy + Abort> Standing<'a, R> {
         let Some(handles) = self.handles() else {
             return MEMORY.write(answer);
         };
+        let Calls::Traced(channel) = handles.sender.calls() else {
+            return Said::Word("bounded").write(answer);
+        };
         let asking = Asking::new(&handles, question, self.closes);
-        let (sent, asking) = handles.sender.traced().try_send(7, asking);
+        let (sent, asking) = channel.try_send(7, asking);
         self.count.set(0);
         if sent.is_err() || handles.receiver.try_recv() != Ok(7) {
             Said::Word("lost").write(answer)?;
@@ -307,15 +315,12 @@ impl<'a, R: Wait + Copy + Abort> Standing<'a, R> {
 
 impl<R: Wait + Copy + Abort> Player for Standing<'_, R> {
     fn begin(&mut self) {
-        self.capacity = 0;
         self.passed = 0;
         self.closes = false;
     }
 
     fn play(&mut self, words: &mut Words<'_>, answer: &mut String) -> Result<(), AllocError> {
         match words.word() {
-            "bounded" => self.capacity = words.size(),
-            "unbounded" => self.capacity = 0,
             "passed" => self.passed = words.number(),
             "closed" => self.closes = true,
             "moments" => return self.write(("moments", ""), answer),
@@ -332,9 +337,8 @@ fn a_push_that_stands_still_holds_no_handle_up(rt: HostRuntime) {
         rt,
         count: &count,
         alloc: rt.alloc(),
-        capacity: 0,
         passed: 0,
         closes: false,
     };
-    expect_rows(&rt, QUESTIONS, &mut standing, 8);
+    expect_rows(&rt, QUESTIONS, &mut standing, 4);
 }

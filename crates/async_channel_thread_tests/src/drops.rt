@@ -1,15 +1,52 @@
 //! Each message is received, displaced or left, and let go once, wherever handles and operations are dropped.
 
 use crate::checks::{expect_equal, expect_true, new_task};
-use crate::jobs::{Counts, Job, both};
-use async_channel::{Receiver, Sender, bounded};
+use crate::jobs::Counts;
+use async_channel::{Receiver, Send as Sending, Sender, bounded};
 use event_listener::id::EventIds;
 use futures::task::Poll;
 use futures::test::MockTask;
 use std::sync::{Arc, Wait};
 use std::thread;
+use std::thread::Threads;
 
-pub(crate) type Token = Arc<u64>;
+type Token = Arc<u64>;
+
+/// What one thread does with handles of tokens.
+#[derive(Drop)]
+enum Job<'a, R: Wait + Copy> {
+    /// Sends tokens, or receives them.
+    Send(Sender<Token, R>, &'a Token, MockTask),
+    Receive(Receiver<Token, R>, MockTask),
+    /// Drops this.
+    DropSend(Sending<'a, Token, R>),
+    DropReceiver(Receiver<Token, R>),
+}
+
+/// Does a job.
+fn count<R: Wait + Copy>(job: Job<'_, R>) -> Counts {
+    match job {
+        Job::Send(s, token, task) => send_tokens(&s, token, &task),
+        Job::Receive(r, task) => (receive_tokens(&r, &task), 0),
+        Job::DropSend(send) => {
+            drop(send);
+            (0, 0)
+        }
+        Job::DropReceiver(r) => {
+            drop(r);
+            (0, 0)
+        }
+    }
+}
+
+/// Does two jobs at once: what each said.
+fn both<'a, R>(rt: R, first: Job<'a, R>, second: Job<'a, R>) -> [Counts; 2]
+where
+    R: Wait + Threads + Copy + Send + Sync,
+{
+    let (one, other) = thread::join(&rt, move || count(first), move || count(second));
+    [one, other]
+}
 
 /// Whether a send of a token that doesn't wait is done; nothing where there was no token to send.
 fn tries<R: Wait + Copy>(s: &Sender<Token, R>, token: &Token) -> Option<bool> {
@@ -39,11 +76,7 @@ fn is_accepted<R: Wait + Copy>(s: &Sender<Token, R>, token: &Token, task: &MockT
 }
 
 /// Sends tokens by both calls that don't wait, and leaves a polled send behind: how many were accepted, and how many displaced.
-pub(crate) fn send_tokens<R: Wait + Copy>(
-    s: &Sender<Token, R>,
-    token: &Token,
-    task: &MockTask,
-) -> Counts {
+fn send_tokens<R: Wait + Copy>(s: &Sender<Token, R>, token: &Token, task: &MockTask) -> Counts {
     let mut accepted = 0u64;
     let mut displaced = 0u64;
     for _ in 0..500 {
@@ -57,7 +90,7 @@ pub(crate) fn send_tokens<R: Wait + Copy>(
 }
 
 /// Receives, and leaves a polled receive behind: how many came.
-pub(crate) fn receive_tokens<R: Wait + Copy>(r: &Receiver<Token, R>, task: &MockTask) -> u64 {
+fn receive_tokens<R: Wait + Copy>(r: &Receiver<Token, R>, task: &MockTask) -> u64 {
     let mut received = 0u64;
     for _ in 0..500 {
         received = received.wrapping_add(u64::from(r.try_recv().is_ok()));
@@ -77,8 +110,8 @@ fn each_message_is_let_go_once(rt: HostRuntime) {
     let own_r = r.try_clone().expect(&rt, "handles");
     let [(accepted, displaced), (received, _)] = both(
         rt,
-        Job::SendTokens(own_s, &token, new_task(&rt)),
-        Job::ReceiveTokens(own_r, new_task(&rt)),
+        Job::Send(own_s, &token, new_task(&rt)),
+        Job::Receive(own_r, new_task(&rt)),
     );
     let left = r.len();
     let gone = received.wrapping_add(displaced).wrapping_add(left as u64);
@@ -108,4 +141,20 @@ fn a_pending_send_and_the_receiver_are_dropped_elsewhere(rt: HostRuntime) {
     expect_equal(&rt, &Arc::strong_count(&token), &3);
     drop(s);
     expect_equal(&rt, &Arc::strong_count(&token), &1);
+}
+
+/// Two threads drop the last two receivers at once: one of them closes the channel, and whoever waits for that is woken.
+#[test]
+fn two_last_receivers_are_dropped_at_once(rt: HostRuntime) {
+    for _ in 0..50 {
+        let (s, r) = bounded(rt, rt.alloc(), 2, &mut EventIds::new()).expect(&rt, "memory");
+        let other = r.try_clone().expect(&rt, "handles");
+        let task = new_task(&rt);
+        let mut closed = s.closed();
+        expect_true(&rt, task.poll(&mut closed).is_pending());
+        both(rt, Job::DropReceiver(r), Job::DropReceiver(other));
+        expect_equal(&rt, &(s.receiver_count(), s.is_closed()), &(0, true));
+        expect_true(&rt, task.is_woken());
+        expect_true(&rt, task.poll(&mut closed).is_ready());
+    }
 }

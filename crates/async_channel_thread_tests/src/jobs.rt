@@ -1,15 +1,15 @@
-//! What the threads of these tests do at once. All of them begin by one closure, since each that is handed to a thread is dear to prove.
+//! What the threads of these tests do at once, with handles of numbers. All of them begin by one closure, since each that is handed to a thread is
+//! dear to prove. Threads with other handles have jobs of their own (`drops`, `watched`): the prover ends at its limits at a closure whose
+//! argument has handles of too many types.
 
 use crate::crowd::{receive_all, send_all, stream_all};
-use crate::drops::{Token, receive_tokens, send_tokens};
 use crate::executor::{Hand, run_ten};
 use crate::logged::{log_closing, log_receive_that_blocks, log_receives, log_send, log_sends};
 use crate::pairs::{Side, play_side};
 use crate::rest::{LastRecv, LastSend, poll_receives, poll_sends};
 use crate::tally::Tally;
-use crate::watched::Watcher;
 use crate::words::exchange_words;
-use async_channel::{Receiver, Send as Sending, Sender};
+use async_channel::{Receiver, Sender};
 use futures::test::MockTask;
 use std::alloc::{AllocError, AllocGlobal, Global};
 use std::process::Abort;
@@ -31,12 +31,6 @@ pub(crate) enum Job<'a, R: Wait + Copy> {
     StreamAll(Receiver<u64, R>, &'a Tally),
     /// Runs ten tasks of this handle, and adds up what came of them.
     RunTen(Hand<'a, R>, &'a AtomicU64),
-    /// Sends tokens, and receives them.
-    SendTokens(Sender<Token, R>, &'a Token, MockTask),
-    ReceiveTokens(Receiver<Token, R>, MockTask),
-    /// Drops this.
-    DropSend(Sending<'a, Token, R>),
-    DropReceiver(Receiver<Token, R>),
     /// Makes calls that write what they did.
     LogSends(&'a Sender<u64, R>, Global),
     LogReceives(&'a Receiver<u64, R>, Global),
@@ -48,9 +42,6 @@ pub(crate) enum Job<'a, R: Wait + Copy> {
     PollReceives(&'a Receiver<u64, R>, &'a Tally, MockTask),
     /// Sends its word, and waits for the other one's.
     ExchangeWords(Sender<u64, R>, Receiver<u64, R>, u64),
-    /// Calls of a channel that is watched.
-    SendWatched(&'a Sender<u64, R, Watcher<'a>>, u64),
-    CountSenders(&'a Receiver<u64, R, Watcher<'a>>),
 }
 
 /// What came of it.
@@ -80,16 +71,12 @@ where
         Job::ReceiveAll(r, tally) => flag(receive_all(rt, r, tally)),
         Job::StreamAll(own, tally) => flag(stream_all(rt, own, tally)),
         Job::RunTen(hand, sum) => flag(run_ten(rt, hand, sum)),
-        Job::SendTokens(s, token, task) => send_tokens(&s, token, &task),
-        Job::ReceiveTokens(r, task) => (receive_tokens(&r, &task), 0),
         Job::LogSends(s, alloc) => (log_sends(s, alloc), 0),
         Job::LogReceives(r, alloc) => (log_receives(r, alloc), 0),
         Job::LogClosing(s, alloc) => log_closing(s, alloc),
         Job::LogSend(s, alloc) => flag(log_send(s, alloc)),
         Job::LogReceiveThatBlocks(r, alloc) => flag(log_receive_that_blocks(r, alloc)),
         Job::ExchangeWords(to, from, mine) => (exchange_words(&to, &from, mine), 0),
-        Job::SendWatched(s, message) => flag(s.try_send(message).is_ok()),
-        Job::CountSenders(r) => (r.sender_count() as u64, 0),
         _ => (0, 0),
     }
 }

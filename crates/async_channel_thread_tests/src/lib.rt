@@ -25,6 +25,8 @@ mod rest;
 #[cfg(test)]
 mod tally;
 #[cfg(test)]
+mod unshared;
+#[cfg(test)]
 mod watched;
 #[cfg(test)]
 mod words;

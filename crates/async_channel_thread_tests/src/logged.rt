@@ -1,8 +1,8 @@
-//! What calls of handles do to their channel, as a trace of the caller's sees it: alone, and beside another thread.
+//! What calls of handles do to a channel without a bound, as a trace of the caller's sees it: alone, and beside another thread.
 
 use crate::checks::{expect_equal, expect_true};
 use crate::jobs::{Counts, Job, both};
-use async_channel::{Receiver, Refused, Sender, Telling, TryRecvError, TrySendError, WaitList};
+use async_channel::{Calls, Receiver, Sender, Telling, TryRecvError, WaitList};
 use channel_test_helpers::log::{
     Did, Log, close_logged, recv_blocking_logged, try_recv_logged, try_send_logged,
 };
@@ -49,41 +49,51 @@ enum Call {
     Close,
 }
 
-/// Calls of a channel of one place, one after another, and what each does to it.
+/// Calls of a channel, one after another, and what each does to it.
 const ALONE: [(Call, &[Did]); 9] = [
     (Call::Send, &SENT),
-    (Call::Send, &ASKED),
     (Call::Receive, &RECEIVED),
     (Call::Receive, &ASKED),
     (Call::Send, &SENT),
     (Call::Wait, &RECEIVED),
     (Call::Close, &CLOSED),
     (Call::Close, &ASKED),
+    (Call::Send, &ASKED),
     (Call::Wait, &ASKED),
 ];
 
-/// What a call does to its channel.
-fn log_of<R: Wait + Copy>(call: Call, ends: &Ends<R>, alloc: Global) -> Log {
-    match call {
-        Call::Send => try_send_logged(&ends.0, 7, Log::new(alloc)).1,
-        Call::Receive => try_recv_logged(&ends.1, Log::new(alloc)).1,
-        Call::Wait => recv_blocking_logged(&ends.1, Log::new(alloc)).1,
-        Call::Close => close_logged(&ends.0, Log::new(alloc)).1,
-    }
+/// What a call does to its channel. `None` of one with a bound, as everywhere here.
+fn log_of<R: Wait + Copy>(call: Call, ends: &Ends<R>, alloc: Global) -> Option<Log> {
+    let Calls::Traced(sends) = ends.0.calls() else {
+        return None;
+    };
+    let Calls::Traced(receives) = ends.1.calls() else {
+        return None;
+    };
+    let log = Log::new(alloc);
+    Some(match call {
+        Call::Send => try_send_logged(&sends, 7, log).1,
+        Call::Receive => try_recv_logged(&receives, log).1,
+        Call::Wait => recv_blocking_logged(&receives, log).1,
+        Call::Close => close_logged(&sends, log).1,
+    })
 }
 
 #[test]
 fn logs_of_calls_alone(rt: HostRuntime) {
-    let ends = opened(rt, rt.alloc(), 1).expect(&rt, "memory");
+    let ends = opened(rt, rt.alloc(), 0).expect(&rt, "memory");
     for (call, lines) in ALONE {
-        let log = log_of(call, &ends, rt.alloc());
+        let log = log_of(call, &ends, rt.alloc()).expect(&rt, "no bound");
         expect_true(&rt, log.has(lines));
     }
 }
 
 /// Whether a send wrote the lines of one that is accepted.
 pub(crate) fn log_send<R: Wait + Copy>(s: &Sender<u64, R>, alloc: Global) -> bool {
-    let (sent, log) = try_send_logged(s, 7, Log::new(alloc));
+    let Calls::Traced(channel) = s.calls() else {
+        return false;
+    };
+    let (sent, log) = try_send_logged(&channel, 7, Log::new(alloc));
     drop(sent);
     log.has(&SENT)
 }
@@ -91,27 +101,29 @@ pub(crate) fn log_send<R: Wait + Copy>(s: &Sender<u64, R>, alloc: Global) -> boo
 /// How many calls each of two threads makes.
 const CALLS: u64 = 500;
 
-/// How many sends wrote other lines than those of what they answered.
+/// How many sends were refused, or wrote other lines than those of one that is accepted.
 pub(crate) fn log_sends<R: Wait + Copy>(s: &Sender<u64, R>, alloc: Global) -> u64 {
+    let Calls::Traced(channel) = s.calls() else {
+        return CALLS;
+    };
     let mut wrong = 0u64;
     for message in 0..CALLS {
-        let (sent, log) = try_send_logged(s, message, Log::new(alloc));
-        let right = match &sent {
-            Ok(()) => log.has(&SENT),
-            Err(Refused::Plain(TrySendError::Full(_))) => log.has(&ASKED),
-            Err(_) => false,
-        };
+        let (sent, log) = try_send_logged(&channel, message, Log::new(alloc));
+        let right = sent.is_ok() && log.has(&SENT);
         wrong = wrong.wrapping_add(u64::from(!right));
         drop((sent, log));
     }
     wrong
 }
 
-/// How many receives did.
+/// How many receives wrote other lines than those of what they answered.
 pub(crate) fn log_receives<R: Wait + Copy>(r: &Receiver<u64, R>, alloc: Global) -> u64 {
+    let Calls::Traced(channel) = r.calls() else {
+        return CALLS;
+    };
     let mut wrong = 0u64;
     for _ in 0..CALLS {
-        let (received, log) = try_recv_logged(r, Log::new(alloc));
+        let (received, log) = try_recv_logged(&channel, Log::new(alloc));
         let right = match &received {
             Ok(_) => log.has(&RECEIVED),
             Err(TryRecvError::Empty) => log.has(&ASKED),
@@ -126,8 +138,8 @@ pub(crate) fn log_receives<R: Wait + Copy>(r: &Receiver<u64, R>, alloc: Global) 
 /// Two threads at once: each log is that of one call with its answer.
 #[test]
 fn logs_of_calls_at_once(rt: HostRuntime) {
-    for capacity in [0, 1, 3] {
-        let (s, r) = opened(rt, rt.alloc(), capacity).expect(&rt, "memory");
+    for _ in 0..3u8 {
+        let (s, r) = opened(rt, rt.alloc(), 0).expect(&rt, "memory");
         let wrong = both(
             rt,
             Job::LogSends(&s, rt.alloc()),
@@ -139,7 +151,10 @@ fn logs_of_calls_at_once(rt: HostRuntime) {
 
 /// Whether a closing says that it closed the channel, and whether it wrote the lines of that, each as 1 or 0.
 pub(crate) fn log_closing<R: Wait + Copy>(s: &Sender<u64, R>, alloc: Global) -> Counts {
-    let (closed, log) = close_logged(s, Log::new(alloc));
+    let Calls::Traced(channel) = s.calls() else {
+        return (0, 0);
+    };
+    let (closed, log) = close_logged(&channel, Log::new(alloc));
     let lines: &[Did] = if closed { &CLOSED } else { &ASKED };
     (u64::from(closed), u64::from(log.has(lines)))
 }
@@ -148,7 +163,7 @@ pub(crate) fn log_closing<R: Wait + Copy>(s: &Sender<u64, R>, alloc: Global) -> 
 #[test]
 fn logs_of_two_closings(rt: HostRuntime) {
     for _ in 0..100u8 {
-        let (s, r) = opened(rt, rt.alloc(), 1).expect(&rt, "memory");
+        let (s, r) = opened(rt, rt.alloc(), 0).expect(&rt, "memory");
         let [first, second] = both(
             rt,
             Job::LogClosing(&s, rt.alloc()),
@@ -163,7 +178,10 @@ fn logs_of_two_closings(rt: HostRuntime) {
 /// Whether a receive that blocked ended by a message: it told one who waits for a place, and left no listener behind. A call that slept
 /// had asked for a task.
 pub(crate) fn log_receive_that_blocks<R: Wait + Copy>(r: &Receiver<u64, R>, alloc: Global) -> bool {
-    let (received, log) = recv_blocking_logged(r, Log::new(alloc));
+    let Calls::Traced(channel) = r.calls() else {
+        return false;
+    };
+    let (received, log) = recv_blocking_logged(&channel, Log::new(alloc));
     let lines = log.lines.as_slice();
     let slept = lines.contains(&Did::Slept);
     let parked = lines.contains(&Did::Parked);
@@ -178,7 +196,7 @@ pub(crate) fn log_receive_that_blocks<R: Wait + Copy>(r: &Receiver<u64, R>, allo
 #[test]
 fn logs_of_a_receive_that_blocks(rt: HostRuntime) {
     for _ in 0..100u8 {
-        let (s, r) = opened(rt, rt.alloc(), 1).expect(&rt, "memory");
+        let (s, r) = opened(rt, rt.alloc(), 0).expect(&rt, "memory");
         let found = both(
             rt,
             Job::LogReceiveThatBlocks(&r, rt.alloc()),

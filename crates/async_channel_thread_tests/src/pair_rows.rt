@@ -161,6 +161,34 @@ r pass 2
 r drop
 r open 3
 
+row a_close_ends_a_blocked_send_of_one_place
+bounded 1
+s try_send 1 = sent
+s open 1
+s send_blocking 2 = closed 2
+r pass 1
+r close = true
+r recv_blocking = received 1
+r recv_blocking = over
+
+row a_close_ends_a_blocked_send_of_two_places
+bounded 2
+s try_send 1 = sent
+s try_send 2 = sent
+s open 1
+s send_blocking 3 = closed 3
+r pass 1
+r close = true
+r close = false
+
+row a_close_ends_a_blocked_receive
+bounded 2
+r open 1
+r recv_blocking = over
+s pass 1
+s close = true
+s close = false
+
 # An operation that was polled once and is then left alone keeps nobody else from going on.
 row a_forgotten_send
 bounded 2

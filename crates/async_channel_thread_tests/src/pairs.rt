@@ -296,7 +296,7 @@ fn rows(rt: HostRuntime) {
     expect_equal(&rt, &both.len(), &2);
     for done in both.iter() {
         match done {
-            Done::Played(played) => expect_played(&rt, played, 16),
+            Done::Played(played) => expect_played(&rt, played, 19),
             _ => expect_true(&rt, false),
         }
     }

@@ -1,19 +1,57 @@
 //! A channel that is watched: the calls of all its handles, on whatever thread, are told to one log.
 
 use crate::checks::expect_equal;
-use crate::jobs::{Job, both};
-use async_channel::{EventIds, Shown, Sight, Trace, bounded_watched};
+use async_channel::{
+    EventIds, Receiver, Sender, Shown, Sight, Trace, Witness, bounded_watched, unbounded_watched,
+};
 use concurrent_queue::cells::Slot;
 use concurrent_queue::seen as queue;
+use std::alloc::AllocGlobal;
+use std::process::Abort;
+use std::random::RandomSource;
+use std::sync::Wait;
 use std::sync::atomic::{AtomicUsize, Ordering};
+use std::thread;
+use std::thread::Threads;
 
 /// How many calls began, how many operations were made on cells of the queue, how many sections were made on lists, and how often a count
-/// was read or changed.
+/// was read or changed; and of a channel with a bound, how many calls were over.
 pub(crate) struct Tallies {
     beginnings: AtomicUsize,
     operations: AtomicUsize,
     sections: AtomicUsize,
     counts: AtomicUsize,
+    calls: AtomicUsize,
+}
+
+impl Tallies {
+    fn new() -> Tallies {
+        Tallies {
+            beginnings: AtomicUsize::new(0),
+            operations: AtomicUsize::new(0),
+            sections: AtomicUsize::new(0),
+            counts: AtomicUsize::new(0),
+            calls: AtomicUsize::new(0),
+        }
+    }
+
+    /// The numbers, in that order.
+    fn into_numbers(self) -> [usize; 5] {
+        let Tallies {
+            beginnings,
+            operations,
+            sections,
+            counts,
+            calls,
+        } = self;
+        [
+            beginnings.into_inner(),
+            operations.into_inner(),
+            sections.into_inner(),
+            counts.into_inner(),
+            calls.into_inner(),
+        ]
+    }
 }
 
 /// What each call takes a copy of.
@@ -54,6 +92,8 @@ impl Trace<u64> for Watcher<'_> {
 
     ghost slept = { λ _ _. Unit {0} };
 
+    ghost called = { λ _. Unit {0} };
+
     fn saw(&mut self, _sight: &Sight<Self>, it: Shown<'_>) {
         match it {
             Shown::Enters(_) => note(&self.tallies.beginnings),
@@ -64,41 +104,62 @@ impl Trace<u64> for Watcher<'_> {
             _ => note(&self.tallies.sections),
         }
     }
+
+    fn heard(&self, _sight: &Sight<Self>, _call: Witness<u64>)
+        ensures { Unit {0} }
+    {
+        note(&self.tallies.calls);
+    }
 }
 
-/// A send and a question at once, then a receive and a closing: what was sent was received, one sender was counted, and it was
-/// open. Before them a send is given up that nobody polled, which hands its message back, and a receive that nobody polled is dropped.
-#[test]
-fn one_log_of_all_calls(rt: HostRuntime) {
-    let tallies = Tallies {
-        beginnings: AtomicUsize::new(0),
-        operations: AtomicUsize::new(0),
-        sections: AtomicUsize::new(0),
-        counts: AtomicUsize::new(0),
-    };
-    let mut ids = EventIds::new();
-    let watch = Watcher { tallies: &tallies };
-    let (s, r) = bounded_watched(rt, rt.alloc(), 1, &mut ids, watch).expect(&rt, "memory");
+/// The first two handles of a channel that is watched.
+type Ends<'a, R> = (Sender<u64, R, Watcher<'a>>, Receiver<u64, R, Watcher<'a>>);
+
+/// What the calls answered: a send and a question at once, a send that was given up, a receive, and a closing.
+type Answers = ((bool, usize), Option<u64>, Option<u64>, bool);
+
+/// What they answer: what was sent was received, one sender was counted, what was given up came back, and the channel was open.
+const ANSWERS: Answers = ((true, 1), Some(9), Some(7), true);
+
+/// Makes seven calls on a channel: a send that nobody polled is given up, a message is sent while the senders are counted, it is received,
+/// the channel is closed, and both handles are dropped. A receive that nobody polled is dropped too, which is no call: it has no listener.
+fn seven_calls<R>(rt: R, ends: Ends<'_, R>) -> Answers
+where
+    R: Wait + Threads + Copy + RandomSource + AllocGlobal + Abort + Send + Sync,
+{
+    let (s, r) = ends;
     let unsent = s.send(9).give_up();
     drop(r.recv());
-    let at_once = both(rt, Job::SendWatched(&s, 7), Job::CountSenders(&r));
+    let at_once = thread::join(&rt, || s.try_send(7).is_ok(), || r.sender_count());
     let (got, closed) = (r.try_recv().ok(), s.close());
     drop((s, r));
-    let Tallies {
-        beginnings,
-        operations,
-        sections,
-        counts,
-    } = tallies;
-    let told = [
-        beginnings.into_inner(),
-        operations.into_inner(),
-        sections.into_inner(),
-        counts.into_inner(),
-    ];
-    expect_equal(&rt, &at_once, &[(1, 0); 2]);
-    expect_equal(&rt, &(unsent, got, closed), &(Some(9), Some(7), true));
-    // Seven calls, of which one is the giving up and two are the drops of handles: a drop of what has no listener is none. Three operations
-    // put the message, three take it, and each of the three closings is one.
-    expect_equal(&rt, &told, &[7, 9, 7, 3]);
+    (at_once, unsent, got, closed)
+}
+
+/// Without a bound the watch sees all that the calls do.
+#[test]
+fn one_log_of_all_calls(rt: HostRuntime) {
+    let tallies = Tallies::new();
+    let mut ids = EventIds::new();
+    let watch = Watcher { tallies: &tallies };
+    let ends = unbounded_watched(rt, rt.alloc(), &mut ids, watch).expect(&rt, "memory");
+    let answers = seven_calls(rt, ends);
+    expect_equal(&rt, &answers, &ANSWERS);
+    // Eight operations put the message: two loads, a block asked for, its number exchanged for none and stored, the tail exchanged, the
+    // message put, and its word written. Seven take it: three loads, the head exchanged, its word loaded, the message taken, and the read
+    // counted. Each of the three closings is one. The send tells two lists, the receive one, and the first closing four. One question and
+    // two drops touch a count. No call is told of once it is over.
+    expect_equal(&rt, &tallies.into_numbers(), &[7, 18, 7, 3, 0]);
+}
+
+/// With a bound the watch is told of each call once it is over, and sees nothing in its midst.
+#[test]
+fn one_log_of_all_calls_with_a_bound(rt: HostRuntime) {
+    let tallies = Tallies::new();
+    let mut ids = EventIds::new();
+    let watch = Watcher { tallies: &tallies };
+    let ends = bounded_watched(rt, rt.alloc(), 1, &mut ids, watch).expect(&rt, "memory");
+    let answers = seven_calls(rt, ends);
+    expect_equal(&rt, &answers, &ANSWERS);
+    expect_equal(&rt, &tallies.into_numbers(), &[0, 0, 0, 0, 7]);
 }

@@ -312,7 +312,7 @@ fn blocks<T: Drop, W: Drop, R: Wait, C: Sleeps<T, W>, S: Wakes<W>>(
 }
 
 /// What a send that blocks answers, by its last poll: a want hands the message back that stayed with it.
-fn answered<T: Drop>(
+pub fn answered<T: Drop>(
     answer: Result<(), Refused<SendError<T>>>,
     message: Option<T>,
 ) -> Result<(), Refused<SendError<T>, T>>

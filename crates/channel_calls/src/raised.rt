@@ -54,8 +54,7 @@ pub struct Counters {
     receivers: CachePadded<AtomicUsize>,
 }
 
-/// The right to the two first handles of a channel, which its counters count from the start. It comes with new counters alone, can't
-/// be copied, and is let go where the opening is refused: nobody has a handle then.
+/// The right to the two first handles of a channel, which its counts have from the start. It can't be copied, and is let go where the opening is refused: nobody has a handle then.
 #[derive(Drop)]
 pub struct Opening {
     first: (),
@@ -81,6 +80,11 @@ impl Counters {
 }
 
 impl Opening {
+    /// The same right of a channel that keeps its counts as words of its own, which begin at one each.
+    pub fn of_words() -> Opening {
+        Opening { first: () }
+    }
+
     /// The first sender and the first receiver, as they are counted.
     pub fn handles(self) -> (Raised<OfSenders>, Raised<OfReceivers>) {
         let Opening { first } = self;

@@ -3,10 +3,11 @@
 //! Whatever the cells hold: while the walk has not ended, its next item is what one receive answers, and after its end nothing is done
 //! (clause `deeds`). That it has ended is kept by the walk, so nothing comes after its end.
 
+ghost use Rattle.std.specs.Prelude.{◌≡◌, false};
 ghost use Rattle.concurrent_queue.specs.declared.cells.QueueForm.{QueueForm};
 ghost use Rattle.channel_calls.specs.Blocks.{Asked, Slept};
 ghost use Rattle.channel_calls.specs.Deeds.{Done};
-ghost use Rattle.channel_calls.specs.Taking.{WaitsForNext, IsNext};
+ghost use Rattle.channel_calls.specs.Taking.{waited_for, WaitsForNext, IsNext};
 
 use crate::blocking::recv_blocking;
 use crate::error::{RecvError, Refused};
@@ -14,6 +15,27 @@ use crate::sleeps::Sleeps;
 use event_listener::error::ListenError;
 use event_listener::wakes::Wakes;
 use std::sync::Wait;
+
+/// The next item of a walk that has not ended, by what a receive that blocks answered: only a closed and empty channel ends it.
+#[inline(always)]
+pub fn next_item<T>(
+    received: Result<T, Refused<RecvError>>,
+    ended: &mut bool,
+) -> Option<Result<T, ListenError>>
+    requires { ended.old ≡ false }
+    ensures item { waited_for result ≡ received }
+    ensures end { IsNext false result ended.new }
+{
+    match received {
+        Ok(message) => Some(Ok(message)),
+        Err(Refused::NoMemory(())) => Some(Err(ListenError::NoMemory)),
+        Err(Refused::SerialsUsedUp(())) => Some(Err(ListenError::SerialsUsedUp)),
+        Err(Refused::Plain(RecvError)) => {
+            *ended = true; // for good
+            None
+        }
+    }
+}
 
 /// The next message, for which the thread sleeps while there is none. `None` where the channel is closed and empty, which ends the
 /// walk. A refusal for memory or for serials is an item, and doesn't end it.
@@ -32,13 +54,5 @@ pub fn next_blocking<T: Drop, W: Drop, R: Wait, C: Sleeps<T, W>, S: Wakes<W>>(
     if *ended {
         return None;
     }
-    match recv_blocking(rt, cells, sink) {
-        Ok(message) => Some(Ok(message)),
-        Err(Refused::NoMemory(())) => Some(Err(ListenError::NoMemory)),
-        Err(Refused::SerialsUsedUp(())) => Some(Err(ListenError::SerialsUsedUp)),
-        Err(Refused::Plain(RecvError)) => {
-            *ended = true; // for good
-            None
-        }
-    }
+    next_item(recv_blocking(rt, cells, sink), ended)
 }

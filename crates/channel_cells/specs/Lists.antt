@@ -50,4 +50,4 @@ module _ {T W : Type 0} where
 
   -- what lies behind the lock of this number
   abbrev pub LiesThere : RuledTable T (Standing T W) OfChannel → ℕ → SeatedList T W → Type 0
-  LiesThere table which x = (x.seat.seat.table_id ≡ table.table.shared.table_id) × LiesAlone (line_at which) x.list.lists x.seat.seat.me.0.state
+  LiesThere table which x = (x.seat.seat.table_id ≡ table.table.shared.table_id) × LiesAlone (line_at which) x.list.value.lists x.seat.seat.me.0.state

@@ -26,6 +26,6 @@ pub struct CallCells<'a, T: Drop, W: Drop, R: Wait> {
 
 /// A section that has begun: the list, while nobody else has it, and the duty to give it back.
 pub(crate) struct Section<'a, T: Drop, W: Drop> {
-    pub(crate) list: List<(), W>,
+    pub(crate) list: Box<List<(), W>>,
     pub(crate) taken: Taken<'a, SeatedList<T, W>, Table<T, W>, LiesHere>,
 }

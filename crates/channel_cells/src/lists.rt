@@ -14,10 +14,10 @@ use keyed_lock::Keeps;
 /// The table of a channel.
 pub(crate) type Table<T, W> = RuledTable<T, Standing<T, W>, OfChannel>;
 
-/// A list, with the seat that says in the channel's history that it lies here.
+/// A list, with the seat that says in the channel's history that it lies here. It has a block of its own, since a section moves it.
 #[derive(Drop)]
 pub struct SeatedList<T, W: Drop> {
-    pub(crate) list: List<(), W>,
+    pub(crate) list: Box<List<(), W>>,
     pub(crate) seat: NamelessSeat<T, Standing<T, W>>,
 }
 

@@ -1,5 +1,5 @@
-//! A trace that writes down what a call did to its channel, and calls with it. By contract the lines that came are those of the deeds of
-//! the call's machine up to this answer, whatever other threads do.
+//! A trace that writes down what a call did to its channel, which has no bound, and calls with it. By contract the lines that came are
+//! those of the deeds of the call's machine up to this answer, whatever other threads do.
 
 ghost use Rattle.std.specs.Prelude.{◌≡◌};
 ghost use Rattle.channel_calls.specs.Asks.{first};
@@ -15,8 +15,8 @@ ghost use Rattle.async_channel.specs.Saw.{SeenOn};
 ghost use Rattle.channel_test_helpers.specs.declared.log.Did.TheVariants as did;
 
 use async_channel::{
-    Receiver, RecvError, Refused, Sender, Shown, Side, Sight, Telling, Trace, TryRecvError,
-    TrySendError, WaitList,
+    OfReceivers, OfSenders, RecvError, Refused, Shown, Side, Sight, Telling, Trace, Traced,
+    TryRecvError, TrySendError, WaitList, Witness,
 };
 use concurrent_queue::cells::Slot;
 use concurrent_queue::seen as queue;
@@ -120,6 +120,8 @@ impl Trace<u64> for Log {
 
     ghost slept = { λ a b. Notes did.Slept a b };
 
+    ghost called = { λ _. Unit {0} };
+
     fn saw(&mut self, _sight: &Sight<Self>, it: Shown<'_>) {
         match it {
             Shown::Enters(_) | Shown::Offers(..) => {}
@@ -134,42 +136,49 @@ impl Trace<u64> for Log {
             Shown::Slept => self.note(Did::Slept),
         }
     }
+
+    fn heard(&self, _sight: &Sight<Self>, _call: Witness<u64>)
+        ensures { Unit {0} }
+    {}
 }
 
 /// A send that doesn't wait, written down.
 pub fn try_send_logged<R: Wait + Copy>(
-    sender: &Sender<u64, R>,
+    channel: &Traced<'_, u64, R, OfSenders>,
     message: u64,
     log: Log,
 ) -> (Result<(), Refused<TrySendError<u64>, u64>>, Log)
-    ensures { SeenOn Operates Logs Enters sender.now (λ saw. WalkedTo saw (first (ask.TrySend message))) log (reply.TrySend (result.0)) (result.1) }
+    ensures { SeenOn Operates Logs Enters channel.now (λ saw. WalkedTo saw (first (ask.TrySend message))) log (reply.TrySend (result.0)) (result.1) }
 {
-    sender.traced().try_send(message, log)
+    channel.try_send(message, log)
 }
 
 /// A receive that doesn't wait, written down.
 pub fn try_recv_logged<R: Wait + Copy>(
-    receiver: &Receiver<u64, R>,
+    channel: &Traced<'_, u64, R, OfReceivers>,
     log: Log,
 ) -> (Result<u64, TryRecvError>, Log)
-    ensures { SeenOn Operates Logs Enters receiver.now.channel (λ saw. WalkedTo saw (first ask.TryRecv)) log (reply.TryRecv (result.0)) (result.1) }
+    ensures { SeenOn Operates Logs Enters channel.now (λ saw. WalkedTo saw (first ask.TryRecv)) log (reply.TryRecv (result.0)) (result.1) }
 {
-    receiver.traced().try_recv(log)
+    channel.try_recv(log)
 }
 
 /// A closing, written down.
-pub fn close_logged<R: Wait + Copy>(sender: &Sender<u64, R>, log: Log) -> (bool, Log)
-    ensures { SeenOn Operates Logs Enters sender.now (λ saw. WalkedTo saw (first ask.Close)) log (reply.Closed (result.0)) (result.1) }
+pub fn close_logged<R: Wait + Copy>(
+    channel: &Traced<'_, u64, R, OfSenders>,
+    log: Log,
+) -> (bool, Log)
+    ensures { SeenOn Operates Logs Enters channel.now (λ saw. WalkedTo saw (first ask.Close)) log (reply.Closed (result.0)) (result.1) }
 {
-    sender.traced().close(log)
+    channel.close(log)
 }
 
 /// A receive that blocks its thread, written down.
 pub fn recv_blocking_logged<R: Wait + Copy>(
-    receiver: &Receiver<u64, R>,
+    channel: &Traced<'_, u64, R, OfReceivers>,
     log: Log,
 ) -> (Result<u64, Refused<RecvError>>, Log)
-    ensures { SeenOn Operates Logs Enters receiver.now.channel (λ saw begin r end. Blocks saw (λ _ a b. Notes did.Parked a b) (λ a b. Notes did.Slept a b) blocking.Receive begin r nothing_kept end) log (reply.RecvPoll (poll.Ready (result.0))) (result.1) }
+    ensures { SeenOn Operates Logs Enters channel.now (λ saw begin r end. Blocks saw (λ _ a b. Notes did.Parked a b) (λ a b. Notes did.Slept a b) blocking.Receive begin r nothing_kept end) log (reply.RecvPoll (poll.Ready (result.0))) (result.1) }
 {
-    receiver.traced().recv_blocking(log)
+    channel.recv_blocking(log)
 }

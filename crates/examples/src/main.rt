@@ -25,6 +25,7 @@ mod timeouts;
 mod two_threads;
 mod waiting;
 pub mod waybills;
+mod witnesses;
 
 use async_channel::Runtime;
 use event_listener::EventIds;
@@ -58,6 +59,7 @@ fn show<R: Runtime + Print>(rt: R, ids: &mut EventIds) -> io::Result<bool> {
         ("giving up", cancel::right(rt, alloc, ids)),
         ("hub", hub::reached(rt, alloc, ids)),
         ("single calls", calls::right(rt, alloc, ids)),
+        ("witnesses", witnesses::came(rt, alloc, ids)),
     ];
     for (name, number) in lines {
         let Some(number) = number else {

@@ -4,24 +4,44 @@ ghost use Rattle.std.specs.Prelude.{◌≡◌, false};
 ghost use Rattle.std.specs.Iterator.{at_most};
 ghost use Rattle.async_channel.specs.Iter.{turns_left, WaitsOnce, TriesOnce};
 
+use crate::bed::Bed;
+use crate::calls::blocking;
 use crate::handles::receiver::Receiver;
 use crate::handles::turns::Turns;
+use crate::link::Link;
 use crate::open::no_trace::NoTrace;
-use crate::seen::Trace;
+use crate::seen::{self, Seen, Trace};
+use channel_calls::taking::next_item;
 use event_listener::error::ListenError;
 use std::sync::Wait;
 
 impl<T: Drop, R: Wait + Copy, S: Trace<T> + Copy> Receiver<T, R, S> {
-    ghost use Rattle.channel_calls.specs.Taking.{IsNext, WaitsForNext};
-    ghost use Rattle.async_channel.specs.Watched.{WasSeen};
+    ghost use Rattle.channel_calls.specs.Taking.{IsNext};
+    ghost use Rattle.async_channel.specs.Iter.{GivesNext};
 
     /// The next item of a walk that waits, which has ended or not.
     #[inline(always)]
     fn next_item(&self, ended: &mut bool) -> Option<Result<T, ListenError>>
-        ensures walked { WasSeen S.did S.shown S.entered self.now.channel (λ saw. WaitsForNext saw S.parked S.slept ended.old) result }
+        ensures made { GivesNext S.did S.shown S.entered S.called S.parked S.slept self.now.channel ended.old result }
         ensures end { IsNext ended.old result ended.new }
     {
-        self.traced().next_blocking(ended, self.watch).0
+        let rt = &self.rt;
+        match &self.counted.link {
+            Link::Bounded(channel) => {
+                if *ended {
+                    return None;
+                }
+                let received = seen::answer(
+                    &self.watch,
+                    channel.recv_blocking(rt, channel.table.new_seat()),
+                );
+                next_item(received, ended)
+            }
+            Link::Unbounded(shared) => {
+                let seen = Seen::cells(shared, rt, Bed::new(), self.watch);
+                blocking::next_blocking(rt, ended, seen).0
+            }
+        }
     }
 }
 
@@ -51,7 +71,7 @@ impl<'a, T: Drop, R: Wait + Copy, S: Trace<T> + Copy> Iterator for Iter<'a, T, R
     type Item = Result<T, ListenError>;
 
     // So a `for` over it knows what each item is.
-    ghost next_gives = { λ s item t. (t.receiver.now.channel ≡ s.receiver.now.channel) × WaitsOnce S.did S.shown S.entered S.parked S.slept s.receiver.now.channel s.ended item t.ended };
+    ghost next_gives = { λ s item t. (t.receiver.now.channel ≡ s.receiver.now.channel) × WaitsOnce S.did S.shown S.entered S.called S.parked S.slept s.receiver.now.channel s.ended item t.ended };
 
     ghost remaining = { λ s. at_most (turns_left s.turns) };
 
@@ -87,7 +107,7 @@ pub struct IntoIter<T: Drop, R: Wait + Copy, S: Trace<T> + Copy = NoTrace> {
 impl<T: Drop, R: Wait + Copy, S: Trace<T> + Copy> Iterator for IntoIter<T, R, S> {
     type Item = Result<T, ListenError>;
 
-    ghost next_gives = { λ s item t. (t.receiver ≡ s.receiver) × WaitsOnce S.did S.shown S.entered S.parked S.slept s.receiver.channel s.ended item t.ended };
+    ghost next_gives = { λ s item t. (t.receiver ≡ s.receiver) × WaitsOnce S.did S.shown S.entered S.called S.parked S.slept s.receiver.channel s.ended item t.ended };
 
     ghost remaining = { λ s. at_most (turns_left s.turns) };
 
@@ -136,7 +156,7 @@ impl<'a, T: Drop, R: Wait + Copy, S: Trace<T> + Copy> TryIter<'a, T, R, S> {
 impl<'a, T: Drop, R: Wait + Copy, S: Trace<T> + Copy> Iterator for TryIter<'a, T, R, S> {
     type Item = T;
 
-    ghost next_gives = { λ s item t. (t.receiver.now.channel ≡ s.receiver.now.channel) × TriesOnce S.did S.shown S.entered s.receiver.now.channel item };
+    ghost next_gives = { λ s item t. (t.receiver.now.channel ≡ s.receiver.now.channel) × TriesOnce S.did S.shown S.entered S.called s.receiver.now.channel item };
 
     ghost remaining = { λ s. at_most (turns_left s.turns) };
 

@@ -5,26 +5,37 @@ ghost use Rattle.channel_calls.specs.Blocks.{Blocks};
 ghost use Rattle.channel_calls.specs.Turns.{nothing_kept};
 ghost use Rattle.channel_calls.specs.Walks.{WalkedTo};
 ghost use Rattle.channel_calls.specs.declared.ask.ChannelAsk.TheVariants as ask;
-ghost use Rattle.channel_calls.specs.declared.blocked.Blocked.TheVariants as blocking;
+ghost use Rattle.channel_calls.specs.declared.blocked.Blocked.TheVariants as ways;
 ghost use Rattle.channel_calls.specs.declared.reply.Reply.TheVariants as reply;
 ghost use Rattle.channel_calls.specs.declared.stage.Side.TheVariants as side;
 ghost use Rattle.futures.specs.declared.task.Poll.TheVariants as poll;
 ghost use Rattle.async_channel.specs.Counts.{Clones};
+ghost use Rattle.channel_cells.specs.Calls.{many_reply, filled_reply};
+ghost use Rattle.async_channel.specs.Called.{ClonedSo, HasReceived, WasCalled, WasMade, WasPolled, WasTold};
+ghost use Rattle.channel_history.specs.Party.{fresh};
+ghost use Rattle.async_channel.specs.Forms.{AreCallsOf};
+ghost use Rattle.async_channel.specs.Handles.{handle_of};
+ghost use Rattle.async_channel.specs.Parties.{IsPartyOf};
 ghost use Rattle.async_channel.specs.Several.{ReceivesMany};
 ghost use Rattle.async_channel.specs.Watched.{WasSeen};
 
+use crate::bed::Bed;
+use crate::by_form::Calls;
+use crate::calls::{self, blocking};
 use crate::counted::Counted;
 use crate::handles::iter::{Iter, TryIter};
 use crate::handles::recv::Recv;
 use crate::handles::weak::WeakReceiver;
+use crate::link::Link;
 use crate::open::no_trace::NoTrace;
 use crate::polls::line::OfStreams;
 use crate::polls::waits::Waits;
-use crate::seen::Trace;
-use crate::traced::Traced;
+use crate::seen::{self, Seen, Trace};
 use channel_calls::error::{HandleError, RecvError, Refused, TryRecvError};
 use channel_calls::kind::OfReceivers;
+use channel_calls::stage::Side;
 use event_listener::error::ListenError;
+use event_listener::waking::WakeNow;
 use futures::task::{Context, Poll};
 use std::fmt;
 use std::marker::Model;
@@ -40,19 +51,21 @@ pub struct Receiver<T: Drop, R: Wait + Copy, S: Trace<T> + Copy = NoTrace> {
     pub(crate) counted: Counted<T, OfReceivers>,
     pub(crate) rt: R,
     pub(crate) watch: S,
-    pub(crate) waits: Waits<OfStreams>,
+    pub(crate) waits: Waits<T, OfStreams>,
+    ghost party: { IsPartyOf (handle_of counted.link).table waits.seat waits.key },
 }
 
 impl<T: Drop, R: Wait + Copy, S: Trace<T> + Copy> Model for Receiver<T, R, S> {
     ghost use Rattle.async_channel.specs.Handles.{Receiving, handle_of};
+    ghost use Rattle.async_channel.specs.Parties.{party_of};
 
-    ghost Value = { Receiving };
+    ghost Value = { Receiving T };
 
-    ghost view = { λ h. record { channel = handle_of h.counted.link; key = h.waits.key } };
+    ghost view = { λ h. record { channel = handle_of h.counted.link; key = h.waits.key; party = party_of h.waits.seat } };
 }
 
 impl<T: Drop, R: Wait + Copy, S: Trace<T> + Copy> Receiver<T, R, S> {
-    ghost use Rattle.std.specs.Prelude.{◌≡◌, ◌<◌, ◌≤◌, [], false, length, Err, IfOk, IfErr, OnErr};
+    ghost use Rattle.std.specs.Prelude.{◌≡◌, ◌<◌, ◌≤◌, [], false, length, Err, IfOk, IfErr, OnErr, MatchOption};
     ghost use Rattle.std.specs.Vec.{vec_capacity, vec_ptr};
     ghost use Rattle.channel_calls.specs.Filling.{Fills, room_in, StandsBehind};
     ghost use Rattle.async_channel.specs.Handles.{handle_of, new_receiving, new_listening};
@@ -68,12 +81,13 @@ impl<T: Drop, R: Wait + Copy, S: Trace<T> + Copy> Receiver<T, R, S> {
         }
     }
 
-    /// The calls of this receiver with a trace of the caller's, which each call takes and gives back. Own to this project.
+    /// The calls of this receiver with what shows that they were made: with a bound a witness that each call gives, and without one a trace
+    /// of the caller's. Own to this project.
     #[inline(always)]
-    pub fn traced(&self) -> Traced<'_, T, R, OfReceivers>
-        ensures { result ≡ self.now.channel }
+    pub fn calls(&self) -> Calls<'_, T, R, OfReceivers>
+        ensures { AreCallsOf self.now.channel result }
     {
-        Traced::new(&self.counted, &self.rt)
+        self.counted.calls(&self.rt)
     }
 
     /// Takes the oldest message.
@@ -89,9 +103,21 @@ impl<T: Drop, R: Wait + Copy, S: Trace<T> + Copy> Receiver<T, R, S> {
     /// let over = receiver.try_recv().err()?.is_closed(); // true
     /// ```
     pub fn try_recv(&self) -> Result<T, TryRecvError>
-        ensures walked { WasSeen S.did S.shown S.entered self.now.channel (λ saw. WalkedTo saw (first ask.TryRecv)) (reply.TryRecv result) }
+        ensures made { WasMade S.did S.shown S.entered S.called self.now.channel ask.TryRecv (reply.TryRecv result) }
     {
-        self.traced().try_recv(self.watch).0
+        let rt = &self.rt;
+        match &self.counted.link {
+            Link::Bounded(channel) => seen::answer(
+                &self.watch,
+                channel
+                    .table
+                    .try_recv(rt, channel.table.new_seat(), &mut WakeNow { rt }),
+            ),
+            Link::Unbounded(shared) => calls::try_recv(
+                rt,
+                Seen::cells(shared, rt, (), self.watch),
+            ).0,
+        }
     }
 
     /// Takes the oldest messages, at most `limit`, in order: as many as there are, or as are wanted.
@@ -119,13 +145,32 @@ impl<T: Drop, R: Wait + Copy, S: Trace<T> + Copy> Receiver<T, R, S> {
     /// batch.len() == 2 && batch.first() == Some(&1) && receiver.len() == 1 // true
     /// ```
     pub fn recv_many(&self, limit: usize) -> Result<Vec<T>, Refused<TryRecvError>>
-        ensures walked { WasSeen S.did S.shown S.entered self.now.channel (λ saw. ReceivesMany saw limit) result }
+        ensures made { MatchOption self.now.channel.table (WasSeen S.did S.shown S.entered self.now.channel (λ saw. ReceivesMany saw limit) result) (λ table. WasCalled S.called table (ask.RecvMany limit) (many_reply result)) }
         ensures most { IfOk result (λ messages. length messages.items ≤ limit) }
         ensures none { IfOk result (λ messages. messages.items ≡ [] → limit ≡ 0) }
         ensures wanted { OnErr result (0 < limit) }
         ensures reason { result ≡ Err (Refused.SerialsUsedUp tt) → ⊥ }
     {
-        self.traced().recv_many(limit, self.watch).0
+        let rt = &self.rt;
+        match &self.counted.link {
+            Link::Bounded(channel) => seen::answer(
+                &self.watch,
+                channel.table.recv_many(
+                    rt,
+                    channel.table.new_seat(),
+                    limit,
+                    channel.alloc,
+                    &mut WakeNow { rt },
+                ),
+            ),
+            Link::Unbounded(shared) => calls::recv_many(
+                rt,
+                limit,
+                shared.alloc,
+                Seen::cells(shared, rt, (), self.watch),
+            )
+            .0,
+        }
     }
 
     /// Takes the oldest messages into the room that is there, behind what is in it, in order: as many as there are, or as fit. It gives
@@ -145,7 +190,7 @@ impl<T: Drop, R: Wait + Copy, S: Trace<T> + Copy> Receiver<T, R, S> {
     /// }
     /// ```
     pub fn recv_many_into(&self, into: &mut Vec<T>) -> Result<usize, TryRecvError>
-        ensures walked { WasSeen S.did S.shown S.entered self.now.channel (λ saw begin r end. Fills saw (room_in into.old) into.old.items begin r into.new.items end) result }
+        ensures made { MatchOption self.now.channel.table (WasSeen S.did S.shown S.entered self.now.channel (λ saw begin r end. Fills saw (room_in into.old) into.old.items begin r into.new.items end) result) (λ table. WasCalled S.called table (ask.RecvMany (room_in into.old)) (filled_reply result into.new.items)) }
         ensures taken { StandsBehind into.old.items result into.new.items }
         ensures most { IfOk result (λ n. n ≤ room_in into.old) }
         ensures none { IfOk result (λ n. n ≡ 0 → room_in into.old ≡ 0) }
@@ -153,7 +198,20 @@ impl<T: Drop, R: Wait + Copy, S: Trace<T> + Copy> Receiver<T, R, S> {
         ensures room { vec_capacity into.new ≡ vec_capacity into.old }
         ensures in_place { vec_ptr into.new ≡ vec_ptr into.old }
     {
-        self.traced().recv_many_into(into, self.watch).0
+        let rt = &self.rt;
+        match &self.counted.link {
+            Link::Bounded(channel) => seen::answer(
+                &self.watch,
+                channel
+                    .table
+                    .recv_many_into(rt, channel.table.new_seat(), into, &mut WakeNow { rt }),
+            ),
+            Link::Unbounded(shared) => calls::recv_many_into(
+                rt,
+                into,
+                Seen::cells(shared, rt, (), self.watch),
+            ).0,
+        }
     }
 
     /// A receive that waits for a message: nothing is done until it is polled. It is refused where the channel is closed and empty; and
@@ -175,9 +233,19 @@ impl<T: Drop, R: Wait + Copy, S: Trace<T> + Copy> Receiver<T, R, S> {
     /// Refused where the channel is closed and empty, or where what a wait needs was refused: memory, or a serial of a listener.
     /// As `async-channel` 2.5.0, but for the wants.
     pub fn recv_blocking(&self) -> Result<T, Refused<RecvError>>
-        ensures walked { WasSeen S.did S.shown S.entered self.now.channel (λ saw begin r end. Blocks saw S.parked S.slept blocking.Receive begin r nothing_kept end) (reply.RecvPoll (poll.Ready result)) }
+        ensures made { MatchOption self.now.channel.table (WasSeen S.did S.shown S.entered self.now.channel (λ saw begin r end. Blocks saw S.parked S.slept ways.Receive begin r nothing_kept end) (reply.RecvPoll (poll.Ready result))) (λ table. WasTold S.called (HasReceived table fresh result)) }
     {
-        self.traced().recv_blocking(self.watch).0
+        let rt = &self.rt;
+        match &self.counted.link {
+            Link::Bounded(channel) => seen::answer(
+                &self.watch,
+                channel.recv_blocking(rt, channel.table.new_seat()),
+            ),
+            Link::Unbounded(shared) => blocking::recv_blocking(
+                rt,
+                Seen::cells(shared, rt, Bed::new(), self.watch),
+            ).0,
+        }
     }
 
     /// The messages one after another, each of which is waited for as by [`recv_blocking`](Receiver::recv_blocking). It ends where the
@@ -219,68 +287,68 @@ impl<T: Drop, R: Wait + Copy, S: Trace<T> + Copy> Receiver<T, R, S> {
     /// Closes the channel: nothing more is sent, and what was sent can still be received. True in the one call that closed it;
     /// all who wait are woken then. It may wait for the locks of those who wait. As `async-channel` 2.5.0.
     pub fn close(&self) -> bool
-        ensures walked { WasSeen S.did S.shown S.entered self.now.channel (λ saw. WalkedTo saw (first ask.Close)) (reply.Closed result) }
+        ensures made { WasMade S.did S.shown S.entered S.called self.now.channel ask.Close (reply.Closed result) }
     {
-        self.traced().close(self.watch).0
+        self.counted.close(&self.rt, self.watch)
     }
 
     /// How many messages the channel held at a moment of the call. It may wait, since it asks again where others came between. As
     /// `async-channel` 2.5.0.
     pub fn len(&self) -> usize
-        ensures walked { WasSeen S.did S.shown S.entered self.now.channel (λ saw. WalkedTo saw (first ask.Len)) (reply.Count result) }
+        ensures made { WasMade S.did S.shown S.entered S.called self.now.channel ask.Len (reply.Count result) }
     {
-        self.traced().len(self.watch).0
+        self.counted.len(&self.rt, self.watch)
     }
 }
 
 // Questions that wait for nobody.
 impl<T: Drop, R: Wait + Copy, S: Trace<T> + Copy> Receiver<T, R, S> {
-    ghost use Rattle.std.specs.Prelude.{◌≡◌, ◌↔◌, IsTrue, None, false};
+    ghost use Rattle.std.specs.Prelude.{◌≡◌, ◌↔◌, IsTrue, None, false, MatchOption};
     ghost use Rattle.concurrent_queue.specs.Replies.{room_of};
 
     /// Whether the channel is closed. It waits for nobody. As `async-channel` 2.5.0.
     pub fn is_closed(&self) -> bool
-        ensures walked { WasSeen S.did S.shown S.entered self.now.channel (λ saw. WalkedTo saw (first ask.IsClosed)) (reply.Flag result) }
+        ensures made { WasMade S.did S.shown S.entered S.called self.now.channel ask.IsClosed (reply.Flag result) }
     {
-        self.traced().is_closed(self.watch).0
+        self.counted.is_closed(self.watch)
     }
 
     /// Whether the channel holds no message. It waits for nobody. As `async-channel` 2.5.0.
     pub fn is_empty(&self) -> bool
-        ensures walked { WasSeen S.did S.shown S.entered self.now.channel (λ saw. WalkedTo saw (first ask.IsEmpty)) (reply.Flag result) }
+        ensures made { WasMade S.did S.shown S.entered S.called self.now.channel ask.IsEmpty (reply.Flag result) }
     {
-        self.traced().is_empty(self.watch).0
+        self.counted.is_empty(self.watch)
     }
 
     /// Whether the channel holds as many messages as it can; one without a bound never does. It waits for nobody. As
     /// `async-channel` 2.5.0.
     pub fn is_full(&self) -> bool
-        ensures walked { WasSeen S.did S.shown S.entered self.now.channel (λ saw. WalkedTo saw (first ask.IsFull)) (reply.Flag result) }
+        ensures made { WasMade S.did S.shown S.entered S.called self.now.channel ask.IsFull (reply.Flag result) }
         ensures bound { room_of self.now.channel.form ≡ None → result ≡ false }
     {
-        self.traced().is_full(self.watch).0
+        self.counted.is_full(self.watch)
     }
 
     /// How many messages the channel can hold, if there is a bound. It waits for nobody. As `async-channel` 2.5.0.
     pub fn capacity(&self) -> Option<usize>
-        ensures walked { WasSeen S.did S.shown S.entered self.now.channel (λ saw. WalkedTo saw (first ask.Capacity)) (reply.Cap result) }
+        ensures made { MatchOption self.now.channel.table (WasSeen S.did S.shown S.entered self.now.channel (λ saw. WalkedTo saw (first ask.Capacity)) (reply.Cap result)) (λ _. Unit {0}) }
         ensures room { result ≡ room_of self.now.channel.form }
     {
-        self.traced().capacity(self.watch).0
+        self.counted.capacity(self.watch)
     }
 
     /// How many senders live. It waits for nobody. As `async-channel` 2.5.0.
     pub fn sender_count(&self) -> usize
-        ensures walked { WasSeen S.did S.shown S.entered self.now.channel (λ saw. WalkedTo saw (first (ask.HandleCount side.Senders))) (reply.Count result) }
+        ensures made { WasMade S.did S.shown S.entered S.called self.now.channel (ask.HandleCount side.Senders) (reply.Count result) }
     {
-        self.traced().sender_count(self.watch).0
+        self.counted.handle_count(Side::Senders, self.watch)
     }
 
     /// How many receivers live. It waits for nobody. As `async-channel` 2.5.0.
     pub fn receiver_count(&self) -> usize
-        ensures walked { WasSeen S.did S.shown S.entered self.now.channel (λ saw. WalkedTo saw (first (ask.HandleCount side.Receivers))) (reply.Count result) }
+        ensures made { WasMade S.did S.shown S.entered S.called self.now.channel (ask.HandleCount side.Receivers) (reply.Count result) }
     {
-        self.traced().receiver_count(self.watch).0
+        self.counted.handle_count(Side::Receivers, self.watch)
     }
 
     /// Whether both are handles of one channel: whether the identities are equal. It waits for nobody. As
@@ -297,9 +365,9 @@ impl<T: Drop, R: Wait + Copy, S: Trace<T> + Copy> Receiver<T, R, S> {
     /// Whether this stream has ended: whether the channel is closed, and then whether it is empty. It waits for nobody. As
     /// `FusedStream` of `async-channel` 2.5.0 says it.
     pub fn is_terminated(&self) -> bool
-        ensures walked { WasSeen S.did S.shown S.entered self.now.channel (λ saw. WalkedTo saw (first ask.IsTerminated)) (reply.Flag result) }
+        ensures made { WasMade S.did S.shown S.entered S.called self.now.channel ask.IsTerminated (reply.Flag result) }
     {
-        self.traced().is_terminated(self.watch).0
+        self.counted.is_terminated(self.watch)
     }
 }
 
@@ -318,20 +386,24 @@ impl<T: Drop, R: Wait + Copy, S: Trace<T> + Copy> Receiver<T, R, S> {
     /// next item is want of memory. A listener that is refused memory or a serial is such an item too. It may wait for another call's end
     /// and for the locks of those who wait. As `async-channel` 2.5.0, but for the refusals.
     pub fn poll_next(&mut self, cx: &mut Context<'_>) -> Poll<Option<Result<T, ListenError>>>
-        ensures walked { WasSeen S.did S.shown S.entered self.old.channel (λ saw begin r end. Polls saw (next_ask self.old.key) begin r self.new.key end) (reply.Next result) }
+        ensures made { WasPolled S.did S.shown S.entered self.old.channel self.old.party (next_ask self.old.key) (reply.Next result) self.new.key self.new.party }
         ensures listed { is_some self.new.key ≡ is_pending result }
         ensures channel { self.new.channel ≡ self.old.channel }
         ensures armed { OnPending result (IsArmed cx.new) }
         ensures kept { Keeps cx.old cx.new }
     {
-        let watch = self.watch;
-        self.poll_next_traced(cx, watch).0
+        let (rt, watch) = (self.rt, self.watch);
+        let counted = &self.counted;
+        match &counted.link {
+            Link::Bounded(channel) => channel.poll_next(&rt, &mut self.waits, cx),
+            Link::Unbounded(shared) => shared.poll_next(&rt, &mut self.waits, cx, watch).0,
+        }
     }
 }
 
 // More handles.
 impl<T: Drop, R: Wait + Copy, S: Trace<T> + Copy> Receiver<T, R, S> {
-    ghost use Rattle.std.specs.Prelude.{◌≡◌, IfOk, IfErr};
+    ghost use Rattle.std.specs.Prelude.{◌≡◌, IfOk, IfErr, MatchOption};
     ghost use Rattle.async_channel.specs.Handles.{new_receiving};
 
     /// One more receiver of this channel. `Clone` of `async-channel` 2.5.0, which ends the program where this is refused.
@@ -340,10 +412,13 @@ impl<T: Drop, R: Wait + Copy, S: Trace<T> + Copy> Receiver<T, R, S> {
     /// changed then: no step of a call that is refused raises the count, and what was raised can't be let go but by a handle's drop.
     /// It may wait for other clonings to end.
     pub fn try_clone(&self) -> Result<Receiver<T, R, S>, HandleError>
-        ensures walked { WasSeen S.did S.shown S.entered self.now.channel (λ saw. Clones saw side.Receivers) result }
+        ensures walked { MatchOption self.now.channel.table (WasSeen S.did S.shown S.entered self.now.channel (λ saw. Clones saw side.Receivers) result) (λ table. ClonedSo S.called table side.Receivers result) }
         ensures made { IfOk result (λ more. more ≡ new_receiving self.now.channel) }
     {
-        self.try_clone_traced(self.watch).0
+        match Counted::one_more(&self.counted.link, &self.rt, self.watch) {
+            Ok(counted) => Ok(Receiver::new(self.rt, self.watch, counted)),
+            Err(error) => Err(error),
+        }
     }
 
     /// A handle that doesn't keep the channel open. It waits for nobody, and is never refused for too many handles. As
@@ -373,6 +448,6 @@ impl<T: Drop, R: Wait + Copy, S: Trace<T> + Copy> Drop for Receiver<T, R, S> {
             watch,
             waits,
         } = self;
-        let _ = counted.lower(&rt, waits, watch);
+        counted.lower(&rt, waits, watch);
     }
 }

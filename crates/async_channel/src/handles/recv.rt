@@ -3,26 +3,27 @@
 ghost use Rattle.std.specs.Prelude.{◌≡◌, None, is_some, ⊤};
 ghost use Rattle.futures.specs.Poll.{IfReady, OnPending};
 ghost use Rattle.futures.specs.Task.{Covers, IsArmed, Keeps};
-ghost use Rattle.channel_calls.specs.Asks.{first};
 ghost use Rattle.channel_calls.specs.Calls.{recv_ask};
 ghost use Rattle.channel_calls.specs.Listed.{is_pending};
-ghost use Rattle.channel_calls.specs.Walks.{WalkedTo};
 ghost use Rattle.channel_calls.specs.declared.ask.ChannelAsk.TheVariants as ask;
 ghost use Rattle.channel_calls.specs.declared.reply.Reply.TheVariants as reply;
 ghost use Rattle.channel_calls.specs.declared.stage.WaitList.TheVariants as line;
 ghost use Rattle.async_channel.specs.Handles.{new_listening};
-ghost use Rattle.async_channel.specs.Polls.{MayStillGive, Polls};
-ghost use Rattle.async_channel.specs.Watched.{WasSeen};
+ghost use Rattle.async_channel.specs.Called.{WasMadeBy, WasPolled};
+ghost use Rattle.async_channel.specs.Parties.{IsPartyOf};
+ghost use Rattle.async_channel.specs.Polls.{MayStillGive};
 
 use crate::handles::receiver::Receiver;
+use crate::link::Link;
 use crate::open::no_trace::NoTrace;
 use crate::polls::line::OfReceives;
 use crate::polls::waits::Waits;
-use crate::seen::Trace;
+use crate::seen::{self, Trace};
 use channel_calls::error::{RecvError, Refused};
 use futures::Future;
 use futures::task::{Context, Poll};
 use std::marker::Model;
+use std::mem;
 use std::sync::Wait;
 
 /// A receive of one message, which waits for it. One that has given a message receives another when it is polled again.
@@ -32,15 +33,17 @@ use std::sync::Wait;
 /// listener that is listed for it. As `async-channel` 2.5.0.
 pub struct Recv<'a, T: Drop, R: Wait + Copy, S: Trace<T> + Copy = NoTrace> {
     pub(crate) receiver: &'a Receiver<T, R, S>,
-    pub(crate) waits: Waits<OfReceives>,
+    pub(crate) waits: Waits<T, OfReceives>,
+    ghost party: { IsPartyOf receiver.now.channel.table waits.seat waits.key },
 }
 
 impl<'a, T: Drop, R: Wait + Copy, S: Trace<T> + Copy> Model for Recv<'a, T, R, S> {
     ghost use Rattle.async_channel.specs.Handles.{Listening};
+    ghost use Rattle.async_channel.specs.Parties.{party_of};
 
-    ghost Value = { Listening };
+    ghost Value = { Listening T };
 
-    ghost view = { λ o. record { channel = o.receiver.now.channel; key = o.waits.key } };
+    ghost view = { λ o. record { channel = o.receiver.now.channel; key = o.waits.key; party = party_of o.waits.seat } };
 }
 
 impl<'a, T: Drop, R: Wait + Copy, S: Trace<T> + Copy> Recv<'a, T, R, S> {
@@ -59,22 +62,38 @@ impl<'a, T: Drop, R: Wait + Copy, S: Trace<T> + Copy> Recv<'a, T, R, S> {
     /// first. Where none is got nothing is tried, and the answer is want of memory. It may wait for another call's end and for the locks
     /// of those who wait.
     pub fn poll(&mut self, cx: &mut Context<'_>) -> Poll<Result<T, Refused<RecvError>>>
-        ensures walked { WasSeen S.did S.shown S.entered self.old.channel (λ saw begin r end. Polls saw (recv_ask self.old.key) begin r self.new.key end) (reply.RecvPoll result) }
+        ensures made { WasPolled S.did S.shown S.entered self.old.channel self.old.party (recv_ask self.old.key) (reply.RecvPoll result) self.new.key self.new.party }
         ensures listed { is_some self.new.key ≡ is_pending result }
         ensures channel { self.new.channel ≡ self.old.channel }
         ensures armed { OnPending result (IsArmed cx.new) }
         ensures kept { Keeps cx.old cx.new }
     {
         let receiver = self.receiver;
-        self.poll_traced(cx, receiver.watch).0
+        match &receiver.counted.link {
+            Link::Bounded(channel) => channel.poll_recv(&receiver.rt, &mut self.waits, cx),
+            Link::Unbounded(shared) => {
+                shared
+                    .poll_recv(&receiver.rt, &mut self.waits, cx, receiver.watch)
+                    .0
+            }
+        }
     }
 
     /// Gives it up, as its drop does. It may wait for the lock of those who wait. Own to this project.
-    pub fn give_up(self)
-        ensures walked { WasSeen S.did S.shown S.entered self.entry.channel (λ saw. WalkedTo saw (first (ask.GiveUp line.Receives None self.entry.key))) (reply.GivenUp None) }
+    pub fn give_up(mut self)
+        ensures made { WasMadeBy S.did S.shown S.entered S.called self.entry.channel self.entry.party (ask.GiveUp line.Receives None self.entry.key) (reply.GivenUp None) }
     {
         let receiver = self.receiver;
-        let _ = self.give_up_traced(receiver.watch);
+        let waits = mem::replace(&mut self.waits, Waits::new());
+        match &receiver.counted.link {
+            Link::Bounded(channel) => {
+                let left = channel.give_up(&receiver.rt, None, waits);
+                let _ = seen::answer(&receiver.watch, left);
+            }
+            Link::Unbounded(shared) => {
+                let _ = shared.leave(&receiver.rt, waits, receiver.watch);
+            }
+        }
     }
 }
 
@@ -87,7 +106,7 @@ impl<T: Drop, R: Wait + Copy, S: Trace<T> + Copy> Future for Recv<'_, T, R, S> {
         ensures polled_on { OnPending result ⊤ }
         ensures same { MayStillGive result }
         ensures registered { OnPending result (Covers cx.new (λ _. ⊥)) }
-        ensures walked { WasSeen S.did S.shown S.entered self.old.channel (λ saw begin r end. Polls saw (recv_ask self.old.key) begin r self.new.key end) (reply.RecvPoll result) }
+        ensures made { WasPolled S.did S.shown S.entered self.old.channel self.old.party (recv_ask self.old.key) (reply.RecvPoll result) self.new.key self.new.party }
         ensures listed { is_some self.new.key ≡ is_pending result }
         ensures channel { self.new.channel ≡ self.old.channel }
         ensures armed { OnPending result (IsArmed cx.new) }
@@ -100,7 +119,11 @@ impl<T: Drop, R: Wait + Copy, S: Trace<T> + Copy> Future for Recv<'_, T, R, S> {
 impl<T: Drop, R: Wait + Copy, S: Trace<T> + Copy> Drop for Recv<'_, T, R, S> {
     fn drop(self) {
         let Recv { receiver, waits } = self;
-        let shared = &receiver.counted.link.shared;
-        let _ = shared.let_go(&receiver.rt, waits, receiver.watch);
+        match &receiver.counted.link {
+            Link::Bounded(channel) => channel.let_go(&receiver.rt, waits, receiver.watch),
+            Link::Unbounded(shared) => {
+                let _ = shared.let_go(&receiver.rt, waits, receiver.watch);
+            }
+        }
     }
 }

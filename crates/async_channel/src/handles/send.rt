@@ -1,27 +1,27 @@
 //! The polled send.
 
-ghost use Rattle.std.specs.Prelude.{◌≡◌, Some, is_none, is_some, ⊤};
+ghost use Rattle.std.specs.Prelude.{◌≡◌, Some, None, is_none, is_some, ⊤};
 ghost use Rattle.futures.specs.Poll.{IfReady, OnPending};
 ghost use Rattle.futures.specs.Task.{Covers, IsArmed, Keeps};
-ghost use Rattle.channel_calls.specs.Asks.{first};
 ghost use Rattle.channel_calls.specs.Calls.{SendsOn, send_ask};
-ghost use Rattle.channel_calls.specs.Walks.{WalkedTo};
 ghost use Rattle.channel_calls.specs.declared.ask.ChannelAsk.TheVariants as ask;
 ghost use Rattle.channel_calls.specs.declared.reply.Reply.TheVariants as reply;
 ghost use Rattle.channel_calls.specs.declared.stage.WaitList.TheVariants as line;
 ghost use Rattle.async_channel.specs.Handles.{new_sending, waits_on};
-ghost use Rattle.async_channel.specs.Polls.{PollsSend};
-ghost use Rattle.async_channel.specs.Watched.{WasSeen};
+ghost use Rattle.async_channel.specs.Called.{WasMadeBy, WasPolledWith};
+ghost use Rattle.async_channel.specs.Parties.{IsPartyOf};
 
 use crate::handles::sender::Sender;
+use crate::link::Link;
 use crate::open::no_trace::NoTrace;
 use crate::polls::line::OfSends;
 use crate::polls::waits::Waits;
-use crate::seen::Trace;
+use crate::seen::{self, Trace};
 use channel_calls::error::{Refused, SendError};
 use futures::Future;
 use futures::task::{Context, Poll};
 use std::marker::Model;
+use std::mem;
 use std::sync::Wait;
 
 /// A send of one message, which waits for a place. It has finished once it has no message. Contracts see its message and the
@@ -31,15 +31,18 @@ use std::sync::Wait;
 pub struct Send<'a, T: Drop, R: Wait + Copy, S: Trace<T> + Copy = NoTrace> {
     pub(crate) sender: &'a Sender<T, R, S>,
     pub(crate) message: Option<T>,
-    pub(crate) waits: Waits<OfSends>,
+    pub(crate) waits: Waits<T, OfSends>,
+    ghost party: { IsPartyOf sender.now.table waits.seat waits.key },
+    ghost finished: { message ≡ None → waits.key ≡ None },
 }
 
 impl<'a, T: Drop, R: Wait + Copy, S: Trace<T> + Copy> Model for Send<'a, T, R, S> {
     ghost use Rattle.async_channel.specs.Handles.{Sending};
+    ghost use Rattle.async_channel.specs.Parties.{party_of};
 
     ghost Value = { Sending T };
 
-    ghost view = { λ s. record { channel = s.sender.now; message = s.message; key = s.waits.key } };
+    ghost view = { λ s. record { channel = s.sender.now; message = s.message; key = s.waits.key; party = party_of s.waits.seat } };
 }
 
 impl<'a, T: Drop, R: Wait + Copy, S: Trace<T> + Copy> Send<'a, T, R, S> {
@@ -59,7 +62,7 @@ impl<'a, T: Drop, R: Wait + Copy, S: Trace<T> + Copy> Send<'a, T, R, S> {
     /// A copy of the waker is taken first. Where none is got nothing is tried, and the answer is want of memory. It may wait for
     /// another call's end and for the locks of those who wait.
     pub fn poll(&mut self, cx: &mut Context<'_>) -> Poll<Result<(), Refused<SendError<T>>>>
-        ensures walked { WasSeen S.did S.shown S.entered self.old.channel (λ saw begin r end. PollsSend saw (send_ask self.old.message self.old.key) begin r self.new.key self.new.message end) (reply.SendPoll result) }
+        ensures made { WasPolledWith S.did S.shown S.entered self.old.channel self.old.party (send_ask self.old.message self.old.key) (reply.SendPoll result) self.new.key self.new.message self.new.party }
         ensures message { SendsOn self.old.message result self.new.message }
         ensures listed { is_some self.new.key ≡ waits_on self.old.message result }
         ensures channel { self.new.channel ≡ self.old.channel }
@@ -67,7 +70,26 @@ impl<'a, T: Drop, R: Wait + Copy, S: Trace<T> + Copy> Send<'a, T, R, S> {
         ensures kept { Keeps cx.old cx.new }
     {
         let sender = self.sender;
-        self.poll_traced(cx, sender.watch).0
+        let message = self.message.take();
+        match &sender.counted.link {
+            Link::Bounded(channel) => {
+                let (polled, left) = channel.poll_send(&sender.rt, message, &mut self.waits, cx);
+                drop(mem::replace(&mut self.message, left));
+                polled
+            }
+            Link::Unbounded(shared) => {
+                let watch = sender.watch;
+                let (polled, left, _) = shared.poll_send(
+                    &sender.rt,
+                    message,
+                    &mut self.waits,
+                    cx,
+                    watch,
+                );
+                drop(mem::replace(&mut self.message, left));
+                polled
+            }
+        }
     }
 
     /// Whether it has finished. It waits for nobody. Own to this project.
@@ -79,12 +101,22 @@ impl<'a, T: Drop, R: Wait + Copy, S: Trace<T> + Copy> Send<'a, T, R, S> {
 
     /// Gives it up, as its drop does, and hands back the message of one that hasn't finished. It may wait for the lock of those
     /// who wait. Own to this project.
-    pub fn give_up(self) -> Option<T>
-        ensures walked { WasSeen S.did S.shown S.entered self.entry.channel (λ saw. WalkedTo saw (first (ask.GiveUp line.Sends self.entry.message self.entry.key))) (reply.GivenUp result) }
+    pub fn give_up(mut self) -> Option<T>
+        ensures made { WasMadeBy S.did S.shown S.entered S.called self.entry.channel self.entry.party (ask.GiveUp line.Sends self.entry.message self.entry.key) (reply.GivenUp result) }
         ensures message { result ≡ self.entry.message }
     {
         let sender = self.sender;
-        self.give_up_traced(sender.watch).0
+        let message = self.message.take();
+        let waits = mem::replace(&mut self.waits, Waits::new());
+        match &sender.counted.link {
+            Link::Bounded(channel) => {
+                let left = channel.give_up(&sender.rt, message, waits);
+                seen::answer(&sender.watch, left)
+            }
+            Link::Unbounded(shared) => {
+                shared.give_up(&sender.rt, message, waits, sender.watch).0
+            }
+        }
     }
 }
 
@@ -102,7 +134,7 @@ impl<T: Drop, R: Wait + Copy, S: Trace<T> + Copy> Future for Send<'_, T, R, S> {
         ensures polled_on { OnPending result ⊤ }
         ensures same { OnPending result ((r : _) → Gives self.new.message r → Gives self.old.message r) }
         ensures registered { OnPending result (Covers cx.new (λ _. ⊥)) }
-        ensures walked { WasSeen S.did S.shown S.entered self.old.channel (λ saw begin r end. PollsSend saw (send_ask self.old.message self.old.key) begin r self.new.key self.new.message end) (reply.SendPoll result) }
+        ensures made { WasPolledWith S.did S.shown S.entered self.old.channel self.old.party (send_ask self.old.message self.old.key) (reply.SendPoll result) self.new.key self.new.message self.new.party }
         ensures message { SendsOn self.old.message result self.new.message }
         ensures listed { is_some self.new.key ≡ waits_on self.old.message result }
         ensures channel { self.new.channel ≡ self.old.channel }
@@ -120,8 +152,12 @@ impl<T: Drop, R: Wait + Copy, S: Trace<T> + Copy> Drop for Send<'_, T, R, S> {
             message,
             waits,
         } = self;
-        let shared = &sender.counted.link.shared;
-        let _ = shared.let_go(&sender.rt, waits, sender.watch);
+        match &sender.counted.link {
+            Link::Bounded(channel) => channel.let_go(&sender.rt, waits, sender.watch),
+            Link::Unbounded(shared) => {
+                let _ = shared.let_go(&sender.rt, waits, sender.watch);
+            }
+        }
         drop(message);
     }
 }

@@ -5,21 +5,29 @@ ghost use Rattle.channel_calls.specs.Blocks.{Blocks};
 ghost use Rattle.channel_calls.specs.Tried.{sent_reply, sent_left};
 ghost use Rattle.channel_calls.specs.Walks.{WalkedTo};
 ghost use Rattle.channel_calls.specs.declared.ask.ChannelAsk.TheVariants as ask;
-ghost use Rattle.channel_calls.specs.declared.blocked.Blocked.TheVariants as blocking;
+ghost use Rattle.channel_calls.specs.declared.blocked.Blocked.TheVariants as ways;
 ghost use Rattle.channel_calls.specs.declared.reply.Reply.TheVariants as reply;
 ghost use Rattle.channel_calls.specs.declared.stage.Side.TheVariants as side;
 ghost use Rattle.async_channel.specs.Counts.{Clones};
+ghost use Rattle.async_channel.specs.Called.{ClonedSo, HasSent, WasMade, WasTold};
+ghost use Rattle.channel_history.specs.Party.{fresh};
+ghost use Rattle.async_channel.specs.Forms.{AreCallsOf};
 ghost use Rattle.async_channel.specs.Watched.{WasSeen};
 
+use crate::bed::Bed;
+use crate::by_form::Calls;
+use crate::calls::{self, blocking};
 use crate::counted::Counted;
 use crate::handles::closed::Closed;
 use crate::handles::send::Send;
 use crate::handles::weak::WeakSender;
+use crate::link::Link;
 use crate::open::no_trace::NoTrace;
-use crate::seen::Trace;
-use crate::traced::Traced;
+use crate::seen::{self, Seen, Trace};
 use channel_calls::error::{HandleError, Refused, SendError, TrySendError};
 use channel_calls::kind::OfSenders;
+use channel_calls::stage::Side;
+use event_listener::waking::WakeNow;
 use std::fmt;
 use std::marker::Model;
 use std::sync::Wait;
@@ -44,7 +52,7 @@ impl<T: Drop, R: Wait + Copy, S: Trace<T> + Copy> Model for Sender<T, R, S> {
 }
 
 impl<T: Drop, R: Wait + Copy, S: Trace<T> + Copy> Sender<T, R, S> {
-    ghost use Rattle.std.specs.Prelude.{◌≡◌, false, None, IfOk, IfErr};
+    ghost use Rattle.std.specs.Prelude.{◌≡◌, false, None, IfOk, IfErr, MatchOption};
     ghost use Rattle.concurrent_queue.specs.Replies.{room_of};
     ghost use Rattle.concurrent_queue.specs.Replies.{is_bounded};
     ghost use Rattle.channel_calls.specs.Replies.{RefusesTrySend, RefusesForceSend};
@@ -56,12 +64,13 @@ impl<T: Drop, R: Wait + Copy, S: Trace<T> + Copy> Sender<T, R, S> {
         Sender { counted, rt, watch }
     }
 
-    /// The calls of this sender with a trace of the caller's, which each call takes and gives back. Own to this project.
+    /// The calls of this sender with what shows that they were made: with a bound a witness that each call gives, and without one a trace
+    /// of the caller's. Own to this project.
     #[inline(always)]
-    pub fn traced(&self) -> Traced<'_, T, R, OfSenders>
-        ensures { result ≡ self.now }
+    pub fn calls(&self) -> Calls<'_, T, R, OfSenders>
+        ensures { AreCallsOf self.now result }
     {
-        Traced::new(&self.counted, &self.rt)
+        self.counted.calls(&self.rt)
     }
 
     /// Sends the message where there is a place for it.
@@ -77,10 +86,23 @@ impl<T: Drop, R: Wait + Copy, S: Trace<T> + Copy> Sender<T, R, S> {
     /// refused.is_full() && refused.into_inner() == 2 // true
     /// ```
     pub fn try_send(&self, message: T) -> Result<(), Refused<TrySendError<T>, T>>
-        ensures walked { WasSeen S.did S.shown S.entered self.now (λ saw. WalkedTo saw (first (ask.TrySend message))) (reply.TrySend result) }
+        ensures made { WasMade S.did S.shown S.entered S.called self.now (ask.TrySend message) (reply.TrySend result) }
         ensures refused { IfErr result (λ e. RefusesTrySend (is_bounded self.now.form) message e) }
     {
-        self.traced().try_send(message, self.watch).0
+        let rt = &self.rt;
+        match &self.counted.link {
+            Link::Bounded(channel) => seen::answer(
+                &self.watch,
+                channel
+                    .table
+                    .try_send(rt, channel.table.new_seat(), message, &mut WakeNow { rt }),
+            ),
+            Link::Unbounded(shared) => calls::try_send(
+                rt,
+                message,
+                Seen::cells(shared, rt, (), self.watch),
+            ).0,
+        }
     }
 
     /// Sends the message; where the channel is full, its oldest message leaves for it and is answered.
@@ -95,11 +117,24 @@ impl<T: Drop, R: Wait + Copy, S: Trace<T> + Copy> Sender<T, R, S> {
     /// oldest == Some(1) && receiver.try_recv().ok() == Some(2) // true
     /// ```
     pub fn force_send(&self, message: T) -> Result<Option<T>, Refused<SendError<T>, T>>
-        ensures walked { WasSeen S.did S.shown S.entered self.now (λ saw. WalkedTo saw (first (ask.ForceSend message))) (reply.ForceSend result) }
+        ensures made { WasMade S.did S.shown S.entered S.called self.now (ask.ForceSend message) (reply.ForceSend result) }
         ensures refused { IfErr result (λ e. RefusesForceSend (is_bounded self.now.form) message e) }
         ensures displaced { room_of self.now.form ≡ None → IfOk result (λ oldest. oldest ≡ None) }
     {
-        self.traced().force_send(message, self.watch).0
+        let rt = &self.rt;
+        match &self.counted.link {
+            Link::Bounded(channel) => seen::answer(
+                &self.watch,
+                channel
+                    .table
+                    .force_send(rt, channel.table.new_seat(), message, &mut WakeNow { rt }),
+            ),
+            Link::Unbounded(shared) => calls::force_send(
+                rt,
+                message,
+                Seen::cells(shared, rt, (), self.watch),
+            ).0,
+        }
     }
 
     /// A send of this message that waits for a place: nothing is done until it is polled. As `async-channel` 2.5.0.
@@ -135,10 +170,21 @@ impl<T: Drop, R: Wait + Copy, S: Trace<T> + Copy> Sender<T, R, S> {
     /// A refusal hands the message back: the channel was closed, or what a send or a wait needs was refused: memory, or a serial
     /// of a listener. As `async-channel` 2.5.0, but for the wants.
     pub fn send_blocking(&self, message: T) -> Result<(), Refused<SendError<T>, T>>
-        ensures walked { WasSeen S.did S.shown S.entered self.now (λ saw begin r end. Blocks saw S.parked S.slept (blocking.Send message) begin r (sent_left result) end) (sent_reply result) }
+        ensures made { MatchOption self.now.table (WasSeen S.did S.shown S.entered self.now (λ saw begin r end. Blocks saw S.parked S.slept (ways.Send message) begin r (sent_left result) end) (sent_reply result)) (λ table. WasTold S.called (HasSent table fresh message result)) }
         ensures refused { IfErr result (λ e. Unsent e ≡ message) }
     {
-        self.traced().send_blocking(message, self.watch).0
+        let rt = &self.rt;
+        match &self.counted.link {
+            Link::Bounded(channel) => seen::answer(
+                &self.watch,
+                channel.send_blocking(rt, channel.table.new_seat(), message),
+            ),
+            Link::Unbounded(shared) => blocking::send_blocking(
+                rt,
+                message,
+                Seen::cells(shared, rt, Bed::new(), self.watch),
+            ).0,
+        }
     }
 
     /// Closes the channel: nothing more is sent, and what was sent can still be received. True in the one call that closed it;
@@ -150,68 +196,68 @@ impl<T: Drop, R: Wait + Copy, S: Trace<T> + Copy> Sender<T, R, S> {
     /// first && !second && sender.try_send(1).err()?.is_closed() // true
     /// ```
     pub fn close(&self) -> bool
-        ensures walked { WasSeen S.did S.shown S.entered self.now (λ saw. WalkedTo saw (first ask.Close)) (reply.Closed result) }
+        ensures made { WasMade S.did S.shown S.entered S.called self.now ask.Close (reply.Closed result) }
     {
-        self.traced().close(self.watch).0
+        self.counted.close(&self.rt, self.watch)
     }
 
     /// How many messages the channel held at a moment of the call. It may wait, since it asks again where others came between. As
     /// `async-channel` 2.5.0.
     pub fn len(&self) -> usize
-        ensures walked { WasSeen S.did S.shown S.entered self.now (λ saw. WalkedTo saw (first ask.Len)) (reply.Count result) }
+        ensures made { WasMade S.did S.shown S.entered S.called self.now ask.Len (reply.Count result) }
     {
-        self.traced().len(self.watch).0
+        self.counted.len(&self.rt, self.watch)
     }
 }
 
 // Questions that wait for nobody.
 impl<T: Drop, R: Wait + Copy, S: Trace<T> + Copy> Sender<T, R, S> {
-    ghost use Rattle.std.specs.Prelude.{◌≡◌, ◌↔◌, IsTrue, None, false};
+    ghost use Rattle.std.specs.Prelude.{◌≡◌, ◌↔◌, IsTrue, None, false, MatchOption};
     ghost use Rattle.concurrent_queue.specs.Replies.{room_of};
 
     /// Whether the channel is closed. It waits for nobody. As `async-channel` 2.5.0.
     pub fn is_closed(&self) -> bool
-        ensures walked { WasSeen S.did S.shown S.entered self.now (λ saw. WalkedTo saw (first ask.IsClosed)) (reply.Flag result) }
+        ensures made { WasMade S.did S.shown S.entered S.called self.now ask.IsClosed (reply.Flag result) }
     {
-        self.traced().is_closed(self.watch).0
+        self.counted.is_closed(self.watch)
     }
 
     /// Whether the channel holds no message. It waits for nobody. As `async-channel` 2.5.0.
     pub fn is_empty(&self) -> bool
-        ensures walked { WasSeen S.did S.shown S.entered self.now (λ saw. WalkedTo saw (first ask.IsEmpty)) (reply.Flag result) }
+        ensures made { WasMade S.did S.shown S.entered S.called self.now ask.IsEmpty (reply.Flag result) }
     {
-        self.traced().is_empty(self.watch).0
+        self.counted.is_empty(self.watch)
     }
 
     /// Whether the channel holds as many messages as it can; one without a bound never does. It waits for nobody. As
     /// `async-channel` 2.5.0.
     pub fn is_full(&self) -> bool
-        ensures walked { WasSeen S.did S.shown S.entered self.now (λ saw. WalkedTo saw (first ask.IsFull)) (reply.Flag result) }
+        ensures made { WasMade S.did S.shown S.entered S.called self.now ask.IsFull (reply.Flag result) }
         ensures bound { room_of self.now.form ≡ None → result ≡ false }
     {
-        self.traced().is_full(self.watch).0
+        self.counted.is_full(self.watch)
     }
 
     /// How many messages the channel can hold, if there is a bound. It waits for nobody. As `async-channel` 2.5.0.
     pub fn capacity(&self) -> Option<usize>
-        ensures walked { WasSeen S.did S.shown S.entered self.now (λ saw. WalkedTo saw (first ask.Capacity)) (reply.Cap result) }
+        ensures made { MatchOption self.now.table (WasSeen S.did S.shown S.entered self.now (λ saw. WalkedTo saw (first ask.Capacity)) (reply.Cap result)) (λ _. Unit {0}) }
         ensures room { result ≡ room_of self.now.form }
     {
-        self.traced().capacity(self.watch).0
+        self.counted.capacity(self.watch)
     }
 
     /// How many senders live. It waits for nobody. As `async-channel` 2.5.0.
     pub fn sender_count(&self) -> usize
-        ensures walked { WasSeen S.did S.shown S.entered self.now (λ saw. WalkedTo saw (first (ask.HandleCount side.Senders))) (reply.Count result) }
+        ensures made { WasMade S.did S.shown S.entered S.called self.now (ask.HandleCount side.Senders) (reply.Count result) }
     {
-        self.traced().sender_count(self.watch).0
+        self.counted.handle_count(Side::Senders, self.watch)
     }
 
     /// How many receivers live. It waits for nobody. As `async-channel` 2.5.0.
     pub fn receiver_count(&self) -> usize
-        ensures walked { WasSeen S.did S.shown S.entered self.now (λ saw. WalkedTo saw (first (ask.HandleCount side.Receivers))) (reply.Count result) }
+        ensures made { WasMade S.did S.shown S.entered S.called self.now (ask.HandleCount side.Receivers) (reply.Count result) }
     {
-        self.traced().receiver_count(self.watch).0
+        self.counted.handle_count(Side::Receivers, self.watch)
     }
 
     /// Whether both are handles of one channel: whether the identities are equal. It waits for nobody. As
@@ -228,7 +274,7 @@ impl<T: Drop, R: Wait + Copy, S: Trace<T> + Copy> Sender<T, R, S> {
 
 // More handles.
 impl<T: Drop, R: Wait + Copy, S: Trace<T> + Copy> Sender<T, R, S> {
-    ghost use Rattle.std.specs.Prelude.{◌≡◌, IfOk, IfErr};
+    ghost use Rattle.std.specs.Prelude.{◌≡◌, IfOk, IfErr, MatchOption};
 
     /// One more sender of this channel. `Clone` of `async-channel` 2.5.0, which ends the program where this is refused.
     ///
@@ -243,10 +289,13 @@ impl<T: Drop, R: Wait + Copy, S: Trace<T> + Copy> Sender<T, R, S> {
     /// drop(second); // the last one, which closes the channel
     /// ```
     pub fn try_clone(&self) -> Result<Sender<T, R, S>, HandleError>
-        ensures walked { WasSeen S.did S.shown S.entered self.now (λ saw. Clones saw side.Senders) result }
+        ensures walked { MatchOption self.now.table (WasSeen S.did S.shown S.entered self.now (λ saw. Clones saw side.Senders) result) (λ table. ClonedSo S.called table side.Senders result) }
         ensures made { IfOk result (λ more. more ≡ self.now) }
     {
-        self.try_clone_traced(self.watch).0
+        match Counted::one_more(&self.counted.link, &self.rt, self.watch) {
+            Ok(counted) => Ok(Sender::new(self.rt, self.watch, counted)),
+            Err(error) => Err(error),
+        }
     }
 
     /// A handle that doesn't keep the channel open. It waits for nobody, and is never refused for too many handles. As
@@ -271,6 +320,6 @@ impl<T: Drop, R: Wait + Copy, S: Trace<T> + Copy> fmt::Debug for Sender<T, R, S>
 impl<T: Drop, R: Wait + Copy, S: Trace<T> + Copy> Drop for Sender<T, R, S> {
     fn drop(self) {
         let Self { counted, rt, watch } = self;
-        let _ = counted.lower(&rt, watch);
+        counted.lower(&rt, watch);
     }
 }

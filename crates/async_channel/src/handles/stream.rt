@@ -6,8 +6,7 @@ ghost use Rattle.futures.specs.Task.{IsArmed, Keeps};
 ghost use Rattle.channel_calls.specs.Calls.{next_ask};
 ghost use Rattle.channel_calls.specs.Listed.{is_pending};
 ghost use Rattle.channel_calls.specs.declared.reply.Reply.TheVariants as reply;
-ghost use Rattle.async_channel.specs.Polls.{Polls};
-ghost use Rattle.async_channel.specs.Watched.{WasSeen};
+ghost use Rattle.async_channel.specs.Called.{WasPolled};
 
 use crate::handles::receiver::Receiver;
 use crate::seen::Trace;
@@ -24,7 +23,7 @@ impl<T: Drop, R: Wait + Copy, S: Trace<T> + Copy> Stream for Receiver<T, R, S> {
 
     // The trait's clauses say nothing of an item, so those of the method itself stand here.
     fn poll_next(&mut self, cx: &mut Context<'_>) -> Poll<Option<Result<T, ListenError>>>
-        ensures walked { WasSeen S.did S.shown S.entered self.old.channel (λ saw begin r end. Polls saw (next_ask self.old.key) begin r self.new.key end) (reply.Next result) }
+        ensures made { WasPolled S.did S.shown S.entered self.old.channel self.old.party (next_ask self.old.key) (reply.Next result) self.new.key self.new.party }
         ensures listed { is_some self.new.key ≡ is_pending result }
         ensures channel { self.new.channel ≡ self.old.channel }
         ensures armed { OnPending result (IsArmed cx.new) }

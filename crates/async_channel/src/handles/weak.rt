@@ -2,8 +2,10 @@
 
 ghost use Rattle.channel_calls.specs.declared.stage.Side.TheVariants as side;
 ghost use Rattle.async_channel.specs.Counts.{Upgrades};
+ghost use Rattle.async_channel.specs.Called.{UpgradedSo};
 ghost use Rattle.async_channel.specs.Watched.{WasSeen};
 
+use crate::counted::Counted;
 use crate::handles::receiver::Receiver;
 use crate::handles::sender::Sender;
 use crate::link::Link;
@@ -31,7 +33,7 @@ impl<T: Drop, R: Wait + Copy, S: Trace<T> + Copy> Model for WeakSender<T, R, S> 
 }
 
 impl<T: Drop, R: Wait + Copy, S: Trace<T> + Copy> WeakSender<T, R, S> {
-    ghost use Rattle.std.specs.Prelude.{◌≡◌, IfOk, IfErr, IfSome};
+    ghost use Rattle.std.specs.Prelude.{◌≡◌, IfOk, IfErr, IfSome, MatchOption};
     ghost use Rattle.async_channel.specs.Handles.{handle_of};
 
     pub(crate) fn new(rt: R, watch: S, link: Link<T>) -> WeakSender<T, R, S>
@@ -46,10 +48,14 @@ impl<T: Drop, R: Wait + Copy, S: Trace<T> + Copy> WeakSender<T, R, S> {
     /// changed then, as by `try_clone`. It may wait for other clonings to end. As `async-channel` 2.5.0, which ends the program
     /// where this is refused.
     pub fn upgrade(&self) -> Result<Option<Sender<T, R, S>>, HandleError>
-        ensures walked { WasSeen S.did S.shown S.entered self.now (λ saw. Upgrades saw side.Senders) result }
+        ensures walked { MatchOption self.now.table (WasSeen S.did S.shown S.entered self.now (λ saw. Upgrades saw side.Senders) result) (λ table. UpgradedSo S.called table side.Senders result) }
         ensures made { IfOk result (λ made. IfSome made (λ sender. sender ≡ self.now)) }
     {
-        self.upgrade_traced(self.watch).0
+        match Counted::upgraded(&self.link, &self.rt, self.watch) {
+            Ok(Some(counted)) => Ok(Some(Sender::new(self.rt, self.watch, counted))),
+            Ok(None) => Ok(None),
+            Err(error) => Err(error),
+        }
     }
 
     /// One more weak sender. It waits for nobody, and is never refused for too many handles. `Clone` of `async-channel` 2.5.0.
@@ -87,7 +93,7 @@ impl<T: Drop, R: Wait + Copy, S: Trace<T> + Copy> Model for WeakReceiver<T, R, S
 }
 
 impl<T: Drop, R: Wait + Copy, S: Trace<T> + Copy> WeakReceiver<T, R, S> {
-    ghost use Rattle.std.specs.Prelude.{◌≡◌, IfOk, IfErr, IfSome};
+    ghost use Rattle.std.specs.Prelude.{◌≡◌, IfOk, IfErr, IfSome, MatchOption};
     ghost use Rattle.async_channel.specs.Handles.{handle_of, new_receiving};
 
     pub(crate) fn new(rt: R, watch: S, link: Link<T>) -> WeakReceiver<T, R, S>
@@ -102,10 +108,14 @@ impl<T: Drop, R: Wait + Copy, S: Trace<T> + Copy> WeakReceiver<T, R, S> {
     /// changed then, as by `try_clone`. It may wait for other clonings to end. As `async-channel` 2.5.0, which ends the program
     /// where this is refused.
     pub fn upgrade(&self) -> Result<Option<Receiver<T, R, S>>, HandleError>
-        ensures walked { WasSeen S.did S.shown S.entered self.now (λ saw. Upgrades saw side.Receivers) result }
+        ensures walked { MatchOption self.now.table (WasSeen S.did S.shown S.entered self.now (λ saw. Upgrades saw side.Receivers) result) (λ table. UpgradedSo S.called table side.Receivers result) }
         ensures made { IfOk result (λ made. IfSome made (λ receiver. receiver ≡ new_receiving self.now)) }
     {
-        self.upgrade_traced(self.watch).0
+        match Counted::upgraded(&self.link, &self.rt, self.watch) {
+            Ok(Some(counted)) => Ok(Some(Receiver::new(self.rt, self.watch, counted))),
+            Ok(None) => Ok(None),
+            Err(error) => Err(error),
+        }
     }
 
     /// One more weak receiver. It waits for nobody, and is never refused for too many handles. `Clone` of `async-channel` 2.5.0.

@@ -1,6 +1,7 @@
 //! A trace that keeps nothing.
 
 use crate::seen::{Shown, Sight, Trace};
+use crate::with_bound::Witness;
 use concurrent_queue::cells::Slot;
 use concurrent_queue::seen as queue;
 
@@ -33,7 +34,7 @@ impl<T> queue::Trace<T> for NoTrace {
     fn taken(&mut self, _sight: &queue::Sight<NoTrace>, _at: Slot, _found: &Option<T>) {}
 }
 
-impl<T> Trace<T> for NoTrace {
+impl<T: Drop> Trace<T> for NoTrace {
     ghost entered = { λ _ _ _. Unit {0} };
 
     ghost shown = { λ _ _ _. Unit {0} };
@@ -44,6 +45,13 @@ impl<T> Trace<T> for NoTrace {
 
     ghost slept = { λ _ _. Unit {0} };
 
+    ghost called = { λ _. Unit {0} };
+
     #[inline(always)]
     fn saw(&mut self, _sight: &Sight<NoTrace>, _it: Shown<'_>) {}
+
+    #[inline(always)]
+    fn heard(&self, _sight: &Sight<NoTrace>, _call: Witness<T>)
+        ensures { Unit {0} }
+    {}
 }

@@ -1,31 +1,45 @@
 //! What an operation keeps from poll to poll.
 
-ghost use Rattle.std.specs.Prelude.{◌≡◌, None};
+ghost use Rattle.std.specs.Prelude.{◌≡◌, None, Some, []};
+ghost use Rattle.std.specs.Option.{ForSome};
 ghost use Rattle.futures.specs.Task.{IsArmed, Keeps};
+ghost use Rattle.channel_cells.specs.Channel.{id_of, seat_table, standing_of};
+ghost use Rattle.channel_history.specs.CallEnds.{Rests};
+ghost use Rattle.channel_history.specs.InHand.{listed_on};
+ghost use Rattle.async_channel.specs.Parties.{IsPartyOf, party_of};
 
+use crate::polls::line::Line;
+use crate::with_bound::Witness;
+use channel_cells::channel::ChannelTable;
 use event_listener::key::Key;
 use event_listener::waking::{Task, WakerCell};
 use futures::task::{Context, Poll};
+use kept::Kept;
 use std::alloc::Global;
 use std::marker::PhantomData;
 use std::sync::{Arc, Wait};
 
-/// The listener of a pending operation on this list, and the cell of its task's waker, which is made at the first poll.
+/// The listener of a pending operation on this list, and the cell of its task's waker, which is made at the first poll. On a channel with
+/// a bound it has a party's seat since then, with which the listener lies.
 ///
 /// It can't be let go: what ends it is a giving up, or a drop, in which the listener leaves this list and no other. Nor is its listener
 /// read or changed but by the polls and these two.
-pub(crate) struct Waits<L> {
+pub(crate) struct Waits<T, L: Line> {
+    seat: Option<Kept<Witness<T>>>,
     key: Option<Key>,
     cell: Option<Arc<WakerCell>>,
     line: PhantomData<L>,
+    ghost listed: { ForSome seat (λ s. Rests [] (listed_on L.line key) (standing_of s.value)) },
 }
 
-impl<L> Waits<L> {
+impl<T: Drop, L: Line> Waits<T, L> {
     /// Without a listener. It takes no memory.
-    pub(crate) fn new() -> Waits<L>
-        ensures { result.key ≡ None }
+    pub(crate) fn new() -> Waits<T, L>
+        ensures key { result.key ≡ None }
+        ensures seat { result.seat ≡ None }
     {
         Waits {
+            seat: None,
             key: None,
             cell: None,
             line: PhantomData,
@@ -33,31 +47,63 @@ impl<L> Waits<L> {
     }
 
     /// The listener.
-    pub(super) fn key(&self) -> Option<Key>
+    pub(crate) fn key(&self) -> Option<Key>
         ensures { result ≡ self.now.key }
     {
         self.key
     }
 
-    /// This is its listener now, as a poll left it.
+    /// This is its listener now, as a poll left it, on a channel without a bound.
     pub(super) fn keep(&mut self, key: Option<Key>)
-        ensures { self.new.key ≡ key }
+        requires { self.old.seat ≡ None }
+        ensures key { self.new.key ≡ key }
+        ensures seat { self.new.seat ≡ None }
     {
         self.key = key;
     }
 
+    /// The seat of its party, for a call, and its listener. A new party has none.
+    pub(crate) fn take(&mut self, table: &ChannelTable<T, Task>) -> (Witness<T>, Option<Key>)
+        requires here { IsPartyOf (Some (id_of table.now)) self.old.seat self.old.key }
+        ensures seat { (seat_table result.0 ≡ id_of table.now) × (standing_of result.0 ≡ party_of self.old.seat) }
+        ensures listed { Rests [] (listed_on L.line result.1) (standing_of result.0) }
+        ensures key { result.1 ≡ self.old.key }
+        ensures left { (self.new.seat ≡ None) × (self.new.key ≡ None) }
+    {
+        let key = self.key.take();
+        match self.seat.take() {
+            Some(kept) => (kept.into_inner(), key),
+            None => (table.new_seat(), key),
+        }
+    }
+
+    /// The seat of its party, and its listener, as a poll left them.
+    pub(crate) fn rest(&mut self, seat: Witness<T>, key: Option<Key>)
+        requires listed { Rests [] (listed_on L.line key) (standing_of seat) }
+        ensures { (self.new.seat ≡ Some (record { value = seat })) × (self.new.key ≡ key) }
+    {
+        self.seat = Some(Kept::new(seat));
+        self.key = key;
+    }
+
     /// Its listener, which is to leave.
-    pub(super) fn end(self) -> Option<Key>
+    pub(crate) fn end(self) -> Option<Key>
         ensures { result ≡ self.key }
     {
-        let Waits { key, cell, line: _ } = self;
+        let Waits {
+            seat,
+            key,
+            cell,
+            line: _,
+        } = self;
+        drop(seat);
         drop(cell);
         key
     }
 
     /// A copy of the task's waker, in the place where a telling finds it; `None` where no copy was got. It arms the context for
     /// a pending answer either way.
-    pub(super) fn arm<R: Wait>(
+    pub(crate) fn arm<R: Wait>(
         &mut self,
         rt: &R,
         alloc: Global,
@@ -66,6 +112,7 @@ impl<L> Waits<L> {
         ensures armed { IsArmed cx.new }
         ensures kept { Keeps cx.old cx.new }
         ensures key { self.new.key ≡ self.old.key }
+        ensures seat { self.new.seat ≡ self.old.seat }
     {
         if self.cell.is_none() {
             self.cell = Arc::new(alloc, WakerCell::new()).ok();

@@ -45,7 +45,7 @@ impl<'a, T: Drop, R: Wait + Copy> Traced<'a, T, R, OfReceivers> {
         ensures wanted { OnErr (result.0) (0 < limit) }
         ensures reason { result.0 ≡ Err (Refused.SerialsUsedUp tt) → ⊥ }
     {
-        let alloc = self.counted.link.shared.alloc;
+        let alloc = self.shared.alloc;
         calls::recv_many(self.rt, limit, alloc, self.cells(trace))
     }
 
@@ -79,7 +79,7 @@ impl<'a, T: Drop, R: Wait + Copy> Traced<'a, T, R, OfReceivers> {
     pub fn is_terminated<S: Trace<T>>(&self, trace: S) -> (bool, S)
         ensures walked { SeenOn S.did S.shown S.entered self.now (λ saw. WalkedTo saw (first ask.IsTerminated)) trace (reply.Flag (result.0)) (result.1) }
     {
-        self.counted.link.shared.is_terminated(trace)
+        self.shared.is_terminated(trace)
     }
 }
 

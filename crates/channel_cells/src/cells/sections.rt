@@ -16,7 +16,7 @@ impl<'a, T: Drop, W: Drop, R: Wait> CallCells<'a, T, W, R> {
     #[inline(always)]
     pub(crate) fn enter(&mut self, line: WaitList) -> Section<'a, T, W>
         requires free { (view_of self.old).own.lists ≡ [] }
-        ensures inside { IsInside line result.list.lists (view_of self.old) (view_of self.new) }
+        ensures inside { IsInside line result.list.value.lists (view_of self.old) (view_of self.new) }
         ensures taken { (result.taken.0 ≡ self.new.channel.now.table) × (result.taken.1 ≡ index_of line) }
         ensures same { IsSameCall self.old self.new }
     {
@@ -29,7 +29,7 @@ impl<'a, T: Drop, W: Drop, R: Wait> CallCells<'a, T, W, R> {
     /// Gives the list back, whose seat leaves that of the call.
     #[inline(always)]
     pub(crate) fn leave(&mut self, line: WaitList, section: Section<'a, T, W>)
-        requires inside { HoldsList line section.list.lists (view_of self.old) }
+        requires inside { HoldsList line section.list.value.lists (view_of self.old) }
         requires taken { (section.taken.0 ≡ self.old.channel.now.table) × (section.taken.1 ≡ index_of line) }
         ensures outside { view_of self.new ≡ without_lists (view_of self.old) }
         ensures same { IsSameCall self.old self.new }

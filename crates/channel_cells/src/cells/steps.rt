@@ -69,7 +69,7 @@ impl<'a, T: Drop, W: Drop, R: Wait> ChannelCells<T, W> for CallCells<'a, T, W, R
             .seat
             .turn_by::<Brand, (WaitList, Result<Key, ListenError>), List<(), W>>(
                 &(line, answer),
-                &section.list,
+                &*section.list,
             );
         self.leave(line, section);
         answer
@@ -81,7 +81,7 @@ impl<'a, T: Drop, W: Drop, R: Wait> ChannelCells<T, W> for CallCells<'a, T, W, R
         self.queue
             .seat
             .turn_by::<Brand, (WaitList, Key), W>(&(line, key), &task);
-        let back = notices::register(&mut section.list, key, task);
+        let back = notices::register(&mut *section.list, key, task);
         self.leave(line, section);
         back
     }
@@ -91,17 +91,17 @@ impl<'a, T: Drop, W: Drop, R: Wait> ChannelCells<T, W> for CallCells<'a, T, W, R
         let _ = section.list.remove(key, true, sink);
         self.queue
             .seat
-            .turn_by::<Brand, (WaitList, Key), List<(), W>>(&(line, key), &section.list);
+            .turn_by::<Brand, (WaitList, Key), List<(), W>>(&(line, key), &*section.list);
         self.leave(line, section);
     }
 
     #[inline(always)]
     fn tell<S: Wakes<W>>(&mut self, line: WaitList, telling: Telling, sink: &mut S) {
         let mut section = self.enter(line);
-        notices::tell(&mut section.list, telling, sink);
+        notices::tell(&mut *section.list, telling, sink);
         self.queue
             .seat
-            .turn_by::<Brand, (WaitList, Telling), List<(), W>>(&(line, telling), &section.list);
+            .turn_by::<Brand, (WaitList, Telling), List<(), W>>(&(line, telling), &*section.list);
         self.leave(line, section);
     }
 

@@ -18,19 +18,29 @@ use keyed_lock::KeyedLocks;
 use std::alloc::{AllocError, Global};
 use std::marker::Brand;
 
-/// A new list of this kind, with the seat that says that it lies here: the last one that lies with the seat of the opening.
+/// A list without listeners, in a block of its own.
+fn new_list<W: Drop>(alloc: Global) -> Result<Box<List<(), W>>, AllocError>
+    ensures empty { IfOk result (λ list. (list.value.lists.told ≡ []) × (list.value.lists.waiting ≡ [])) }
+{
+    match Box::new(alloc, List::new(alloc)) {
+        Ok(list) => Ok(list),
+        Err(_) => Err(AllocError),
+    }
+}
+
+/// This new list, of this kind, with the seat that says that it lies here: the last one that lies with the seat of the opening.
 fn part_list<T: Drop, W: Drop>(
     seat: &mut Calling<'_, T, W>,
-    alloc: Global,
+    list: Box<List<(), W>>,
     line: WaitList,
 ) -> SeatedList<T, W>
+    requires empty { (list.value.lists.told ≡ []) × (list.value.lists.waiting ≡ []) }
     requires last { seat.old.seat.me.0.state ≡ opening_at (suc (index_of line)) }
-    ensures list { LiesAlone line result.list.lists result.seat.seat.me.0.state }
+    ensures list { LiesAlone line result.list.value.lists result.seat.seat.me.0.state }
     ensures stays { seat.new.seat.me.0.state ≡ opening_at (index_of line) }
     ensures table { result.seat.seat.table_id ≡ seat.old.seat.table_id }
     ensures same { (seat.new.seat.table_id ≡ seat.old.seat.table_id) × (seat.new.seat.me.0.form ≡ seat.old.seat.me.0.form) }
 {
-    let list = List::new(alloc);
     let apart = seat.part::<Brand, WaitList>(&line);
     SeatedList { list, seat: apart }
 }
@@ -54,12 +64,16 @@ impl<T: Drop, W: Drop> ChannelTable<T, W> {
         ensures sender { IfOk result (λ o. (standing_of o.sender ≡ with_handles (Senders ∷ [])) × (seat_table o.sender ≡ id_of o.channel)) }
         ensures receiver { IfOk result (λ o. (standing_of o.receiver ≡ with_handles (Receivers ∷ [])) × (seat_table o.receiver ≡ id_of o.channel)) }
     {
+        let sends = new_list(alloc)?;
+        let receives = new_list(alloc)?;
+        let streams = new_list(alloc)?;
+        let closings = new_list(alloc)?;
         let (table, first) = RuledTable::new(alloc, capacity, 1)?;
         let mut seat = table.go_on(first);
-        let closings = part_list(&mut seat, alloc, WaitList::Closings);
-        let streams = part_list(&mut seat, alloc, WaitList::Streams);
-        let receives = part_list(&mut seat, alloc, WaitList::Receives);
-        let sends = part_list(&mut seat, alloc, WaitList::Sends);
+        let closings = part_list(&mut seat, closings, WaitList::Closings);
+        let streams = part_list(&mut seat, streams, WaitList::Streams);
+        let receives = part_list(&mut seat, receives, WaitList::Receives);
+        let sends = part_list(&mut seat, sends, WaitList::Sends);
         let receiver = part_receiver(&mut seat);
         let sender = seat.rest();
         let receiver = table.name(receiver);

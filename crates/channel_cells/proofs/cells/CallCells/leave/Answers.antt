@@ -15,7 +15,7 @@ part-seat-requires-clause-rests g c = refl
 
 pub give-requires : goal.give-requires
 give-requires g c =
-    let lists = c.args.section.list.lists in
+    let lists = c.args.section.list.value.lists in
     let s = c.args.self.now.queue.seat.seat.me.0.state in
     let is : line_at c.args.section.taken.1 ≡ c.args.line = ap (λ n. line_at n) c.requires.taken.1 ∙ line_there c.args.line in
     let goes = c.part-seat.ensures.goes in

@@ -11,5 +11,5 @@ part-apart-requires-clause-parts g c =
 
 pub returns-clause-list : goal.returns-clause-list
 returns-clause-list g c =
-    let list = c.new-list.ensures in
-    (new_list, ap (λ (x : Standing g.row.T.Denot g.row.W.Denot). x.own) c.part-apart.ensures.goes.0, λ i. record { told = sym list.told i; waiting = sym list.waiting i })
+    let list = c.requires.empty in
+    (new_list, ap (λ (x : Standing g.row.T.Denot g.row.W.Denot). x.own) c.part-apart.ensures.goes.0, λ i. record { told = sym list.0 i; waiting = sym list.1 i })

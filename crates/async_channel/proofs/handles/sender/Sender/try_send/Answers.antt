@@ -1,5 +1,22 @@
-use Rattle.async_channel.proofs.Traces.{watched}
+use Rattle.std.proofs.Common.{rules, ◌≡◌, Option, None, Some}
+use Rattle.channel_calls.specs.Asks.{first}
+use Rattle.channel_calls.specs.Walks.{WalkedTo}
+use Rattle.channel_calls.specs.declared.ask.ChannelAsk.TheVariants as ask
+use Rattle.channel_calls.specs.declared.reply.Reply.TheVariants as reply
+use Rattle.channel_cells.specs.Channel.{id_of}
+use Rattle.async_channel.specs.Handles.{channel_of, form_of, handle_of}
+use Rattle.async_channel.proofs.Forms.{told_so, without}
+use Rattle.async_channel.proofs.Traces.{seen_of, watched}
 use Rattle.async_channel.proofs.handles.sender.Sender.try_send.Goals as goal
 
-pub returns-clause-walked : goal.returns-clause-walked
-returns-clause-walked g c = watched g.S.Trace-2.did g.S.Trace-1.shown g.S.Trace-1.entered _ _ _ _ _ _ c.traced.ensures c.try_send.ensures.walked
+pub returns-in-Bounded-clause-made : goal.returns-in-Bounded-clause-made
+returns-in-Bounded-clause-made g c =
+    let table : (c.args.self.now).table ≡ Some (id_of c.deref.result.now.table) = search rules in
+    told_so _ g.S.Trace-1.called _ _ _ (ask.TrySend c.args.message) reply.TrySend _ c.try_send.result.0 c.try_send.result.1 table c.new_seat.ensures.new c.answer.ensures.answer c.answer.ensures.told c.try_send.ensures.called
+
+pub returns-in-Unbounded-clause-made : goal.returns-in-Unbounded-clause-made
+returns-in-Unbounded-clause-made g c =
+    let is : form_of c.cells.result.cells.shared.now ≡ (c.args.self.now).form = search rules in
+    let enters : g.S.Trace-1.entered (c.args.self.now).seal c.self.inside.watch c.cells.result.trace = search rules in
+    let none : (c.args.self.now).table ≡ None = search rules in
+    seen_of g.S.Trace-2.did g.S.Trace-1.shown g.S.Trace-1.entered (λ saw. WalkedTo saw (first (ask.TrySend c.args.message))) _ (c.args.self.now) (form_of c.cells.result.cells.shared.now) c.self.inside.watch c.cells.result.trace (reply.TrySend c.try_send-in-Unbounded.result.0) c.try_send-in-Unbounded.result.1 none is enters c.try_send-in-Unbounded.ensures.walked

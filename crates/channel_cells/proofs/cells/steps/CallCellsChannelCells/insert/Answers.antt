@@ -15,7 +15,7 @@ enter-section-requires g c = record { free = (c.requires.may (Err NoMemory)).2.2
 pub turn_by-requires : goal.turn_by-requires
 turn_by-requires g c =
     let enter = c.enter-section in
-    let list = enter.result.list.lists in
+    let list = enter.result.list.value.lists in
     let after = c.insert-answer.new.self.lists in
     let d : Deed g.row.T.Denot g.row.W.Denot = inserted c.args.line c.insert-answer.result in
     let may = subst (λ (f : QueueForm). May f d (view_of c.args.self.now)) (sym enter.ensures.same.0) (c.requires.may c.insert-answer.result) in
@@ -25,7 +25,7 @@ turn_by-requires g c =
 pub leave-requires : goal.leave-requires
 leave-requires g c =
     let enter = c.enter-section in
-    let list = enter.result.list.lists in
+    let list = enter.result.list.value.lists in
     let after = c.insert-answer.new.self.lists in
     let d : Deed g.row.T.Denot g.row.W.Denot = inserted c.args.line c.insert-answer.result in
     let may = subst (λ (f : QueueForm). May f d (view_of c.args.self.now)) (sym enter.ensures.same.0) (c.requires.may c.insert-answer.result) in
@@ -35,7 +35,7 @@ leave-requires g c =
 pub returns-clause-deed : goal.returns-clause-deed
 returns-clause-deed g c =
     let enter = c.enter-section in
-    let list = enter.result.list.lists in
+    let list = enter.result.list.value.lists in
     let after = c.insert-answer.new.self.lists in
     let d : Deed g.row.T.Denot g.row.W.Denot = inserted c.args.line c.insert-answer.result in
     let may = subst (λ (f : QueueForm). May f d (view_of c.args.self.now)) (sym enter.ensures.same.0) (c.requires.may c.insert-answer.result) in

@@ -18,7 +18,7 @@ enter-section-requires g c = record { free = (c.requires.may None).2.2.0 }
 pub turn_by-requires : goal.turn_by-requires
 turn_by-requires g c =
     let enter = c.enter-section in
-    let list = enter.result.list.lists in
+    let list = enter.result.list.value.lists in
     let s = view_of c.args.self.now in
     let u = view_of enter.new.self in
     let at = form_in enter.new.self in
@@ -33,7 +33,7 @@ turn_by-requires g c =
 pub leave-requires : goal.leave-requires
 leave-requires g c =
     let enter = c.enter-section in
-    let list = enter.result.list.lists in
+    let list = enter.result.list.value.lists in
     let s = view_of c.args.self.now in
     let u = view_of enter.new.self in
     let at = form_in enter.new.self in
@@ -50,7 +50,7 @@ leave-requires g c =
 pub returns-clause-deed : goal.returns-clause-deed
 returns-clause-deed g c =
     let enter = c.enter-section in
-    let list = enter.result.list.lists in
+    let list = enter.result.list.value.lists in
     let s = view_of c.args.self.now in
     let u = view_of enter.new.self in
     let at = form_in enter.new.self in

@@ -16,7 +16,7 @@ enter-section-requires g c = record { free = (c.requires.may []).2.2.0 }
 pub turn_by-requires : goal.turn_by-requires
 turn_by-requires g c =
     let enter = c.enter-section in
-    let list = enter.result.list.lists in
+    let list = enter.result.list.value.lists in
     let after = c.remove.new.self.lists in
     let deed : Listeners g.row.W.Denot → Deed g.row.T.Denot g.row.W.Denot = λ l. taken_off c.args.line c.args.key (removed_wakes c.args.key true l) in
     let may = subst (λ (f : QueueForm). May f (deed list) (view_of c.args.self.now)) (sym enter.ensures.same.0) (c.requires.may (removed_wakes c.args.key true list)) in
@@ -26,7 +26,7 @@ turn_by-requires g c =
 pub leave-requires : goal.leave-requires
 leave-requires g c =
     let enter = c.enter-section in
-    let list = enter.result.list.lists in
+    let list = enter.result.list.value.lists in
     let after = c.remove.new.self.lists in
     let deed : Listeners g.row.W.Denot → Deed g.row.T.Denot g.row.W.Denot = λ l. taken_off c.args.line c.args.key (removed_wakes c.args.key true l) in
     let may = subst (λ (f : QueueForm). May f (deed list) (view_of c.args.self.now)) (sym enter.ensures.same.0) (c.requires.may (removed_wakes c.args.key true list)) in
@@ -37,7 +37,7 @@ leave-requires g c =
 pub returns-clause-deed : goal.returns-clause-deed
 returns-clause-deed g c =
     let enter = c.enter-section in
-    let list = enter.result.list.lists in
+    let list = enter.result.list.value.lists in
     let after = c.remove.new.self.lists in
     let deed : Listeners g.row.W.Denot → Deed g.row.T.Denot g.row.W.Denot = λ l. taken_off c.args.line c.args.key (removed_wakes c.args.key true l) in
     let may = subst (λ (f : QueueForm). May f (deed list) (view_of c.args.self.now)) (sym enter.ensures.same.0) (c.requires.may (removed_wakes c.args.key true list)) in

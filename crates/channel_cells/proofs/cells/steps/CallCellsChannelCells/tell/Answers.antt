@@ -15,7 +15,7 @@ enter-section-requires g c = record { free = (c.requires.may []).2.2.0 }
 pub turn_by-requires : goal.turn_by-requires
 turn_by-requires g c =
     let enter = c.enter-section in
-    let list = enter.result.list.lists in
+    let list = enter.result.list.value.lists in
     let after = c.tell.new.list.lists in
     let deed : Listeners g.row.W.Denot → Deed g.row.T.Denot g.row.W.Denot = λ l. told c.args.line c.args.telling (told_as_wakes c.args.telling l) in
     let may = subst (λ (f : QueueForm). May f (deed list) (view_of c.args.self.now)) (sym enter.ensures.same.0) (c.requires.may (told_as_wakes c.args.telling list)) in
@@ -25,7 +25,7 @@ turn_by-requires g c =
 pub leave-requires : goal.leave-requires
 leave-requires g c =
     let enter = c.enter-section in
-    let list = enter.result.list.lists in
+    let list = enter.result.list.value.lists in
     let after = c.tell.new.list.lists in
     let deed : Listeners g.row.W.Denot → Deed g.row.T.Denot g.row.W.Denot = λ l. told c.args.line c.args.telling (told_as_wakes c.args.telling l) in
     let may = subst (λ (f : QueueForm). May f (deed list) (view_of c.args.self.now)) (sym enter.ensures.same.0) (c.requires.may (told_as_wakes c.args.telling list)) in
@@ -36,7 +36,7 @@ leave-requires g c =
 pub returns-clause-deed : goal.returns-clause-deed
 returns-clause-deed g c =
     let enter = c.enter-section in
-    let list = enter.result.list.lists in
+    let list = enter.result.list.value.lists in
     let after = c.tell.new.list.lists in
     let deed : Listeners g.row.W.Denot → Deed g.row.T.Denot g.row.W.Denot = λ l. told c.args.line c.args.telling (told_as_wakes c.args.telling l) in
     let may = subst (λ (f : QueueForm). May f (deed list) (view_of c.args.self.now)) (sym enter.ensures.same.0) (c.requires.may (told_as_wakes c.args.telling list)) in

@@ -1,7 +1,0 @@
-use Rattle.channel_wakeups.proofs.From.{in_table, measures_from}
-use Rattle.channel_wakeups.proofs.handles.measure.Goals as goal
-
-pub load-requires : goal.load-requires
-load-requires g c =
-    let s = c.requires.seat in
-    (s.0, in_table g.K.Counting.kind _ _ c.word-word.ensures c.requires.table, measures_from g.K.Counting.kind _ _ _ _ c.word-word.ensures s.2 s.1)

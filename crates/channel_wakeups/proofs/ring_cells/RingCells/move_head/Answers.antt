@@ -1,7 +1,0 @@
-use Rattle.std.proofs.Common.{◌∙◌, ap, arith}
-use Rattle.concurrent_queue.specs.machine.RingWords.{ring_mark}
-use Rattle.channel_wakeups.proofs.RingStages.{moves_head}
-use Rattle.channel_wakeups.proofs.ring_cells.RingCells.move_head.Goals as goal
-
-pub compare_exchange-found-requires : goal.compare_exchange-found-requires
-compare_exchange-found-requires g c = let s = c.args.self.now in (s.seated, omega (arith, s.wide, s.several), moves_head _ _ s.several s.limit s.displaces _ s.stage c.args.head _ _ _ c.requires s.tied (s.shape.marks ∙ ap ring_mark s.measured) s.measured c.next-next.ensures)

@@ -1,5 +1,0 @@
-use Rattle.std.proofs.Common.{◌≡◌}
-use Rattle.channel_wakeups_tests.proofs.blocked.receive_and_close.Given as goal
-
-abbrev pub invariant-loop : goal.invariant-loop
-invariant-loop g l = l.pass.parts ≡ l.fn.pass.parts
