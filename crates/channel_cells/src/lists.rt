@@ -1,14 +1,21 @@
 //! A list of listeners as it lies behind its lock.
 
-ghost use Rattle.std.specs.Prelude.{◌≡◌, ◌<◌};
+ghost use Rattle.std.specs.Prelude.{◌≡◌, ◌<◌, IfOk, OnErr, None, true};
+ghost use Rattle.event_listener.specs.Lists.{listened, kind_of, registration, removed, removed_wakes};
+ghost use Rattle.event_listener.specs.Notices.{Woken};
+ghost use Rattle.channel_calls.specs.Parts.{told_as, told_as_wakes, Registers};
 ghost use Rattle.channel_cells.specs.Lists.{index_of};
 
 use crate::machine::OfChannel;
-use channel_calls::stage::WaitList;
+use channel_calls::notices;
+use channel_calls::stage::{Telling, WaitList};
 use channel_history::party::Standing;
 use concurrent_queue::history::seats::NamelessSeat;
 use concurrent_queue::history::table::RuledTable;
+use event_listener::error::ListenError;
+use event_listener::key::Key;
 use event_listener::list::List;
+use event_listener::wakes::Wakes;
 use keyed_lock::Keeps;
 
 /// The table of a channel.
@@ -42,4 +49,45 @@ pub(crate) fn index_of(line: WaitList) -> usize
         WaitList::Streams => 2,
         WaitList::Closings => 3,
     }
+}
+
+/// A listener more, which waits behind all others: [`List::insert`].
+#[inline(always)]
+pub(crate) fn insert<W: Drop>(list: &mut Box<List<(), W>>) -> Result<Key, ListenError>
+    ensures lists { IfOk result (λ key. list.new.value.lists ≡ listened key list.old.value.lists) }
+    ensures unknown { IfOk result (λ key. kind_of list.old.value.lists key ≡ None) }
+    ensures unchanged { OnErr result (list.new.value.lists ≡ list.old.value.lists) }
+{
+    list.insert()
+}
+
+/// The task of a listener: [`notices::register`].
+#[inline(always)]
+pub(crate) fn register<W: Drop>(list: &mut Box<List<(), W>>, key: Key, task: W) -> Option<W>
+    ensures answer { Registers list.old.value.lists key task result }
+    ensures lists { list.new.value.lists ≡ registration key task list.old.value.lists }
+{
+    notices::register(&mut **list, key, task)
+}
+
+/// A listener leaves, and passes its notice on: [`List::remove`].
+#[inline(always)]
+pub(crate) fn remove<W: Drop, S: Wakes<W>>(list: &mut Box<List<(), W>>, key: Key, sink: &mut S)
+    ensures lists { list.new.value.lists ≡ removed key true list.old.value.lists }
+    ensures woken { Woken S.wakes sink.old (removed_wakes key true list.old.value.lists) sink.new }
+{
+    let _ = list.remove(key, true, sink);
+}
+
+/// These of those who wait are told: [`notices::tell`].
+#[inline(always)]
+pub(crate) fn tell<W: Drop, S: Wakes<W>>(
+    list: &mut Box<List<(), W>>,
+    telling: Telling,
+    sink: &mut S,
+)
+    ensures lists { list.new.value.lists ≡ told_as telling list.old.value.lists }
+    ensures woken { Woken S.wakes sink.old (told_as_wakes telling list.old.value.lists) sink.new }
+{
+    notices::tell(&mut **list, telling, sink);
 }

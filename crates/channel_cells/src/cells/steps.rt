@@ -4,8 +4,8 @@ ghost use Rattle.std.specs.Prelude.{◌≡◌};
 ghost use Rattle.channel_history.specs.Machine.{side_of};
 
 use crate::cells::CallCells;
+use crate::lists;
 use channel_calls::cells::ChannelCells;
-use channel_calls::notices;
 use channel_calls::stage::{Side, Telling, WaitList};
 use concurrent_queue::call::QueueReply;
 use concurrent_queue::history::rule::Counter;
@@ -64,12 +64,12 @@ impl<'a, T: Drop, W: Drop, R: Wait> ChannelCells<T, W> for CallCells<'a, T, W, R
 
     fn insert(&mut self, line: WaitList) -> Result<Key, ListenError> {
         let mut section = self.enter(line);
-        let answer = section.list.insert();
+        let answer = lists::insert(&mut section.list);
         self.queue
             .seat
-            .turn_by::<Brand, (WaitList, Result<Key, ListenError>), List<(), W>>(
+            .turn_by::<Brand, (WaitList, Result<Key, ListenError>), Box<List<(), W>>>(
                 &(line, answer),
-                &*section.list,
+                &section.list,
             );
         self.leave(line, section);
         answer
@@ -81,27 +81,30 @@ impl<'a, T: Drop, W: Drop, R: Wait> ChannelCells<T, W> for CallCells<'a, T, W, R
         self.queue
             .seat
             .turn_by::<Brand, (WaitList, Key), W>(&(line, key), &task);
-        let back = notices::register(&mut *section.list, key, task);
+        let back = lists::register(&mut section.list, key, task);
         self.leave(line, section);
         back
     }
 
     fn remove<S: Wakes<W>>(&mut self, line: WaitList, key: Key, sink: &mut S) {
         let mut section = self.enter(line);
-        let _ = section.list.remove(key, true, sink);
+        lists::remove(&mut section.list, key, sink);
         self.queue
             .seat
-            .turn_by::<Brand, (WaitList, Key), List<(), W>>(&(line, key), &*section.list);
+            .turn_by::<Brand, (WaitList, Key), Box<List<(), W>>>(&(line, key), &section.list);
         self.leave(line, section);
     }
 
     #[inline(always)]
     fn tell<S: Wakes<W>>(&mut self, line: WaitList, telling: Telling, sink: &mut S) {
         let mut section = self.enter(line);
-        notices::tell(&mut *section.list, telling, sink);
+        lists::tell(&mut section.list, telling, sink);
         self.queue
             .seat
-            .turn_by::<Brand, (WaitList, Telling), List<(), W>>(&(line, telling), &*section.list);
+            .turn_by::<Brand, (WaitList, Telling), Box<List<(), W>>>(
+                &(line, telling),
+                &section.list,
+            );
         self.leave(line, section);
     }
 

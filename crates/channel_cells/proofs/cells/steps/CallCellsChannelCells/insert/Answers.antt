@@ -16,7 +16,7 @@ pub turn_by-requires : goal.turn_by-requires
 turn_by-requires g c =
     let enter = c.enter-section in
     let list = enter.result.list.value.lists in
-    let after = c.insert-answer.new.self.lists in
+    let after = c.insert-answer.new.list.value.lists in
     let d : Deed g.row.T.Denot g.row.W.Denot = inserted c.args.line c.insert-answer.result in
     let may = subst (λ (f : QueueForm). May f d (view_of c.args.self.now)) (sym enter.ensures.same.0) (c.requires.may c.insert-answer.result) in
     let goes = goes_on (form_in enter.new.self) c.args.line d (view_of c.args.self.now) (view_of enter.new.self) list after may enter.ensures.inside refl (insert_changes c.args.line list after c.insert-answer.result c.insert-answer.ensures.unknown c.insert-answer.ensures.lists c.insert-answer.ensures.unchanged) in
@@ -26,7 +26,7 @@ pub leave-requires : goal.leave-requires
 leave-requires g c =
     let enter = c.enter-section in
     let list = enter.result.list.value.lists in
-    let after = c.insert-answer.new.self.lists in
+    let after = c.insert-answer.new.list.value.lists in
     let d : Deed g.row.T.Denot g.row.W.Denot = inserted c.args.line c.insert-answer.result in
     let may = subst (λ (f : QueueForm). May f d (view_of c.args.self.now)) (sym enter.ensures.same.0) (c.requires.may c.insert-answer.result) in
     let done = was_done (form_in enter.new.self) c.args.line d (view_of c.args.self.now) (view_of enter.new.self) list after may enter.ensures.inside c.turn_by.new.self.seat.me.0.state c.turn_by.ensures.made in
@@ -36,7 +36,7 @@ pub returns-clause-deed : goal.returns-clause-deed
 returns-clause-deed g c =
     let enter = c.enter-section in
     let list = enter.result.list.value.lists in
-    let after = c.insert-answer.new.self.lists in
+    let after = c.insert-answer.new.list.value.lists in
     let d : Deed g.row.T.Denot g.row.W.Denot = inserted c.args.line c.insert-answer.result in
     let may = subst (λ (f : QueueForm). May f d (view_of c.args.self.now)) (sym enter.ensures.same.0) (c.requires.may c.insert-answer.result) in
     let done = was_done (form_in enter.new.self) c.args.line d (view_of c.args.self.now) (view_of enter.new.self) list after may enter.ensures.inside c.turn_by.new.self.seat.me.0.state c.turn_by.ensures.made in

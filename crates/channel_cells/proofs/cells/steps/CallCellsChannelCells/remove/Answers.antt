@@ -17,7 +17,7 @@ pub turn_by-requires : goal.turn_by-requires
 turn_by-requires g c =
     let enter = c.enter-section in
     let list = enter.result.list.value.lists in
-    let after = c.remove.new.self.lists in
+    let after = c.remove.new.list.value.lists in
     let deed : Listeners g.row.W.Denot → Deed g.row.T.Denot g.row.W.Denot = λ l. taken_off c.args.line c.args.key (removed_wakes c.args.key true l) in
     let may = subst (λ (f : QueueForm). May f (deed list) (view_of c.args.self.now)) (sym enter.ensures.same.0) (c.requires.may (removed_wakes c.args.key true list)) in
     let goes = goes_on (form_in enter.new.self) c.args.line (deed list) (view_of c.args.self.now) (view_of enter.new.self) list after may enter.ensures.inside refl (remove_changes c.args.line list after c.args.key c.remove.ensures.lists) in
@@ -27,7 +27,7 @@ pub leave-requires : goal.leave-requires
 leave-requires g c =
     let enter = c.enter-section in
     let list = enter.result.list.value.lists in
-    let after = c.remove.new.self.lists in
+    let after = c.remove.new.list.value.lists in
     let deed : Listeners g.row.W.Denot → Deed g.row.T.Denot g.row.W.Denot = λ l. taken_off c.args.line c.args.key (removed_wakes c.args.key true l) in
     let may = subst (λ (f : QueueForm). May f (deed list) (view_of c.args.self.now)) (sym enter.ensures.same.0) (c.requires.may (removed_wakes c.args.key true list)) in
     let to = answers_to (form_in enter.new.self) c.args.line (view_of c.args.self.now) (view_of enter.new.self) list may.2.2.0 enter.ensures.inside deed after c.turn_by.new.self.seat.me.0.state c.turn_by.ensures.made in
@@ -38,7 +38,7 @@ pub returns-clause-deed : goal.returns-clause-deed
 returns-clause-deed g c =
     let enter = c.enter-section in
     let list = enter.result.list.value.lists in
-    let after = c.remove.new.self.lists in
+    let after = c.remove.new.list.value.lists in
     let deed : Listeners g.row.W.Denot → Deed g.row.T.Denot g.row.W.Denot = λ l. taken_off c.args.line c.args.key (removed_wakes c.args.key true l) in
     let may = subst (λ (f : QueueForm). May f (deed list) (view_of c.args.self.now)) (sym enter.ensures.same.0) (c.requires.may (removed_wakes c.args.key true list)) in
     let to = answers_to (form_in enter.new.self) c.args.line (view_of c.args.self.now) (view_of enter.new.self) list may.2.2.0 enter.ensures.inside deed after c.turn_by.new.self.seat.me.0.state c.turn_by.ensures.made in

@@ -16,7 +16,7 @@ pub turn_by-requires : goal.turn_by-requires
 turn_by-requires g c =
     let enter = c.enter-section in
     let list = enter.result.list.value.lists in
-    let after = c.tell.new.list.lists in
+    let after = c.tell.new.list.value.lists in
     let deed : Listeners g.row.W.Denot → Deed g.row.T.Denot g.row.W.Denot = λ l. told c.args.line c.args.telling (told_as_wakes c.args.telling l) in
     let may = subst (λ (f : QueueForm). May f (deed list) (view_of c.args.self.now)) (sym enter.ensures.same.0) (c.requires.may (told_as_wakes c.args.telling list)) in
     let goes = goes_on (form_in enter.new.self) c.args.line (deed list) (view_of c.args.self.now) (view_of enter.new.self) list after may enter.ensures.inside refl (notify_changes c.args.line list after c.args.telling c.tell.ensures.lists) in
@@ -26,7 +26,7 @@ pub leave-requires : goal.leave-requires
 leave-requires g c =
     let enter = c.enter-section in
     let list = enter.result.list.value.lists in
-    let after = c.tell.new.list.lists in
+    let after = c.tell.new.list.value.lists in
     let deed : Listeners g.row.W.Denot → Deed g.row.T.Denot g.row.W.Denot = λ l. told c.args.line c.args.telling (told_as_wakes c.args.telling l) in
     let may = subst (λ (f : QueueForm). May f (deed list) (view_of c.args.self.now)) (sym enter.ensures.same.0) (c.requires.may (told_as_wakes c.args.telling list)) in
     let to = answers_to (form_in enter.new.self) c.args.line (view_of c.args.self.now) (view_of enter.new.self) list may.2.2.0 enter.ensures.inside deed after c.turn_by.new.self.seat.me.0.state c.turn_by.ensures.made in
@@ -37,7 +37,7 @@ pub returns-clause-deed : goal.returns-clause-deed
 returns-clause-deed g c =
     let enter = c.enter-section in
     let list = enter.result.list.value.lists in
-    let after = c.tell.new.list.lists in
+    let after = c.tell.new.list.value.lists in
     let deed : Listeners g.row.W.Denot → Deed g.row.T.Denot g.row.W.Denot = λ l. told c.args.line c.args.telling (told_as_wakes c.args.telling l) in
     let may = subst (λ (f : QueueForm). May f (deed list) (view_of c.args.self.now)) (sym enter.ensures.same.0) (c.requires.may (told_as_wakes c.args.telling list)) in
     let to = answers_to (form_in enter.new.self) c.args.line (view_of c.args.self.now) (view_of enter.new.self) list may.2.2.0 enter.ensures.inside deed after c.turn_by.new.self.seat.me.0.state c.turn_by.ensures.made in
