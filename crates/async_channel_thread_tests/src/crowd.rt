@@ -1,7 +1,7 @@
 //! Four threads send and four receive, as the tests of `async-channel` 2.5.0 have them.
 
 use crate::checks::expect_equal;
-use crate::jobs::{Job, all_done, is_flagged};
+use crate::jobs::{Job, all_done};
 use crate::tally::Tally;
 use async_channel::{Receiver, Sender, TryRecvError};
 use channel_test_helpers::{Ends, next_message, next_of_stream, opened, sent};
@@ -13,7 +13,7 @@ use std::thread::Threads;
 const COUNT: u64 = 2_500;
 
 /// Whether all messages were sent.
-pub(crate) fn send_all<R>(rt: R, s: &Sender<u64, R>) -> bool
+fn send_all<R>(rt: R, s: &Sender<u64, R>) -> bool
 where
     R: Wait + Copy + RandomSource + AllocGlobal,
 {
@@ -34,7 +34,7 @@ fn is_noted(message: Option<u64>, tally: &Tally) -> bool {
 }
 
 /// Whether as many messages came as one thread sends.
-pub(crate) fn receive_all<R>(rt: R, r: &Receiver<u64, R>, tally: &Tally) -> bool
+fn receive_all<R>(rt: R, r: &Receiver<u64, R>, tally: &Tally) -> bool
 where
     R: Wait + Copy + RandomSource + AllocGlobal,
 {
@@ -47,7 +47,7 @@ where
 }
 
 /// The same, by a receiver of the thread's own as a stream.
-pub(crate) fn stream_all<R>(rt: R, own: Receiver<u64, R>, tally: &Tally) -> bool
+fn stream_all<R>(rt: R, own: Receiver<u64, R>, tally: &Tally) -> bool
 where
     R: Wait + Copy + RandomSource + AllocGlobal,
 {
@@ -60,20 +60,40 @@ where
     true
 }
 
+/// What one thread does with the messages of the crowd.
+#[derive(Drop)]
+enum Work<'a, R: Wait + Copy> {
+    Send(&'a Sender<u64, R>),
+    Receive(&'a Receiver<u64, R>, &'a Tally),
+    Stream(Receiver<u64, R>, &'a Tally),
+}
+
+impl<R: Wait + Copy + RandomSource + AllocGlobal> Job<R> for Work<'_, R> {
+    type Done = bool;
+
+    fn run(self, rt: R) -> bool {
+        match self {
+            Work::Send(s) => send_all(rt, s),
+            Work::Receive(r, tally) => receive_all(rt, r, tally),
+            Work::Stream(own, tally) => stream_all(rt, own, tally),
+        }
+    }
+}
+
 /// The jobs of four who send and four who receive, as streams or not; none where memory or a handle was refused.
 fn jobs_of_eight<'a, R: Wait + Copy + AllocGlobal>(
     rt: R,
     ends: &'a Ends<R>,
     tally: &'a Tally,
     is_streamed: bool,
-) -> Option<Vec<Job<'a, R>>> {
+) -> Option<Vec<Work<'a, R>>> {
     let mut jobs = Vec::new(rt.alloc());
     for _ in 0..4 {
-        jobs.push(Job::SendAll(&ends.0)).ok()?;
+        jobs.push(Work::Send(&ends.0)).ok()?;
         let receives = if is_streamed {
-            Job::StreamAll(ends.1.try_clone().ok()?, tally)
+            Work::Stream(ends.1.try_clone().ok()?, tally)
         } else {
-            Job::ReceiveAll(&ends.1, tally)
+            Work::Receive(&ends.1, tally)
         };
         jobs.push(receives).ok()?;
     }
@@ -91,7 +111,7 @@ where
     let done = all_done(rt, jobs).ok()?;
     let mut right = done.len() == 8 && tally.all_are(4);
     for each in done.iter() {
-        right = right & is_flagged(each);
+        right = right & *each;
     }
     Some(right && ends.1.try_recv() == Err(TryRecvError::Empty))
 }

@@ -1,51 +1,57 @@
 //! Each message is received, displaced or left, and let go once, wherever handles and operations are dropped.
 
 use crate::checks::{expect_equal, expect_true, new_task};
-use crate::jobs::Counts;
+use crate::jobs::{Job, both};
 use async_channel::{Receiver, Send as Sending, Sender, bounded};
 use event_listener::id::EventIds;
 use futures::task::Poll;
 use futures::test::MockTask;
 use std::sync::{Arc, Wait};
 use std::thread;
-use std::thread::Threads;
 
 type Token = Arc<u64>;
 
-/// What one thread does with handles of tokens.
+/// Sends tokens through a sender of its own.
 #[derive(Drop)]
-enum Job<'a, R: Wait + Copy> {
-    /// Sends tokens, or receives them.
-    Send(Sender<Token, R>, &'a Token, MockTask),
-    Receive(Receiver<Token, R>, MockTask),
-    /// Drops this.
-    DropSend(Sending<'a, Token, R>),
-    DropReceiver(Receiver<Token, R>),
+struct SendTokens<'a, R: Wait + Copy> {
+    sender: Sender<Token, R>,
+    token: &'a Token,
+    task: MockTask,
 }
 
-/// Does a job.
-fn count<R: Wait + Copy>(job: Job<'_, R>) -> Counts {
-    match job {
-        Job::Send(s, token, task) => send_tokens(&s, token, &task),
-        Job::Receive(r, task) => (receive_tokens(&r, &task), 0),
-        Job::DropSend(send) => {
-            drop(send);
-            (0, 0)
-        }
-        Job::DropReceiver(r) => {
-            drop(r);
-            (0, 0)
-        }
+impl<R: Wait + Copy> Job<R> for SendTokens<'_, R> {
+    type Done = (u64, u64);
+
+    fn run(self, _rt: R) -> (u64, u64) {
+        send_tokens(&self.sender, self.token, &self.task)
     }
 }
 
-/// Does two jobs at once: what each said.
-fn both<'a, R>(rt: R, first: Job<'a, R>, second: Job<'a, R>) -> [Counts; 2]
-where
-    R: Wait + Threads + Copy + Send + Sync,
-{
-    let (one, other) = thread::join(&rt, move || count(first), move || count(second));
-    [one, other]
+/// Receives tokens through a receiver of its own.
+#[derive(Drop)]
+struct ReceiveTokens<R: Wait + Copy> {
+    receiver: Receiver<Token, R>,
+    task: MockTask,
+}
+
+impl<R: Wait + Copy> Job<R> for ReceiveTokens<R> {
+    type Done = u64;
+
+    fn run(self, _rt: R) -> u64 {
+        receive_tokens(&self.receiver, &self.task)
+    }
+}
+
+/// Drops this.
+#[derive(Drop)]
+struct Discard<T>(T);
+
+impl<R: Copy, T: Drop> Job<R> for Discard<T> {
+    type Done = ();
+
+    fn run(self, _rt: R) {
+        drop(self.0);
+    }
 }
 
 /// Whether a send of a token that doesn't wait is done; nothing where there was no token to send.
@@ -76,7 +82,7 @@ fn is_accepted<R: Wait + Copy>(s: &Sender<Token, R>, token: &Token, task: &MockT
 }
 
 /// Sends tokens by both calls that don't wait, and leaves a polled send behind: how many were accepted, and how many displaced.
-fn send_tokens<R: Wait + Copy>(s: &Sender<Token, R>, token: &Token, task: &MockTask) -> Counts {
+fn send_tokens<R: Wait + Copy>(s: &Sender<Token, R>, token: &Token, task: &MockTask) -> (u64, u64) {
     let mut accepted = 0u64;
     let mut displaced = 0u64;
     for _ in 0..500 {
@@ -108,10 +114,17 @@ fn each_message_is_let_go_once(rt: HostRuntime) {
     let (s, r) = bounded(rt, rt.alloc(), 2, &mut EventIds::new()).expect(&rt, "memory");
     let own_s = s.try_clone().expect(&rt, "handles");
     let own_r = r.try_clone().expect(&rt, "handles");
-    let [(accepted, displaced), (received, _)] = both(
+    let ((accepted, displaced), received) = both(
         rt,
-        Job::Send(own_s, &token, new_task(&rt)),
-        Job::Receive(own_r, new_task(&rt)),
+        SendTokens {
+            sender: own_s,
+            token: &token,
+            task: new_task(&rt),
+        },
+        ReceiveTokens {
+            receiver: own_r,
+            task: new_task(&rt),
+        },
     );
     let left = r.len();
     let gone = received.wrapping_add(displaced).wrapping_add(left as u64);
@@ -136,7 +149,7 @@ fn a_pending_send_and_the_receiver_are_dropped_elsewhere(rt: HostRuntime) {
     let mut send = s.send(third);
     expect_true(&rt, new_task(&rt).poll(&mut send).is_pending());
     expect_equal(&rt, &Arc::strong_count(&token), &4);
-    both(rt, Job::DropSend(send), Job::DropReceiver(r));
+    both(rt, Discard(send), Discard(r));
     expect_equal(&rt, &tries(&s, &token), &Some(false));
     expect_equal(&rt, &Arc::strong_count(&token), &3);
     drop(s);
@@ -147,12 +160,14 @@ fn a_pending_send_and_the_receiver_are_dropped_elsewhere(rt: HostRuntime) {
 #[test]
 fn two_last_receivers_are_dropped_at_once(rt: HostRuntime) {
     for _ in 0..50 {
-        let (s, r) = bounded(rt, rt.alloc(), 2, &mut EventIds::new()).expect(&rt, "memory");
+        let (s, r) = bounded::<Token, _>(rt, rt.alloc(), 2, &mut EventIds::new()).expect(
+            &rt, "memory",
+        );
         let other = r.try_clone().expect(&rt, "handles");
         let task = new_task(&rt);
         let mut closed = s.closed();
         expect_true(&rt, task.poll(&mut closed).is_pending());
-        both(rt, Job::DropReceiver(r), Job::DropReceiver(other));
+        both(rt, Discard(r), Discard(other));
         expect_equal(&rt, &(s.receiver_count(), s.is_closed()), &(0, true));
         expect_true(&rt, task.is_woken());
         expect_true(&rt, task.poll(&mut closed).is_ready());

@@ -14,7 +14,7 @@ use std::sync::atomic::{AtomicU64, Ordering};
 
 /// The handle of tasks that send, or that receive.
 #[derive(Clone, Copy)]
-pub(crate) enum Hand<'a, R: Wait + Copy> {
+enum Hand<'a, R: Wait + Copy> {
     Sender(&'a Sender<u64, R>),
     Receiver(&'a Receiver<u64, R>),
 }
@@ -52,7 +52,7 @@ impl<R: Wait + Copy> Future for Task<'_, R> {
 }
 
 /// Runs ten tasks of this handle to their ends: whether memory was to be had.
-pub(crate) fn run_ten<'a, R>(rt: R, hand: Hand<'a, R>, sum: &'a AtomicU64) -> bool
+fn run_ten<'a, R>(rt: R, hand: Hand<'a, R>, sum: &'a AtomicU64) -> bool
 where
     R: Wait + Copy + RandomSource + AllocGlobal,
 {
@@ -74,6 +74,21 @@ where
     spawned
 }
 
+/// Runs ten tasks of this handle, and adds up what came of them.
+#[derive(Drop)]
+struct TenTasks<'a, R: Wait + Copy> {
+    hand: Hand<'a, R>,
+    sum: &'a AtomicU64,
+}
+
+impl<R: Wait + Copy + RandomSource + AllocGlobal> Job<R> for TenTasks<'_, R> {
+    type Done = bool;
+
+    fn run(self, rt: R) -> bool {
+        run_ten(rt, self.hand, self.sum)
+    }
+}
+
 #[test]
 fn tasks_of_two_executors(rt: HostRuntime) {
     for capacity in [1, 3, 0] {
@@ -81,10 +96,16 @@ fn tasks_of_two_executors(rt: HostRuntime) {
         let (sent, sum) = (AtomicU64::new(0), AtomicU64::new(0));
         let run = both(
             rt,
-            Job::RunTen(Hand::Sender(&s), &sent),
-            Job::RunTen(Hand::Receiver(&r), &sum),
+            TenTasks {
+                hand: Hand::Sender(&s),
+                sum: &sent,
+            },
+            TenTasks {
+                hand: Hand::Receiver(&r),
+                sum: &sum,
+            },
         );
-        expect_equal(&rt, &run, &[(1, 0); 2]);
+        expect_equal(&rt, &run, &(true, true));
         let found = (sent.load(Ordering::SeqCst), sum.load(Ordering::SeqCst));
         expect_equal(&rt, &found, &(10, 55));
     }

@@ -1,7 +1,7 @@
 //! What calls of handles do to a channel without a bound, as a trace of the caller's sees it: alone, and beside another thread.
 
 use crate::checks::{expect_equal, expect_true};
-use crate::jobs::{Counts, Job, both};
+use crate::jobs::{Job, both};
 use async_channel::{Calls, Receiver, Sender, Telling, TryRecvError, WaitList};
 use channel_test_helpers::log::{
     Did, Log, close_logged, recv_blocking_logged, try_recv_logged, try_send_logged,
@@ -89,7 +89,7 @@ fn logs_of_calls_alone(rt: HostRuntime) {
 }
 
 /// Whether a send wrote the lines of one that is accepted.
-pub(crate) fn log_send<R: Wait + Copy>(s: &Sender<u64, R>, alloc: Global) -> bool {
+fn log_send<R: Wait + Copy>(s: &Sender<u64, R>, alloc: Global) -> bool {
     let Calls::Traced(channel) = s.calls() else {
         return false;
     };
@@ -102,7 +102,7 @@ pub(crate) fn log_send<R: Wait + Copy>(s: &Sender<u64, R>, alloc: Global) -> boo
 const CALLS: u64 = 500;
 
 /// How many sends were refused, or wrote other lines than those of one that is accepted.
-pub(crate) fn log_sends<R: Wait + Copy>(s: &Sender<u64, R>, alloc: Global) -> u64 {
+fn log_sends<R: Wait + Copy>(s: &Sender<u64, R>, alloc: Global) -> u64 {
     let Calls::Traced(channel) = s.calls() else {
         return CALLS;
     };
@@ -117,7 +117,7 @@ pub(crate) fn log_sends<R: Wait + Copy>(s: &Sender<u64, R>, alloc: Global) -> u6
 }
 
 /// How many receives wrote other lines than those of what they answered.
-pub(crate) fn log_receives<R: Wait + Copy>(r: &Receiver<u64, R>, alloc: Global) -> u64 {
+fn log_receives<R: Wait + Copy>(r: &Receiver<u64, R>, alloc: Global) -> u64 {
     let Calls::Traced(channel) = r.calls() else {
         return CALLS;
     };
@@ -135,6 +135,36 @@ pub(crate) fn log_receives<R: Wait + Copy>(r: &Receiver<u64, R>, alloc: Global) 
     wrong
 }
 
+/// Makes sends that write what they did: how many were wrong.
+#[derive(Drop)]
+struct Sends<'a, R: Wait + Copy> {
+    sender: &'a Sender<u64, R>,
+    alloc: Global,
+}
+
+impl<R: Wait + Copy> Job<R> for Sends<'_, R> {
+    type Done = u64;
+
+    fn run(self, _rt: R) -> u64 {
+        log_sends(self.sender, self.alloc)
+    }
+}
+
+/// Makes receives that write what they did: how many were wrong.
+#[derive(Drop)]
+struct Receives<'a, R: Wait + Copy> {
+    receiver: &'a Receiver<u64, R>,
+    alloc: Global,
+}
+
+impl<R: Wait + Copy> Job<R> for Receives<'_, R> {
+    type Done = u64;
+
+    fn run(self, _rt: R) -> u64 {
+        log_receives(self.receiver, self.alloc)
+    }
+}
+
 /// Two threads at once: each log is that of one call with its answer.
 #[test]
 fn logs_of_calls_at_once(rt: HostRuntime) {
@@ -142,21 +172,42 @@ fn logs_of_calls_at_once(rt: HostRuntime) {
         let (s, r) = opened(rt, rt.alloc(), 0).expect(&rt, "memory");
         let wrong = both(
             rt,
-            Job::LogSends(&s, rt.alloc()),
-            Job::LogReceives(&r, rt.alloc()),
+            Sends {
+                sender: &s,
+                alloc: rt.alloc(),
+            },
+            Receives {
+                receiver: &r,
+                alloc: rt.alloc(),
+            },
         );
-        expect_equal(&rt, &wrong, &[(0, 0); 2]);
+        expect_equal(&rt, &wrong, &(0, 0));
     }
 }
 
-/// Whether a closing says that it closed the channel, and whether it wrote the lines of that, each as 1 or 0.
-pub(crate) fn log_closing<R: Wait + Copy>(s: &Sender<u64, R>, alloc: Global) -> Counts {
+/// Whether a closing says that it closed the channel, and whether it wrote the lines of what it says.
+fn log_closing<R: Wait + Copy>(s: &Sender<u64, R>, alloc: Global) -> (bool, bool) {
     let Calls::Traced(channel) = s.calls() else {
-        return (0, 0);
+        return (false, false);
     };
     let (closed, log) = close_logged(&channel, Log::new(alloc));
     let lines: &[Did] = if closed { &CLOSED } else { &ASKED };
-    (u64::from(closed), u64::from(log.has(lines)))
+    (closed, log.has(lines))
+}
+
+/// Makes a closing that writes what it did.
+#[derive(Drop)]
+struct Closing<'a, R: Wait + Copy> {
+    sender: &'a Sender<u64, R>,
+    alloc: Global,
+}
+
+impl<R: Wait + Copy> Job<R> for Closing<'_, R> {
+    type Done = (bool, bool);
+
+    fn run(self, _rt: R) -> (bool, bool) {
+        log_closing(self.sender, self.alloc)
+    }
 }
 
 /// Two threads close at once: one of them says that it did, and both wrote the lines of what they said.
@@ -164,20 +215,26 @@ pub(crate) fn log_closing<R: Wait + Copy>(s: &Sender<u64, R>, alloc: Global) -> 
 fn logs_of_two_closings(rt: HostRuntime) {
     for _ in 0..100u8 {
         let (s, r) = opened(rt, rt.alloc(), 0).expect(&rt, "memory");
-        let [first, second] = both(
+        let (first, second) = both(
             rt,
-            Job::LogClosing(&s, rt.alloc()),
-            Job::LogClosing(&s, rt.alloc()),
+            Closing {
+                sender: &s,
+                alloc: rt.alloc(),
+            },
+            Closing {
+                sender: &s,
+                alloc: rt.alloc(),
+            },
         );
-        let closed = first.0.wrapping_add(second.0);
-        expect_equal(&rt, &(closed, first.1, second.1), &(1, 1, 1));
+        let one_closed = first.0 != second.0;
+        expect_equal(&rt, &(one_closed, first.1, second.1), &(true, true, true));
         drop(r);
     }
 }
 
 /// Whether a receive that blocked ended by a message: it told one who waits for a place, and left no listener behind. A call that slept
 /// had asked for a task.
-pub(crate) fn log_receive_that_blocks<R: Wait + Copy>(r: &Receiver<u64, R>, alloc: Global) -> bool {
+fn log_receive_that_blocks<R: Wait + Copy>(r: &Receiver<u64, R>, alloc: Global) -> bool {
     let Calls::Traced(channel) = r.calls() else {
         return false;
     };
@@ -192,6 +249,36 @@ pub(crate) fn log_receive_that_blocks<R: Wait + Copy>(r: &Receiver<u64, R>, allo
     came && last && (parked || !slept)
 }
 
+/// Makes a receive that blocks, and that writes what it did.
+#[derive(Drop)]
+struct BlockingReceive<'a, R: Wait + Copy> {
+    receiver: &'a Receiver<u64, R>,
+    alloc: Global,
+}
+
+impl<R: Wait + Copy> Job<R> for BlockingReceive<'_, R> {
+    type Done = bool;
+
+    fn run(self, _rt: R) -> bool {
+        log_receive_that_blocks(self.receiver, self.alloc)
+    }
+}
+
+/// Makes a send that writes what it did.
+#[derive(Drop)]
+struct OneSend<'a, R: Wait + Copy> {
+    sender: &'a Sender<u64, R>,
+    alloc: Global,
+}
+
+impl<R: Wait + Copy> Job<R> for OneSend<'_, R> {
+    type Done = bool;
+
+    fn run(self, _rt: R) -> bool {
+        log_send(self.sender, self.alloc)
+    }
+}
+
 /// One thread receives, the other one sends.
 #[test]
 fn logs_of_a_receive_that_blocks(rt: HostRuntime) {
@@ -199,9 +286,15 @@ fn logs_of_a_receive_that_blocks(rt: HostRuntime) {
         let (s, r) = opened(rt, rt.alloc(), 0).expect(&rt, "memory");
         let found = both(
             rt,
-            Job::LogReceiveThatBlocks(&r, rt.alloc()),
-            Job::LogSend(&s, rt.alloc()),
+            BlockingReceive {
+                receiver: &r,
+                alloc: rt.alloc(),
+            },
+            OneSend {
+                sender: &s,
+                alloc: rt.alloc(),
+            },
         );
-        expect_equal(&rt, &found, &[(1, 0); 2]);
+        expect_equal(&rt, &found, &(true, true));
     }
 }

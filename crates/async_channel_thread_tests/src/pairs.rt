@@ -12,9 +12,9 @@
 //! | `forget_receive A B C` | the same with receives | the same |
 //! | `CALL ..` | a call of it ([`channel_test_helpers::calls`]) | |
 
-use crate::checks::{expect_equal, expect_played, expect_true};
+use crate::checks::expect_played;
 use crate::gates::Gates;
-use crate::jobs::{Done, Job, all_done};
+use crate::jobs::{Job, both};
 use crate::pair_rows::PAIRS;
 use async_channel::{Receiver, Sender};
 use channel_test_helpers::calls::{MEMORY, polled, sender_says, write_received};
@@ -149,7 +149,7 @@ struct Place {
 
 /// One thread's side of the rows: its handles, one for each row, and how many rows have begun.
 #[derive(Drop)]
-pub(crate) struct Side<'a, R: Wait + Copy> {
+struct Side<'a, R: Wait + Copy> {
     rt: R,
     place: &'a Place,
     hands: Vec<Option<Hand<R>>>,
@@ -159,6 +159,16 @@ pub(crate) struct Side<'a, R: Wait + Copy> {
 const NO_HANDLE: Said = Said::Word("no handle");
 
 impl<'a, R: Wait + Copy> Side<'a, R> {
+    /// A side of which no row has begun.
+    fn new(rt: R, place: &'a Place, hands: Vec<Option<Hand<R>>>) -> Side<'a, R> {
+        Side {
+            rt,
+            place,
+            hands,
+            row: 0,
+        }
+    }
+
     /// The row's gates.
     fn gates(&self) -> RowGates<'a> {
         RowGates {
@@ -226,7 +236,7 @@ impl<R: Wait + Copy + RandomSource + AllocGlobal> Player for Side<'_, R> {
 }
 
 /// Plays one side of the rows.
-pub(crate) fn play_side<'t, R>(
+fn play_side<'t, R>(
     alloc: Global,
     text: &'t str,
     mut side: Side<'_, R>,
@@ -241,6 +251,22 @@ where
     };
     side.end(stopped);
     played
+}
+
+/// Plays one side of the rows.
+#[derive(Drop)]
+struct Play<'a, R: Wait + Copy> {
+    alloc: Global,
+    text: &'a str,
+    side: Side<'a, R>,
+}
+
+impl<'a, R: Wait + Copy + RandomSource + AllocGlobal> Job<R> for Play<'a, R> {
+    type Done = Result<Played<'a>, AllocError>;
+
+    fn run(self, _rt: R) -> Result<Played<'a>, AllocError> {
+        play_side(self.alloc, self.text, self.side)
+    }
 }
 
 /// The lines of one side, without the mark that stands before each, under the names of their rows.
@@ -282,22 +308,19 @@ fn rows(rt: HostRuntime) {
     let [senders, receivers] = open_all(rt, alloc, PAIRS);
     let sends = side_of(alloc, PAIRS, "s ").expect(&rt, "memory");
     let receives = side_of(alloc, PAIRS, "r ").expect(&rt, "memory");
-    let mut jobs = Vec::new(alloc);
-    for (text, hands) in [(sends.as_str(), senders), (receives.as_str(), receivers)] {
-        let side = Side {
-            rt,
-            place: &place,
-            hands,
-            row: 0,
-        };
-        let _ = jobs.push(Job::Play(alloc, text, side));
-    }
-    let both = all_done(rt, jobs).expect(&rt, "memory");
-    expect_equal(&rt, &both.len(), &2);
-    for done in both.iter() {
-        match done {
-            Done::Played(played) => expect_played(&rt, played, 19),
-            _ => expect_true(&rt, false),
-        }
-    }
+    let (sent, received) = both(
+        rt,
+        Play {
+            alloc,
+            text: sends.as_str(),
+            side: Side::new(rt, &place, senders),
+        },
+        Play {
+            alloc,
+            text: receives.as_str(),
+            side: Side::new(rt, &place, receivers),
+        },
+    );
+    expect_played(&rt, &sent, 19);
+    expect_played(&rt, &received, 19);
 }

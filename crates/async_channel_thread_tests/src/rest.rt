@@ -2,7 +2,7 @@
 //! pending whom a message or a place lets go on, and each message that was accepted was received once or is left.
 
 use crate::checks::expect_true;
-use crate::jobs::{Done, Job, all_done};
+use crate::jobs::{Job, both_pairs};
 use crate::tally::Tally;
 use async_channel::{Receiver, Recv, Send as Sending, Sender};
 use channel_test_helpers::{Ends, Said, opened, receives, sends};
@@ -56,7 +56,7 @@ impl Went {
 
 /// What a sender had accepted, and its last send with its task.
 #[derive(Drop)]
-pub(crate) struct LastSend<'a, R: Wait + Copy> {
+struct LastSend<'a, R: Wait + Copy> {
     went: Went,
     task: MockTask,
     send: Sending<'a, u64, R>,
@@ -64,7 +64,7 @@ pub(crate) struct LastSend<'a, R: Wait + Copy> {
 
 /// What a receiver got, and its last receive with its task.
 #[derive(Drop)]
-pub(crate) struct LastRecv<'a, R: Wait + Copy> {
+struct LastRecv<'a, R: Wait + Copy> {
     went: Went,
     task: MockTask,
     recv: Recv<'a, u64, R>,
@@ -81,7 +81,7 @@ fn renews<R: RandomSource + AllocGlobal>(rt: &R, task: &mut MockTask) -> bool {
     }
 }
 
-pub(crate) fn poll_sends<R>(rt: R, s: &Sender<u64, R>, from: u64, task: MockTask) -> LastSend<'_, R>
+fn poll_sends<R>(rt: R, s: &Sender<u64, R>, from: u64, task: MockTask) -> LastSend<'_, R>
 where
     R: Wait + Copy + RandomSource + AllocGlobal,
 {
@@ -101,7 +101,7 @@ where
     LastSend { went, task, send }
 }
 
-pub(crate) fn poll_receives<'a, R>(
+fn poll_receives<'a, R>(
     rt: R,
     r: &'a Receiver<u64, R>,
     tally: &Tally,
@@ -124,6 +124,38 @@ where
         }
     }
     LastRecv { went, task, recv }
+}
+
+/// Polls sends from this message on.
+#[derive(Drop)]
+struct PollSends<'a, R: Wait + Copy> {
+    sender: &'a Sender<u64, R>,
+    from: u64,
+    task: MockTask,
+}
+
+impl<'a, R: Wait + Copy + RandomSource + AllocGlobal> Job<R> for PollSends<'a, R> {
+    type Done = LastSend<'a, R>;
+
+    fn run(self, rt: R) -> LastSend<'a, R> {
+        poll_sends(rt, self.sender, self.from, self.task)
+    }
+}
+
+/// Polls receives.
+#[derive(Drop)]
+struct PollReceives<'a, R: Wait + Copy> {
+    receiver: &'a Receiver<u64, R>,
+    tally: &'a Tally,
+    task: MockTask,
+}
+
+impl<'a, R: Wait + Copy + RandomSource + AllocGlobal> Job<R> for PollReceives<'a, R> {
+    type Done = LastRecv<'a, R>;
+
+    fn run(self, rt: R) -> LastRecv<'a, R> {
+        poll_receives(rt, self.receiver, self.tally, self.task)
+    }
 }
 
 /// Polls a send that was woken, unless it is done.
@@ -205,44 +237,42 @@ fn settles<R: Wait + Copy>(last: &mut Last<'_, R>, r: &Receiver<u64, R>, tally: 
     senders_still && receivers_still && sends_rest && receives_rest && whole
 }
 
+/// A job that polls sends from this message on. Nothing where memory was refused.
+fn sends_from<R>(rt: R, sender: &Sender<u64, R>, from: u64) -> Option<PollSends<'_, R>>
+where
+    R: Wait + Copy + RandomSource + AllocGlobal,
+{
+    let task = MockTask::new(&rt).ok()?;
+    Some(PollSends { sender, from, task })
+}
+
+/// A job that polls receives. Nothing where memory was refused.
+fn receives_of<'a, R>(
+    rt: R,
+    receiver: &'a Receiver<u64, R>,
+    tally: &'a Tally,
+) -> Option<PollReceives<'a, R>>
+where
+    R: Wait + Copy + RandomSource + AllocGlobal,
+{
+    let task = MockTask::new(&rt).ok()?;
+    Some(PollReceives {
+        receiver,
+        tally,
+        task,
+    })
+}
+
 /// Two threads poll sends, and two poll receives: the last operations of each. Nothing where memory was refused.
 fn poll_all<'a, R>(rt: R, ends: &'a Ends<R>, tally: &'a Tally) -> Option<Last<'a, R>>
 where
     R: Wait + Threads + Copy + RandomSource + AllocGlobal + Send + Sync,
 {
-    let mut jobs = Vec::new(rt.alloc());
-    for from in [0, SECOND] {
-        let task = MockTask::new(&rt).ok()?;
-        jobs.push(Job::PollSends(&ends.0, from, task)).ok()?;
-    }
-    for _ in 0..2 {
-        let task = MockTask::new(&rt).ok()?;
-        jobs.push(Job::PollReceives(&ends.1, tally, task)).ok()?;
-    }
-    let mut done = all_done(rt, jobs).ok()?;
-    let last = (last_receive(done.pop())?, last_receive(done.pop())?);
-    let receives = (last.1, last.0);
-    let last = (last_send(done.pop())?, last_send(done.pop())?);
-    Some(Last {
-        sends: (last.1, last.0),
-        receives,
-    })
-}
-
-/// The last send of a job that polled some.
-fn last_send<R: Wait + Copy>(done: Option<Done<'_, R>>) -> Option<LastSend<'_, R>> {
-    match done {
-        Some(Done::Sent(last)) => Some(last),
-        _ => None,
-    }
-}
-
-/// The last receive of a job that polled some.
-fn last_receive<R: Wait + Copy>(done: Option<Done<'_, R>>) -> Option<LastRecv<'_, R>> {
-    match done {
-        Some(Done::Received(last)) => Some(last),
-        _ => None,
-    }
+    let (s, r) = (&ends.0, &ends.1);
+    let two_senders = (sends_from(rt, s, 0)?, sends_from(rt, s, SECOND)?);
+    let two_receivers = (receives_of(rt, r, tally)?, receives_of(rt, r, tally)?);
+    let (sends, receives) = both_pairs(rt, two_senders, two_receivers);
+    Some(Last { sends, receives })
 }
 
 #[test]

@@ -8,11 +8,7 @@ use std::sync::Wait;
 use std::thread;
 
 /// Sends a word, and waits for the other thread's: that one, or 0 where none came.
-pub(crate) fn exchange_words<R: Wait + Copy>(
-    to: &Sender<u64, R>,
-    from: &Receiver<u64, R>,
-    mine: u64,
-) -> u64 {
+fn exchange_words<R: Wait + Copy>(to: &Sender<u64, R>, from: &Receiver<u64, R>, mine: u64) -> u64 {
     if !sends_blocking(to, mine) {
         return 0;
     }
@@ -25,14 +21,38 @@ pub(crate) fn exchange_words<R: Wait + Copy>(
     0
 }
 
+/// Sends its word, and waits for the other one's.
+#[derive(Drop)]
+struct Exchange<R: Wait + Copy> {
+    to: Sender<u64, R>,
+    from: Receiver<u64, R>,
+    mine: u64,
+}
+
+impl<R: Wait + Copy> Job<R> for Exchange<R> {
+    type Done = u64;
+
+    fn run(self, _rt: R) -> u64 {
+        exchange_words(&self.to, &self.from, self.mine)
+    }
+}
+
 #[test]
 fn both_get_a_word(rt: HostRuntime) {
     let (there, mine) = opened(rt, rt.alloc(), 1).expect(&rt, "memory");
     let (back, other) = opened(rt, rt.alloc(), 0).expect(&rt, "memory");
     let got = both(
         rt,
-        Job::ExchangeWords(there, other, 1),
-        Job::ExchangeWords(back, mine, 2),
+        Exchange {
+            to: there,
+            from: other,
+            mine: 1,
+        },
+        Exchange {
+            to: back,
+            from: mine,
+            mine: 2,
+        },
     );
-    expect_equal(&rt, &got, &[(2, 0), (1, 0)]);
+    expect_equal(&rt, &got, &(2, 1));
 }
