@@ -62,7 +62,7 @@ fn open_all<R: Wait + Copy>(rt: R, alloc: Global) -> (Seen, u64) {
 #[test]
 fn openings_of_channels(rt: HostRuntime) {
     let (seen, next) = open_all(rt, rt.alloc());
-    expect_seen(&rt, &seen, 3, 34);
+    expect_seen(&rt, &seen, 3, 42);
     expect_equal(&rt, &next, &12);
 }
 
