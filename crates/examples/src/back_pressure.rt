@@ -1,6 +1,5 @@
 //! Back-pressure: a channel of one place makes a fast sender wait for a slow receiver.
 
-use crate::jobs::{Job, at_once, last};
 use async_channel::{EventIds, Receiver, Runtime, Sender, bounded};
 use futures::executor::block_on;
 use std::alloc::{AllocGlobal, Global};
@@ -9,7 +8,7 @@ use std::sync::Wait;
 use std::thread;
 
 /// Sends a hundred messages, each as soon as there is a place.
-pub(crate) fn send_fast<R>(rt: R, sender: Sender<u64, R>) -> Option<u64>
+fn send_fast<R>(rt: R, sender: Sender<u64, R>) -> Option<u64>
 where
     R: Wait + Copy + RandomSource + AllocGlobal,
 {
@@ -20,7 +19,7 @@ where
 }
 
 /// How many messages came; `None` where the channel ever held more than one, or a wait was refused.
-pub(crate) fn receive_slowly<R: Wait + Copy>(receiver: Receiver<u64, R>) -> Option<u64> {
+fn receive_slowly<R: Wait + Copy>(receiver: Receiver<u64, R>) -> Option<u64> {
     let mut count = 0u64;
     for message in &receiver {
         if message.is_err() || receiver.len() > 1 {
@@ -35,8 +34,11 @@ pub(crate) fn receive_slowly<R: Wait + Copy>(receiver: Receiver<u64, R>) -> Opti
 /// That number for a hundred messages.
 pub(crate) fn count<R: Runtime>(rt: R, alloc: Global, ids: &mut EventIds) -> Option<u64> {
     let (sender, receiver) = bounded(rt, alloc, 1, ids).ok()?;
-    let mut threads = Vec::with_capacity(alloc, 2).ok()?;
-    threads.push(Job::SendFast(sender)).ok()?;
-    threads.push(Job::ReceiveSlowly(receiver)).ok()?;
-    last(&at_once(rt, alloc, threads)?)
+    let (sent, count) = thread::join(
+        &rt,
+        move || send_fast(rt, sender),
+        move || receive_slowly(receiver),
+    );
+    sent?;
+    count
 }

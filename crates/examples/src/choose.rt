@@ -1,6 +1,7 @@
 //! Two receivers, chosen between by hand: a future that polls a receive of each.
 
-use crate::jobs::{Job, at_once, last};
+use crate::three::join_three;
+use crate::two_threads::send_all;
 use async_channel::{EventIds, Receiver, Recv, RecvError, Refused, Runtime, unbounded};
 use futures::Future;
 use futures::executor::block_on;
@@ -33,11 +34,7 @@ impl<R: Wait + Copy> Future for Either<'_, R> {
 }
 
 /// The sum of what comes by either channel, until both are closed and empty.
-pub(crate) fn receive_either<R>(
-    rt: R,
-    first: Receiver<u64, R>,
-    second: Receiver<u64, R>,
-) -> Option<u64>
+fn receive_either<R>(rt: R, first: Receiver<u64, R>, second: Receiver<u64, R>) -> Option<u64>
 where
     R: Wait + Copy + RandomSource + AllocGlobal,
 {
@@ -60,9 +57,11 @@ where
 pub(crate) fn sum<R: Runtime>(rt: R, alloc: Global, ids: &mut EventIds) -> Option<u64> {
     let (sender, first) = unbounded(rt, alloc, ids).ok()?;
     let (sender_too, second) = unbounded(rt, alloc, ids).ok()?;
-    let mut threads = Vec::with_capacity(alloc, 3).ok()?;
-    threads.push(Job::SendAll(sender)).ok()?;
-    threads.push(Job::SendAll(sender_too)).ok()?;
-    threads.push(Job::ReceiveEither(first, second)).ok()?;
-    last(&at_once(rt, alloc, threads)?)
+    let ((), (), sum) = join_three(
+        &rt,
+        move || send_all(sender),
+        move || send_all(sender_too),
+        move || receive_either(rt, first, second),
+    );
+    sum
 }

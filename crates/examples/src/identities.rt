@@ -1,12 +1,12 @@
 //! Two threads open channels and share one source of identities, behind a lock: so `same_channel` tells these channels apart.
 
-use crate::jobs::{Job, second_of_two};
 use async_channel::{EventIds, Runtime, Sender, bounded, unbounded};
 use std::alloc::Global;
 use std::sync::{Mutex, Wait};
+use std::thread;
 
 /// Opens a channel, and hands its sender out.
-pub(crate) fn open_one<R: Wait + Copy>(
+fn open_one<R: Wait + Copy>(
     rt: R,
     alloc: Global,
     ids: &Mutex<EventIds>,
@@ -24,7 +24,13 @@ pub(crate) fn count<R: Runtime>(rt: R, alloc: Global) -> Option<u64> {
     let (opened, senders) = unbounded(rt, alloc, &mut ids).ok()?;
     let ids = Mutex::new(ids);
     let twin = opened.try_clone().ok()?;
-    second_of_two(rt, alloc, Job::Open(&ids, twin), Job::Open(&ids, opened))?;
+    let (one, other) = thread::join(
+        &rt,
+        || open_one(rt, alloc, &ids, twin),
+        || open_one(rt, alloc, &ids, opened),
+    );
+    one?;
+    other?;
     let first = senders.try_recv().ok()?;
     let second = senders.try_recv().ok()?;
     Some(if first.same_channel(&second) { 1 } else { 2 })

@@ -1,14 +1,14 @@
 //! Messages of a type of one's own, which has no `Debug`. `?` needs that of a refusal that hands its message back; `without_message` drops
 //! the message, and is an error for every type.
 
-use crate::jobs::{Job, at_once, last};
 use async_channel::{EventIds, Receiver, Runtime, Sender, bounded};
 use std::alloc::Global;
 use std::sync::Wait;
+use std::thread;
 
 /// What a guest orders.
 #[derive(Drop)]
-pub(crate) struct Order {
+struct Order {
     dish: &'static str,
     count: u64,
 }
@@ -36,19 +36,18 @@ fn count_portions<R: Wait + Copy>(orders: Receiver<Order, R>) -> anyhow::Result<
     Ok(portions)
 }
 
-pub(crate) fn order_two<R: Wait + Copy>(kitchen: Sender<Order, R>) -> Option<u64> {
+fn order_two<R: Wait + Copy>(kitchen: Sender<Order, R>) -> Option<u64> {
     send_two(&kitchen).ok()
 }
 
-pub(crate) fn cook<R: Wait + Copy>(orders: Receiver<Order, R>) -> Option<u64> {
+fn cook<R: Wait + Copy>(orders: Receiver<Order, R>) -> Option<u64> {
     count_portions(orders).ok()
 }
 
 /// The portions of two orders.
 pub(crate) fn portions<R: Runtime>(rt: R, alloc: Global, ids: &mut EventIds) -> Option<u64> {
     let (kitchen, orders) = bounded(rt, alloc, 1, ids).ok()?;
-    let mut threads = Vec::with_capacity(alloc, 2).ok()?;
-    threads.push(Job::Order(kitchen)).ok()?;
-    threads.push(Job::Cook(orders)).ok()?;
-    last(&at_once(rt, alloc, threads)?)
+    let (sent, portions) = thread::join(&rt, move || order_two(kitchen), move || cook(orders));
+    sent?;
+    portions
 }

@@ -2,13 +2,14 @@
 //! sender of jobs shuts it down as it is dropped. What was sent before is still done; then the workers go, and with the last of them
 //! the results end.
 
-use crate::jobs::{Job, at_once, last};
+use crate::three::join_three;
 use async_channel::{EventIds, Receiver, Runtime, Sender, bounded};
 use std::alloc::Global;
 use std::sync::Wait;
+use std::thread;
 
 /// One worker: how many jobs it did, until there were no more.
-pub(crate) fn work<R: Wait + Copy>(jobs: Receiver<u64, R>, results: Sender<u64, R>) -> Option<u64> {
+fn work<R: Wait + Copy>(jobs: Receiver<u64, R>, results: Sender<u64, R>) -> Option<u64> {
     let mut done = 0u64;
     for job in &jobs {
         let job = job.ok()?;
@@ -19,7 +20,7 @@ pub(crate) fn work<R: Wait + Copy>(jobs: Receiver<u64, R>, results: Sender<u64, 
 }
 
 /// Gives thirty jobs, and no more.
-pub(crate) fn give<R: Wait + Copy>(jobs: Sender<u64, R>) -> Option<u64> {
+fn give<R: Wait + Copy>(jobs: Sender<u64, R>) -> Option<u64> {
     for job in 1..31 {
         jobs.send_blocking(job).ok()?;
     }
@@ -27,7 +28,7 @@ pub(crate) fn give<R: Wait + Copy>(jobs: Sender<u64, R>) -> Option<u64> {
 }
 
 /// The sum of all results.
-pub(crate) fn gather<R: Wait + Copy>(results: Receiver<u64, R>) -> Option<u64> {
+fn gather<R: Wait + Copy>(results: Receiver<u64, R>) -> Option<u64> {
     let mut sum = 0u64;
     for result in &results {
         sum = sum.wrapping_add(result.ok()?);
@@ -35,19 +36,34 @@ pub(crate) fn gather<R: Wait + Copy>(results: Receiver<u64, R>) -> Option<u64> {
     Some(sum)
 }
 
+/// All workers at once, a thread each: how many jobs they did together.
+fn work_all<R: Runtime>(rt: R, workers: Vec<(Receiver<u64, R>, Sender<u64, R>)>) -> Option<u64> {
+    let mut done = 0u64;
+    for one in thread::map_vec(&rt, workers, &|(jobs, results)| work(jobs, results)).ok()? {
+        done = done.wrapping_add(one?);
+    }
+    Some(done)
+}
+
 /// That sum where three workers do the jobs.
 pub(crate) fn sum<R: Runtime>(rt: R, alloc: Global, ids: &mut EventIds) -> Option<u64> {
     let (jobs, todo) = bounded(rt, alloc, 4, ids).ok()?;
     let (done, results) = bounded(rt, alloc, 4, ids).ok()?;
-    let mut threads = Vec::new(alloc);
+    let mut workers = Vec::new(alloc);
     for _ in 0..3 {
-        let worker = Job::Work(todo.try_clone().ok()?, done.try_clone().ok()?);
-        threads.push(worker).ok()?;
+        let worker = (todo.try_clone().ok()?, done.try_clone().ok()?);
+        workers.push(worker).ok()?;
     }
     // The workers alone have these: with the last of them the results end, and jobs are refused.
     drop(todo);
     drop(done);
-    threads.push(Job::Give(jobs)).ok()?;
-    threads.push(Job::Gather(results)).ok()?;
-    last(&at_once(rt, alloc, threads)?)
+    let (given, worked, sum) = join_three(
+        &rt,
+        move || give(jobs),
+        move || work_all(rt, workers),
+        move || gather(results),
+    );
+    given?;
+    worked?;
+    sum
 }

@@ -1,14 +1,14 @@
 //! Request and reply: a request has the sender of a channel of its own with it, on which the answer comes back. A server that is gone
 //! drops the request, and its sender, so that who asked is told that nothing comes.
 
-use crate::jobs::{Job, at_once, last};
 use async_channel::{EventIds, Receiver, Runtime, Sender, bounded};
 use std::alloc::Global;
 use std::sync::Wait;
+use std::thread;
 
 /// A number, and where its square is to go.
 #[derive(Drop)]
-pub(crate) struct Request<R: Wait + Copy> {
+struct Request<R: Wait + Copy> {
     number: u64,
     reply: Sender<u64, R>,
 }
@@ -27,7 +27,7 @@ fn ask<R: Wait + Copy>(
 }
 
 /// The server: how many requests it answered, until all who ask are gone.
-pub(crate) fn serve<R: Wait + Copy>(requests: Receiver<Request<R>, R>) -> Option<u64> {
+fn serve<R: Wait + Copy>(requests: Receiver<Request<R>, R>) -> Option<u64> {
     let mut answered = 0u64;
     for request in &requests {
         let Request { number, reply } = request.ok()?;
@@ -41,11 +41,7 @@ pub(crate) fn serve<R: Wait + Copy>(requests: Receiver<Request<R>, R>) -> Option
 
 /// Asks three times: the sum of the answers. Nobody compares channels of replies with others, so a thread may have a source of
 /// identities of its own for them.
-pub(crate) fn ask_three<R: Wait + Copy>(
-    rt: R,
-    alloc: Global,
-    server: Sender<Request<R>, R>,
-) -> Option<u64> {
+fn ask_three<R: Wait + Copy>(rt: R, alloc: Global, server: Sender<Request<R>, R>) -> Option<u64> {
     let mut ids = EventIds::new();
     let mut sum = 0u64;
     for number in 1..4 {
@@ -57,8 +53,11 @@ pub(crate) fn ask_three<R: Wait + Copy>(
 /// That sum.
 pub(crate) fn sum<R: Runtime>(rt: R, alloc: Global, ids: &mut EventIds) -> Option<u64> {
     let (server, requests) = bounded(rt, alloc, 2, ids).ok()?;
-    let mut threads = Vec::with_capacity(alloc, 2).ok()?;
-    threads.push(Job::Serve(requests)).ok()?;
-    threads.push(Job::Ask(server)).ok()?;
-    last(&at_once(rt, alloc, threads)?)
+    let (answered, sum) = thread::join(
+        &rt,
+        move || serve(requests),
+        move || ask_three(rt, alloc, server),
+    );
+    answered?;
+    sum
 }

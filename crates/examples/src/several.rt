@@ -1,17 +1,15 @@
 //! A consumer that works in batches: it waits for the first message, and takes the rest that is there in one call, into room that
 //! it has asked for once.
 
-use crate::jobs::{Job, at_once, last};
+use crate::two_threads::send_all;
 use async_channel::{EventIds, Receiver, Runtime, bounded};
 use std::alloc::Global;
 use std::sync::Wait;
+use std::thread;
 
 /// The sum of what is received until the channel is closed and empty. Refused where there is no memory for a batch, or where a
 /// wait was refused memory or a serial.
-pub(crate) fn receive_batches<R: Wait + Copy>(
-    alloc: Global,
-    receiver: Receiver<u64, R>,
-) -> Option<u64> {
+fn receive_batches<R: Wait + Copy>(alloc: Global, receiver: Receiver<u64, R>) -> Option<u64> {
     let mut batch = Vec::with_capacity(alloc, 15).ok()?;
     let mut sum = 0u64;
     for first in &receiver {
@@ -28,8 +26,10 @@ pub(crate) fn receive_batches<R: Wait + Copy>(
 /// The sum of a hundred numbers that go through sixteen places.
 pub(crate) fn sum<R: Runtime>(rt: R, alloc: Global, ids: &mut EventIds) -> Option<u64> {
     let (sender, receiver) = bounded(rt, alloc, 16, ids).ok()?;
-    let mut threads = Vec::with_capacity(alloc, 2).ok()?;
-    threads.push(Job::SendAll(sender)).ok()?;
-    threads.push(Job::ReceiveBatches(receiver)).ok()?;
-    last(&at_once(rt, alloc, threads)?)
+    let ((), sum) = thread::join(
+        &rt,
+        move || send_all(sender),
+        move || receive_batches(alloc, receiver),
+    );
+    sum
 }

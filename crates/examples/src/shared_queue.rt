@@ -1,6 +1,5 @@
 //! A queue between two threads.
 
-use crate::jobs::{Job, second_of_two};
 use async_channel::Runtime;
 use concurrent_queue::{ConcurrentQueue, PopError, PushError};
 use std::alloc::Global;
@@ -20,7 +19,7 @@ fn push<R: Wait + Copy>(rt: R, queue: &ConcurrentQueue<u64>, message: u64) -> Op
 }
 
 /// Pushes the numbers 1 to 4, and closes the queue.
-pub(crate) fn push_all<R: Wait + Copy>(rt: R, queue: &ConcurrentQueue<u64>) -> Option<u64> {
+fn push_all<R: Wait + Copy>(rt: R, queue: &ConcurrentQueue<u64>) -> Option<u64> {
     for number in 1..5 {
         push(rt, queue, number)?;
     }
@@ -29,7 +28,7 @@ pub(crate) fn push_all<R: Wait + Copy>(rt: R, queue: &ConcurrentQueue<u64>) -> O
 }
 
 /// Pops until the queue is closed and empty: what came, as one number, a digit each.
-pub(crate) fn pop_all<R: Wait + Copy>(rt: R, queue: &ConcurrentQueue<u64>) -> Option<u64> {
+fn pop_all<R: Wait + Copy>(rt: R, queue: &ConcurrentQueue<u64>) -> Option<u64> {
     let mut came = 0u64;
     for _ in rt.forever() {
         match queue.pop(&rt) {
@@ -44,5 +43,7 @@ pub(crate) fn pop_all<R: Wait + Copy>(rt: R, queue: &ConcurrentQueue<u64>) -> Op
 /// That number for four messages through two places.
 pub(crate) fn came<R: Runtime>(rt: R, alloc: Global) -> Option<u64> {
     let queue = ConcurrentQueue::bounded(alloc, 2).ok()?;
-    second_of_two(rt, alloc, Job::Push(&queue), Job::Pop(&queue))
+    let (pushed, came) = thread::join(&rt, || push_all(rt, &queue), || pop_all(rt, &queue));
+    pushed?;
+    came
 }

@@ -1,6 +1,5 @@
 //! A receive and a send with a time limit, to copy.
 
-use crate::jobs::{Job, at_once, last};
 use async_channel::{
     EventIds, ListenError, Receiver, RecvError, Refused, Runtime, SendError, Sender, TryRecvError,
     TrySendError, bounded,
@@ -93,14 +92,14 @@ const SHORT: u64 = 20;
 const LONG: u64 = 60_000;
 
 /// Sends a 5 after a short time, within a long one.
-pub(crate) fn send_soon<R: Runtime>(rt: R, sender: Sender<u64, R>) -> Option<u64> {
+fn send_soon<R: Runtime>(rt: R, sender: Sender<u64, R>) -> Option<u64> {
     thread::sleep(&rt, Duration::from_millis(SHORT));
     send_within(rt, &sender, 5, Duration::from_millis(LONG)).ok()?;
     Some(1)
 }
 
 /// Receives what comes after a short time, within a long one. `None` where it was waited for until the end.
-pub(crate) fn receive_soon<R: Runtime>(rt: R, receiver: Receiver<u64, R>) -> Option<u64> {
+fn receive_soon<R: Runtime>(rt: R, receiver: Receiver<u64, R>) -> Option<u64> {
     let start = Instant::now(&rt).ok()?;
     let message = recv_within(rt, &receiver, Duration::from_millis(LONG)).ok()?;
     let passed = start.elapsed(&rt).ok()?;
@@ -136,9 +135,11 @@ pub(crate) fn refused_and_received<R: Runtime>(
 ) -> Option<u64> {
     let (sender, receiver) = bounded(rt, alloc, 1, ids).ok()?;
     let back = refused(rt, &sender, &receiver)?;
-    let mut threads = Vec::with_capacity(alloc, 2).ok()?;
-    threads.push(Job::SendSoon(sender)).ok()?;
-    threads.push(Job::ReceiveSoon(receiver)).ok()?;
-    let came = last(&at_once(rt, alloc, threads)?)?;
-    Some(back.wrapping_mul(10).wrapping_add(came))
+    let (sent, came) = thread::join(
+        &rt,
+        move || send_soon(rt, sender),
+        move || receive_soon(rt, receiver),
+    );
+    sent?;
+    Some(back.wrapping_mul(10).wrapping_add(came?))
 }

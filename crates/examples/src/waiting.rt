@@ -1,13 +1,13 @@
 //! An event on which a thread waits.
 
-use crate::jobs::{Job, second_of_two};
 use async_channel::Runtime;
 use event_listener::{Event, EventIds, Listener};
 use std::alloc::Global;
 use std::sync::{Mutex, Wait};
+use std::thread;
 
 /// Waits until there is a value, and takes it. It listens before it looks, so no notice falls between.
-pub(crate) fn take<R: Wait>(rt: &R, event: &Event<()>, place: &Mutex<Option<u64>>) -> Option<u64> {
+fn take<R: Wait>(rt: &R, event: &Event<()>, place: &Mutex<Option<u64>>) -> Option<u64> {
     for _ in rt.forever() {
         let listener = event.listen(&rt).ok()?;
         if let Some(value) = place.lock(rt).take() {
@@ -19,12 +19,7 @@ pub(crate) fn take<R: Wait>(rt: &R, event: &Event<()>, place: &Mutex<Option<u64>
 }
 
 /// Puts the value there, and tells one that waits: how many were told.
-pub(crate) fn put<R: Wait>(
-    rt: &R,
-    event: &Event<()>,
-    place: &Mutex<Option<u64>>,
-    value: u64,
-) -> u64 {
+fn put<R: Wait>(rt: &R, event: &Event<()>, place: &Mutex<Option<u64>>, value: u64) -> u64 {
     *place.lock(rt) = Some(value);
     event.notify_additional(rt, 1) as u64
 }
@@ -33,10 +28,10 @@ pub(crate) fn put<R: Wait>(
 pub(crate) fn taken<R: Runtime>(rt: R, alloc: Global, ids: &mut EventIds) -> Option<u64> {
     let event = Event::new(alloc, ids.next().ok()?);
     let place = Mutex::new(None);
-    second_of_two(
-        rt,
-        alloc,
-        Job::Put(&event, &place),
-        Job::Take(&event, &place),
-    )
+    let (_told, taken) = thread::join(
+        &rt,
+        || put(&rt, &event, &place, 7),
+        || take(&rt, &event, &place),
+    );
+    taken
 }
