@@ -407,5 +407,5 @@ fn open_all(alloc: Global) -> Seen {
 #[test]
 fn openings_of_queues(rt: HostRuntime) {
     let seen = open_all(rt.alloc());
-    expect_seen(&rt, &seen, 5, 14);
+    expect_seen(&rt, &seen, 5, 24);
 }
