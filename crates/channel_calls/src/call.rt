@@ -1,6 +1,7 @@
 //! A call of a channel, which is made one step at a time.
 
 ghost use Rattle.std.specs.Prelude.{◌≡◌, true, Some};
+ghost use Rattle.channel_calls.specs.Asks.{kept_by};
 ghost use Rattle.channel_calls.specs.Moves.{IsNewCall};
 ghost use Rattle.channel_calls.specs.Replies.{FollowsStage};
 ghost use Rattle.channel_calls.specs.Marks.{is_up};
@@ -98,13 +99,29 @@ impl<T: Drop, W: Drop> ChannelCall<T, W> {
     pub fn into_kept(self) -> Returned<T>
         ensures { result ≡ kept_by self.stage }
     {
+        kept_by(self.into_stage())
+    }
+
+    /// Where the call stands, with what it holds.
+    #[inline(always)]
+    pub(crate) fn into_stage(self) -> Stage<QueueCall<T>, T, W>
+        ensures { result ≡ self.stage }
+    {
         let ChannelCall { stage, mark: _ } = self;
-        match stage {
-            Stage::Finished(kept) => kept,
-            stage => {
-                drop(stage);
-                Returned::nothing()
-            }
+        stage
+    }
+}
+
+/// What a call that stands here leaves to its operation; one that has not answered is let go.
+#[inline(always)]
+pub(crate) fn kept_by<T: Drop, W: Drop>(stage: Stage<QueueCall<T>, T, W>) -> Returned<T>
+    ensures { result ≡ kept_by stage }
+{
+    match stage {
+        Stage::Finished(kept) => kept,
+        stage => {
+            drop(stage);
+            Returned::nothing()
         }
     }
 }

@@ -8,10 +8,11 @@ ghost use Rattle.channel_calls.specs.Stands.{BeginsHere};
 ghost use Rattle.channel_calls.specs.Walks.{Walked, WalkedFrom};
 
 use crate::ask::ChannelAsk;
-use crate::call::ChannelCall;
+use crate::call::{ChannelCall, kept_by};
 use crate::cells::ChannelCells;
 use crate::reply::Reply;
 use crate::stage::Returned;
+use crate::step::{Stepped, stage_step};
 use event_listener::wakes::Wakes;
 use std::sync::Wait;
 
@@ -39,12 +40,20 @@ pub fn complete<T: Drop, W: Drop, R: Wait, C: ChannelCells<T, W>, S: Wakes<W>>(
     ensures answers { (f : QueueForm) → C.has_form cells.old f → MayEnd f call.stage result.reply result.kept.message }
     ensures form { (f : QueueForm) → C.has_form cells.old f → C.has_form cells.new f }
 {
-    let mut call = call;
+    let mut stage = call.into_stage();
     for _ in rt.forever() {
-        let answer = call.step(cells, sink);
-        if let Some(reply) = answer {
-            let kept = call.into_kept();
-            return Completed { reply, kept };
+        let stepped = stage_step(stage, cells, sink);
+        let Stepped {
+            stage: next,
+            mark: _,
+            reply,
+        } = stepped;
+        match reply {
+            Some(reply) => {
+                let kept = kept_by(next);
+                return Completed { reply, kept };
+            }
+            None => stage = next,
         }
     }
     unreachable!()

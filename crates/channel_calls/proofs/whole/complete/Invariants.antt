@@ -9,7 +9,7 @@ use Rattle.channel_calls.proofs.whole.complete.Given as goal
 -- the steps made so far led here, where the cells stand, and what the call may still answer it might have answered at first
 abbrev pub invariant-loop : goal.invariant-loop
 invariant-loop g l =
-    ((n : ℕ) × Leads (Done g.C.ChannelCells.did g.S.Wakes.wakes) n (l.initial.cells, l.initial.sink) l.fn.call.stage (l.cells, l.sink) l.call.stage)
+    ((n : ℕ) × Leads (Done g.C.ChannelCells.did g.S.Wakes.wakes) n (l.initial.cells, l.initial.sink) l.fn.call.stage (l.cells, l.sink) l.stage)
     × ((f : QueueForm) → g.C.ChannelCells.has_form l.initial.cells f → g.C.ChannelCells.has_form l.cells f)
-    × ((f : QueueForm) → g.C.ChannelCells.has_form l.initial.cells f → (r : Reply g.row.T.Denot) (m : Option g.row.T.Denot) → MayEnd f l.call.stage r m → MayEnd f l.fn.call.stage r m)
-    × g.C.ChannelCells.stands l.call.stage l.cells
+    × ((f : QueueForm) → g.C.ChannelCells.has_form l.initial.cells f → (r : Reply g.row.T.Denot) (m : Option g.row.T.Denot) → MayEnd f l.stage r m → MayEnd f l.fn.call.stage r m)
+    × g.C.ChannelCells.stands l.stage l.cells
