@@ -1,5 +1,5 @@
 -- Steps of a channel's call that are made on end: what they may answer, and that they leave nothing.
-use Rattle.std.proofs.Common.{◌≡◌, refl, subst, Option, None, Some, Ok, Err, Result, MatchResult}
+use Rattle.std.proofs.Common.{◌≡◌, refl, sym, subst, Option, None, Some, Ok, Err, Result, MatchResult}
 use Rattle.concurrent_queue.specs.Replies.{IsAsking, MayCall}
 use Rattle.concurrent_queue.specs.declared.cells.QueueForm.{QueueForm}
 use Rattle.concurrent_queue.specs.declared.call.QueueAsk.TheVariants as ask
@@ -19,7 +19,10 @@ use Rattle.channel_calls.specs.declared.stage.Purpose.TheVariants as purpose
 use Rattle.channel_calls.specs.declared.stage.Stage.{Stage}
 use Rattle.channel_calls.specs.declared.stage.Stage.TheVariants.{Trying, Finished}
 use Rattle.channel_calls.specs.declared.stage.NextStep.{NextStep}
-use Rattle.channel_calls.specs.Asks.{kept_by}
+use Rattle.channel_calls.specs.declared.stage.Returned.{Returned}
+use Rattle.channel_calls.specs.declared.stage.WaitList.TheVariants.{Sends, Receives, Streams}
+use Rattle.channel_calls.specs.declared.whole.Completed.{Completed}
+use Rattle.channel_calls.specs.Asks.{kept_by, lent}
 use Rattle.channel_calls.specs.Answered.{asked_next, forced_next, received_next, sent_next}
 use Rattle.channel_calls.specs.Replies.{FollowsTurn, FollowsStage, MayEnd, ReplyAllowed}
 use Rattle.channel_calls.specs.Turns.{nothing_kept}
@@ -37,6 +40,15 @@ module _ {T : Type 0} (W : Type 0) (f : QueueForm) (one : QueueCall T) where
 
   pub receives : IsAsking one ask.Pop → (r : Reply T) (m : Option T) → MayEnd {W = W} f (Trying one purpose.TryRecv) r m → ReplyAllowed {W = W} f call.TryRecv r m
   receives asks r m h = h ask.Pop (λ y may. subst (λ (z : CallState T). MayCall f z y) asks may) refl
+
+  pub polls_send : (v : T) (task : W) → IsAsking one (ask.Push v) → (r : Reply T) (m : Option T) → MayEnd {W = W} f (Trying one (purpose.Poll Sends None task)) r m → ReplyAllowed {W = W} f (call.PollSend v (lent None) task) r m
+  polls_send v task asks r m h = h (ask.Push v) (λ y may. subst (λ (z : CallState T). MayCall f z y) asks may) v refl
+
+  pub polls_receive : (task : W) → IsAsking one ask.Pop → (r : Reply T) (m : Option T) → MayEnd {W = W} f (Trying one (purpose.Poll Receives None task)) r m → ReplyAllowed {W = W} f (call.PollRecv (lent None) task) r m
+  polls_receive task asks r m h = h ask.Pop (λ y may. subst (λ (z : CallState T). MayCall f z y) asks may) refl
+
+  pub polls_stream : (task : W) → IsAsking one ask.Pop → (r : Reply T) (m : Option T) → MayEnd {W = W} f (Trying one (purpose.Poll Streams None task)) r m → ReplyAllowed {W = W} f (call.PollNext None task) r m
+  polls_stream task asks r m h = h ask.Pop (λ y may. subst (λ (z : CallState T). MayCall f z y) asks may) refl
 
 module _ {T W : Type 0} where
   -- a turn that answers leaves nothing
@@ -95,6 +107,17 @@ module _ {T W : Type 0} where
       MatchResult result (λ r. (s : Stage (QueueCall T) T W) × Takes turn s (Some r) × ((b : QueueForm) → FollowsTurn b turn s (Some r)))
       (λ call. Takes turn call.stage None × ((b : QueueForm) → FollowsTurn b turn call.stage None))
 
+  -- and what `over` says of a poll
+  abbrev pub TurnedOver : NextStep T W → Result (Completed T) (ChannelCall T W) → Type 0
+  TurnedOver turn result =
+      MatchResult result (λ e. (s : Stage (QueueCall T) T W) × Takes turn s (Some e.reply) × (e.kept ≡ kept_by s) × ((b : QueueForm) → FollowsTurn b turn s (Some e.reply)))
+      (λ call. Takes turn call.stage None × ((b : QueueForm) → FollowsTurn b turn call.stage None))
+
+  -- what may be given to a poll that is made on end
+  abbrev pub GivesOver : QueueForm → ChannelAsk T W → Result (Completed T) (ChannelCall T W) → Type 0
+  GivesOver f asked result =
+      MatchResult result (λ e. ReplyAllowed f asked e.reply e.kept.message) (λ call. (r : Reply T) (m : Option T) → MayEnd f call.stage r m → ReplyAllowed f asked r m)
+
   -- what may be given to a call that is made on end
   abbrev pub GivesOnEnd : QueueForm → ChannelAsk T W → Result (Reply T) (ChannelCall T W) → Type 0
   GivesOnEnd f asked result =
@@ -106,3 +129,9 @@ module _ {T W : Type 0} where
     gives_by turn (Ok r) (s, taken, follows) keeps through =
         gives r None (subst (λ (t : Stage (QueueCall T) T W). MayEnd f (Trying one x) r (kept_by t).message) (keeps r s taken) (through s (Some r) (follows f)))
     gives_by turn (Err left) (taken, follows) keeps through = λ r m may. gives r m (through left.stage None (follows f) r m may)
+
+    pub gives_over : (turn : NextStep T W) (result : Result (Completed T) (ChannelCall T W)) → TurnedOver turn result
+        → ((s : Stage (QueueCall T) T W) (r : Option (Reply T)) → FollowsTurn f turn s r → FollowsStage f (Trying one x) s r) → GivesOver f asked result
+    gives_over turn (Ok e) (s, taken, kept, follows) through =
+        gives e.reply e.kept.message (subst (λ (k : Returned T). MayEnd f (Trying one x) e.reply k.message) (sym kept) (through s (Some e.reply) (follows f)))
+    gives_over turn (Err left) (taken, follows) through = λ r m may. gives r m (through left.stage None (follows f) r m may)

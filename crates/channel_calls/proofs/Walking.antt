@@ -5,14 +5,14 @@ use Rattle.concurrent_queue.specs.Step.{Starts, mark_of}
 use Rattle.concurrent_queue.specs.declared.call.QueueAsk.{QueueAsk}
 use Rattle.concurrent_queue.specs.declared.call.QueueReply.{QueueReply}
 use Rattle.concurrent_queue.specs.declared.queue_call.QueueCall.{QueueCall}
-use Rattle.channel_calls.proofs.FastPathSteps.{KeepsNothing, Turned}
+use Rattle.channel_calls.proofs.FastPathSteps.{KeepsNothing, Turned, TurnedOver}
 use Rattle.channel_calls.specs.Answered.{answered_next}
 use Rattle.channel_calls.specs.Asks.{kept_by}
 use Rattle.channel_calls.specs.Deeds.{Deed, stepped}
 use Rattle.channel_calls.specs.Marks.{mark_of_queue}
 use Rattle.channel_calls.specs.Moves.{IsTaken}
 use Rattle.channel_calls.specs.Turns.{nothing_kept}
-use Rattle.channel_calls.specs.Walks.{Takes, ChannelMakes, Leads, Walked, WalkedFrom, WalkedTo, WalkedOn}
+use Rattle.channel_calls.specs.Walks.{Takes, ChannelMakes, Leads, Walked, WalkedFrom, WalkedTo, WalkedOn, WalkedOver}
 use Rattle.channel_calls.specs.declared.call.ChannelCall.{ChannelCall}
 use Rattle.channel_calls.specs.declared.mark.Mark.{Mark}
 use Rattle.channel_calls.specs.declared.reply.Reply.{Reply}
@@ -22,6 +22,7 @@ use Rattle.channel_calls.specs.declared.stage.Stage.{Stage}
 use Rattle.channel_calls.specs.declared.stage.Stage.TheVariants.{Trying}
 use Rattle.channel_calls.specs.declared.stage.NextStep.{NextStep}
 use Rattle.channel_calls.specs.declared.stage.NextStep.TheVariants.{Tries, Works, Ends}
+use Rattle.channel_calls.specs.declared.whole.Completed.{Completed}
 
 module _ {T W : Type 0} where
   pub taken_of : (turn : NextStep T W) (s : Stage (QueueCall T) T W) (r : Option (Reply T)) → Takes turn s r → IsTaken turn r s
@@ -52,10 +53,15 @@ module _ {T W X : Type 0} (did : Deed T W → X → X → Type 0) where
       let w = walks_on n d y b x r kept t rest walk in
       (suc w.0, w.1, w.2, w.3, w.4, (y, d, k, first, w.5), w.6, w.7)
 
+  -- a poll that is handed on, and is walked to its end
+  pub polled_on : (turn : NextStep T W) (s x t : X) (call : ChannelCall T W) (r : Reply T) (kept : Returned T)
+      → WalkedOver did turn s (Err call) x → Walked did call.stage x r kept t → WalkedFrom did turn s r kept t
+  polled_on turn s x t call r kept (a, takes, n, leads) walk = (a, takes, walks_on n a s call.stage x r kept t leads walk)
+
   -- a call that is handed on, and is walked to its end
   pub handed_on : (turn : NextStep T W) (s x t : X) (call : ChannelCall T W) (r : Reply T) (kept : Returned T)
       → WalkedOn did turn s (Err call) x → Walked did call.stage x r kept t → WalkedTo did turn s r t
-  handed_on turn s x t call r kept (a, takes, n, leads) walk = (kept, (a, takes, walks_on n a s call.stage x r kept t leads walk))
+  handed_on turn s x t call r kept handed walk = (kept, polled_on turn s x t call r kept handed walk)
 
   -- an answer by another name
   pub answered_as : (turn : NextStep T W) (s t : X) (r r' : Reply T) (kept : Returned T) → r ≡ r' → WalkedFrom did turn s r kept t → WalkedFrom did turn s r' kept t
@@ -76,6 +82,18 @@ module _ {T W X : Type 0} (did : Deed T W → X → X → Type 0) where
         let none : nothing_kept ≡ kept_by c = sym (ap (λ (z : Stage (QueueCall T) T W). kept_by z) (keeps r c takes)) in
         (Trying one purpose, (one, starts, asks, refl, refl), (0, s, Trying one purpose, mark_of_queue (mark_of two), c, (refl, refl), (two, Some y, d, refl, now), none))
     answers y some turn next keeps (Err call) (takes, follows) =
+        let d : did (stepped one two (Some y)) s t = subst (λ (z : Option (QueueReply T)). did (stepped one two z) s t) some deed in
+        let now : Takes (answered_next purpose y) call.stage None = subst (λ (z : NextStep T W). Takes z call.stage None) next takes in
+        (Trying one purpose, (one, starts, asks, refl, refl), 1, (t, call.stage, mark_of_queue (mark_of two), (two, Some y, d, refl, now), (refl, refl)))
+
+    -- and of a poll that is over, or is handed on
+    pub polls : (y : QueueReply T) → o ≡ Some y → (turn : NextStep T W) → turn ≡ answered_next purpose y → (result : Result (Completed T) (ChannelCall T W)) → TurnedOver turn result
+        → WalkedOver did (Tries x purpose) s result t
+    polls y some turn next (Ok e) (c, takes, kept, follows) =
+        let d : did (stepped one two (Some y)) s t = subst (λ (z : Option (QueueReply T)). did (stepped one two z) s t) some deed in
+        let now : Takes (answered_next purpose y) c (Some e.reply) = subst (λ (z : NextStep T W). Takes z c (Some e.reply)) next takes in
+        (Trying one purpose, (one, starts, asks, refl, refl), (0, s, Trying one purpose, mark_of_queue (mark_of two), c, (refl, refl), (two, Some y, d, refl, now), kept))
+    polls y some turn next (Err call) (takes, follows) =
         let d : did (stepped one two (Some y)) s t = subst (λ (z : Option (QueueReply T)). did (stepped one two z) s t) some deed in
         let now : Takes (answered_next purpose y) call.stage None = subst (λ (z : NextStep T W). Takes z call.stage None) next takes in
         (Trying one purpose, (one, starts, asks, refl, refl), 1, (t, call.stage, mark_of_queue (mark_of two), (two, Some y, d, refl, now), (refl, refl)))

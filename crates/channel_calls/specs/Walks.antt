@@ -30,6 +30,7 @@ use Rattle.channel_calls.specs.declared.stage.NextStep.{NextStep}
 use Rattle.channel_calls.specs.declared.stage.NextStep.TheVariants.{Tries, Works, Ends}
 use Rattle.channel_calls.specs.declared.stage.ListStep.{ListStep}
 use Rattle.channel_calls.specs.declared.stage.ListStep.TheVariants.{TellReceive, TellStreams, TellSend, TellSends, TakeRoom, TellAll, Insert, Register, Leave, Lower, Count, Load, Raise}
+use Rattle.channel_calls.specs.declared.whole.Completed.{Completed}
 
 -- a count that was raised is marked
 abbrev pub raised_mark : Side → Bool → Mark
@@ -107,3 +108,8 @@ module _ {T W X : Type 0} (did : Deed T W → X → X → Type 0) where
   abbrev pub WalkedOn : NextStep T W → X → Result (Reply T) (ChannelCall T W) → X → Type 0
   WalkedOn turn s (Ok r) t = WalkedFrom turn s r nothing_kept t
   WalkedOn turn s (Err call) t = (a : Stage (QueueCall T) T W) × Takes turn a None × (n : ℕ) × Leads n s a t call.stage
+
+  -- and of a poll that is over, or hands on the call that is to be stepped on
+  abbrev pub WalkedOver : NextStep T W → X → Result (Completed T) (ChannelCall T W) → X → Type 0
+  WalkedOver turn s (Ok over) t = WalkedFrom turn s over.reply over.kept t
+  WalkedOver turn s (Err call) t = WalkedOn turn s (Err call) t

@@ -129,7 +129,11 @@ fn several_next<T: Drop, W>(answer: QueueReply<T>, gathering: Gathering<T>) -> N
 
 /// A try of a polled send. A message that wasn't sent into a closed channel is in the error; one for which there was no
 /// memory stays with the send.
-fn send_next<T: Drop, W: Drop>(answer: QueueReply<T>, key: Option<Key>, task: W) -> NextStep<T, W>
+pub(crate) fn send_next<T: Drop, W: Drop>(
+    answer: QueueReply<T>,
+    key: Option<Key>,
+    task: W,
+) -> NextStep<T, W>
     ensures { result ≡ send_next answer key task }
 {
     let held = held_on(WaitList::Sends, key);
@@ -157,7 +161,7 @@ fn send_next<T: Drop, W: Drop>(answer: QueueReply<T>, key: Option<Key>, task: W)
 }
 
 /// A try of a polled receive.
-fn receive_next<T: Drop, W: Drop>(
+pub(crate) fn receive_next<T: Drop, W: Drop>(
     answer: QueueReply<T>,
     key: Option<Key>,
     task: W,
@@ -182,7 +186,11 @@ fn receive_next<T: Drop, W: Drop>(
 }
 
 /// A try of a polled stream.
-fn stream_next<T: Drop, W: Drop>(answer: QueueReply<T>, key: Option<Key>, task: W) -> NextStep<T, W>
+pub(crate) fn stream_next<T: Drop, W: Drop>(
+    answer: QueueReply<T>,
+    key: Option<Key>,
+    task: W,
+) -> NextStep<T, W>
     ensures { result ≡ stream_next answer key task }
 {
     let held = held_on(WaitList::Streams, key);

@@ -28,7 +28,7 @@ use event_listener::wakes::Wakes;
 
 /// Whether a push is in, or what else was answered.
 #[inline(always)]
-fn pushed<T: Drop>(answer: QueueReply<T>) -> Result<(), QueueReply<T>>
+pub(crate) fn pushed<T: Drop>(answer: QueueReply<T>) -> Result<(), QueueReply<T>>
     ensures { MatchResult result (λ _. answer ≡ queue.Push (Ok tt)) (λ other. answer ≡ other) }
 {
     match answer {
@@ -50,7 +50,7 @@ fn displaced<T: Drop>(answer: QueueReply<T>) -> Result<Option<T>, QueueReply<T>>
 
 /// What a pop took, or what else was answered.
 #[inline(always)]
-fn popped<T: Drop>(answer: QueueReply<T>) -> Result<T, QueueReply<T>>
+pub(crate) fn popped<T: Drop>(answer: QueueReply<T>) -> Result<T, QueueReply<T>>
     ensures { MatchResult result (λ message. answer ≡ queue.Pop (Ok message)) (λ other. answer ≡ other) }
 {
     match answer {

@@ -11,6 +11,7 @@ pub mod calls;
 pub mod cells;
 pub mod error;
 pub mod fast_path;
+mod fast_polls;
 pub mod filling;
 pub mod kind;
 pub mod laws;

@@ -20,6 +20,7 @@ ghost use Rattle.channel_calls.specs.declared.stage.Returned.{Returned as Left};
 use crate::ask::{ChannelAsk, lent};
 use crate::cells::ChannelCells;
 use crate::error::{RecvError, Refused, SendError};
+use crate::fast_polls::make_poll;
 use crate::reply::Reply;
 use crate::stage::{Returned, WaitList};
 use crate::whole::{Completed, make};
@@ -96,7 +97,7 @@ pub fn poll_send<T: Drop, W: Drop, R: Wait, C: ChannelCells<T, W>, S: Wakes<W>>(
     ensures form { (f : QueueForm) → C.has_form cells.old f → C.has_form cells.new f }
 {
     let ask = send_ask(message, key, task);
-    let given = make(rt, ask, cells, sink);
+    let given = make_poll(rt, ask, cells, sink);
     let Completed { reply, kept } = given;
     match reply {
         Reply::SendPoll(polled) => (polled, kept),
@@ -119,7 +120,7 @@ pub fn poll_recv<T: Drop, W: Drop, R: Wait, C: ChannelCells<T, W>, S: Wakes<W>>(
     ensures form { (f : QueueForm) → C.has_form cells.old f → C.has_form cells.new f }
 {
     let ask = recv_ask(key, task);
-    let given = make(rt, ask, cells, sink);
+    let given = make_poll(rt, ask, cells, sink);
     let Completed { reply, kept } = given;
     match reply {
         Reply::RecvPoll(polled) => (polled, kept),
@@ -165,7 +166,7 @@ pub fn poll_next<T: Drop, W: Drop, R: Wait, C: ChannelCells<T, W>, S: Wakes<W>>(
     ensures form { (f : QueueForm) → C.has_form cells.old f → C.has_form cells.new f }
 {
     let ask = next_ask(key, task);
-    let given = make(rt, ask, cells, sink);
+    let given = make_poll(rt, ask, cells, sink);
     let Completed { reply, kept } = given;
     match reply {
         Reply::Next(polled) => (polled, kept),

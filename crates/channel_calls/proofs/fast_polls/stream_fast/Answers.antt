@@ -1,0 +1,92 @@
+use Rattle.std.proofs.Common.{◌≡◌, refl, ap, ◌∙◌, subst, Option, Some, Ok, None}
+use Rattle.channel_calls.specs.Deeds.{stepped, Done}
+use Rattle.channel_calls.proofs.Walking as walking
+use Rattle.concurrent_queue.specs.Step.{mark_of}
+use Rattle.concurrent_queue.specs.declared.call.QueueAsk.TheVariants as queue_ask
+use Rattle.concurrent_queue.specs.declared.call.QueueReply.{QueueReply}
+use Rattle.concurrent_queue.specs.declared.call.QueueReply.TheVariants.{Pop}
+use Rattle.channel_calls.specs.Marks.{mark_of_queue}
+use Rattle.channel_calls.specs.Turns.{says, nothing_kept}
+use Rattle.futures.specs.declared.task.Poll.TheVariants.{Ready}
+use Rattle.channel_calls.specs.declared.stage.WaitList.TheVariants.{Streams}
+use Rattle.channel_calls.specs.declared.ask.ChannelAsk.TheVariants as ask
+use Rattle.channel_calls.specs.declared.mark.Mark.TheVariants as mark
+use Rattle.channel_calls.specs.declared.reply.Reply.TheVariants as reply
+use Rattle.channel_calls.specs.declared.stage.Purpose.TheVariants as purpose
+use Rattle.channel_calls.specs.declared.stage.Stage.TheVariants.{Trying, Working, Finished}
+use Rattle.channel_calls.specs.declared.stage.ListStep.TheVariants.{TellSend}
+use Rattle.channel_calls.proofs.Replying as replying
+use Rattle.channel_calls.proofs.FastPathSteps as fast
+use Rattle.channel_calls.proofs.Standing as standing
+use Rattle.channel_calls.proofs.fast_polls.stream_fast.Goals as goal
+
+pub returns-in-None-clause-answers : goal.returns-in-None-clause-answers
+returns-in-None-clause-answers g c f has r m may =
+    let one = c.pop-call.result in
+    let two = c.step_queue-answer.new.call in
+    fast.polls_stream g.row.W.Denot f one c.args.task c.pop-call.ensures.asked r m
+    (replying.goes_on {W = g.row.W.Denot} f one two (purpose.Poll Streams None c.args.task) _ c.in-None.is (c.step_queue-answer.ensures.answers f has) r m may)
+
+pub returns-in-Err-clause-answers : goal.returns-in-Err-clause-answers
+returns-in-Err-clause-answers g c f has =
+    let is = c.in-Some.is ∙ ap (λ (z : QueueReply g.row.T.Denot). Some z) c.in-Err.ensures in
+    let one = c.pop-call.result in
+    let two = c.step_queue-answer.new.call in
+    fast.gives_over f one (purpose.Poll Streams None c.args.task) (ask.PollNext None c.args.task) (fast.polls_stream g.row.W.Denot f one c.args.task c.pop-call.ensures.asked) _ _ c.over.ensures.goes
+    (replying.answers f one two (purpose.Poll Streams None c.args.task) _ c.in-Err.answer is (c.step_queue-answer.ensures.answers f has) _ c.stream_next.ensures)
+
+pub returns-in-None-clause-deeds : goal.returns-in-None-clause-deeds
+returns-in-None-clause-deeds g c =
+    let did = Done g.C.ChannelCells.did g.S.Wakes.wakes in
+    let k = c.args.sink.now in
+    walking.goes_on did (c.args.cells.now, k) (c.step_queue-answer.new.self, k) queue_ask.Pop (purpose.Poll Streams None c.args.task) c.pop-call.result c.step_queue-answer.new.call
+    c.pop-call.ensures.starts c.pop-call.ensures.asked _ (c.step_queue-answer.ensures.deed, refl) c.in-None.is c.of_queue-mark.result
+
+pub returns-in-Ok-clause-deeds : goal.returns-in-Ok-clause-deeds
+returns-in-Ok-clause-deeds g c =
+    let one = c.pop-call.result in
+    let two = c.step_queue-answer.new.call in
+    let s1 = c.step_queue-answer.new.self in
+    let k = c.args.sink.now in
+    let v = c.in-Ok.message in
+    let ending = says (reply.Next (Ready (Some (Ok v)))) in
+    let is : c.step_queue-answer.result ≡ Some (Pop (Ok v)) = c.in-Some.is ∙ ap (λ (z : QueueReply g.row.T.Denot). Some z) c.in-Ok.ensures in
+    let deed : g.C.ChannelCells.did (stepped one two (Some (Pop (Ok v)))) c.args.cells.now s1 =
+    subst (λ (o : Option (QueueReply g.row.T.Denot)). g.C.ChannelCells.did (stepped one two o) c.args.cells.now s1) is c.step_queue-answer.ensures.deed
+    in
+    let tells = c.tell.ensures.deed in (
+      Trying one (purpose.Poll Streams None c.args.task),
+      (one, c.pop-call.ensures.starts, c.pop-call.ensures.asked, refl, refl),
+      (
+        1,
+        (s1, k),
+        Working (TellSend ending),
+        mark.Nothing,
+        Finished nothing_kept,
+        ((s1, k), Working (TellSend ending), mark_of_queue (mark_of two), (two, Some (Pop (Ok v)), (deed, refl), refl, (refl, refl)), (refl, refl)),
+        (tells.0, (tells.1, tells.2), (refl, (refl, refl))),
+        refl,
+      ),
+    )
+
+pub returns-in-Err-clause-deeds : goal.returns-in-Err-clause-deeds
+returns-in-Err-clause-deeds g c =
+    let did = Done g.C.ChannelCells.did g.S.Wakes.wakes in
+    let k = c.args.sink.now in
+    let is = c.in-Some.is ∙ ap (λ (z : QueueReply g.row.T.Denot). Some z) c.in-Err.ensures in
+    walking.polls did (c.args.cells.now, k) (c.step_queue-answer.new.self, k) queue_ask.Pop (purpose.Poll Streams None c.args.task) c.pop-call.result c.step_queue-answer.new.call
+    c.pop-call.ensures.starts c.pop-call.ensures.asked _ (c.step_queue-answer.ensures.deed, refl) c.in-Err.answer is _ c.stream_next.ensures _ c.over.ensures.goes
+
+pub step_queue-answer-requires : goal.step_queue-answer-requires
+step_queue-answer-requires g c = record { may = standing.begun_ready g.C.ChannelCells.stands g.C.ChannelCells.may g.met.C.ChannelCells.ready c.args.cells.now queue_ask.Pop (purpose.Poll Streams None c.args.task) c.requires.stands c.pop-call.result c.pop-call.ensures.starts c.pop-call.ensures.asked }
+
+pub tell-requires : goal.tell-requires
+tell-requires g c =
+    let s1 = c.step_queue-answer.new.self in
+    let ending = says (reply.Next (Ready (Some (Ok c.in-Ok.message)))) in
+    let is : c.step_queue-answer.result ≡ Some (Pop (Ok c.in-Ok.message)) = c.in-Some.is ∙ ap (λ (z : QueueReply g.row.T.Denot). Some z) c.in-Ok.ensures in
+    let tells : g.C.ChannelCells.stands (Working (TellSend ending)) s1 =
+    standing.asked_on g.C.ChannelCells.stands g.C.ChannelCells.did g.met.C.ChannelCells.leads g.met.C.ChannelCells.rests c.args.cells.now s1 queue_ask.Pop (purpose.Poll Streams None c.args.task) c.requires.stands c.pop-call.result c.step_queue-answer.new.call
+    c.pop-call.ensures.starts c.pop-call.ensures.asked _ c.step_queue-answer.ensures.deed (Pop (Ok c.in-Ok.message)) is (Working (TellSend ending)) None (refl, refl)
+    in
+    record { may = standing.tell_send_ready g.C.ChannelCells.stands g.C.ChannelCells.may g.met.C.ChannelCells.ready s1 ending tells }
