@@ -1,5 +1,8 @@
 //! The calls that wait for no message and no place, on cells of any kind that a trace sees. Each is that of `channel_calls`, and gives
 //! the trace back with its answer: what is said there of the cells is said here of what the trace saw.
+//!
+//! Over cells of any kind no `Sight` is at hand, so a body here can lead the trace on only by operations. It is also cheaper to prove than
+//! over the cells that threads share.
 
 pub(crate) mod blocking;
 pub(crate) mod counts;

@@ -37,7 +37,8 @@ pub struct Sight<S> {
 /// they woke: those stay with the sink. Own to this project.
 #[derive(Copy)]
 pub enum Shown<'a> {
-    /// A call begins on the channel with this seal: all that is seen up to the next beginning is done to that channel.
+    /// A call begins on the channel with this seal: all that is seen up to the next beginning is done to that channel. So a body that makes
+    /// its call on another channel, or on a fresh one, is refused.
     Enters(&'a Source),
     /// A listener was added, or refused.
     Inserted(WaitList, Result<Key, ListenError>),

@@ -31,6 +31,7 @@ impl<L: Drop> Waiters<L> {
     /// The right to one section on the list.
     #[inline(always)]
     pub(crate) fn turn(&self) -> Turn<'_, L> {
+        // No type and no clause keeps the shared cells from asking for two rights: that they ask once is seen only by reading them.
         Turn {
             section: self.list.section(),
         }

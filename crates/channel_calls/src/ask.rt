@@ -13,7 +13,8 @@ use event_listener::error::ListenError;
 use event_listener::key::Key;
 use futures::task::Poll;
 
-/// What an unfinished send or receive lends to its poll of its listener. Own to this project.
+/// What an unfinished send or receive lends to its poll of its listener, until the call answers and returns what the operation keeps. So an
+/// operation is not polled twice at once. Own to this project.
 #[derive(Clone, Copy)]
 pub struct Loan {
     /// The listener that it holds.

@@ -274,6 +274,7 @@ fn sleeps<T: Drop, W: Drop, R: Wait, C: Sleeps<T, W>, S: Wakes<W>>(
     let mut call = call;
     let mut key = key;
     for _ in rt.forever() {
+        // The parker is asked for only here, where registering is next: a first poll has no task yet, and takes no memory for one.
         let Some(task) = cells.park() else {
             return refused(rt, call, key, cells, sink);
         };

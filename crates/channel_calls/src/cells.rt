@@ -39,7 +39,8 @@ pub trait ChannelCells<T, W> {
     /// The queue's cells, the lists and the counts.
     ghost parts: { Self → Parts T W };
 
-    /// Which form the queue is said to have; no step changes it. Cells of which nothing is said here have none.
+    /// Which form the queue is said to have; no step changes it. Cells of which nothing is said here have none. Cells of one owner say
+    /// theirs, so that the functions that handles run can be called over them too.
     ghost has_form: { Self → QueueForm → Type 0 } = { λ _ _. ⊥ };
 
     /// Whether this deed, with this answer, was done between these two. Any relation may stand here: what promises over any cells

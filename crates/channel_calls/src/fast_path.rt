@@ -1,5 +1,5 @@
 //! The steps of the simple calls, made on end: of sends and receives that don't wait, and of the question for the length. What is
-//! saved is the choice of the next step at each of them, so this is a matter of speed alone.
+//! saved is the stage that a call keeps from step to step, and the choice of the next step by it, so this is a matter of speed alone.
 
 ghost use Rattle.std.specs.Prelude.{◌≡◌, false, None, Some, Ok, Option, MatchResult};
 ghost use Rattle.concurrent_queue.specs.declared.call.QueueReply.TheVariants as queue;

@@ -1,5 +1,5 @@
 //! Polls that have no listener, whose steps are made on end where they find what they want, a place or a message. What is saved is the
-//! choice of the next step at each of them, so this is a matter of speed alone.
+//! stage that a call keeps from step to step, and the choice of the next step by it, so this is a matter of speed alone.
 
 ghost use Rattle.std.specs.Prelude.{◌≡◌, true, false, None, Some, Option, MatchResult};
 ghost use Rattle.concurrent_queue.specs.declared.cells.QueueForm.{QueueForm};

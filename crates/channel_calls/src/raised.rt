@@ -162,6 +162,7 @@ pub fn clone_handle<K: Kind, T: Drop, W: Drop, R: Wait, C: ChannelCells<T, W>, S
     ensures reason { IfErr result (λ e. e ≡ HandleError.TooMany) }
 {
     let side = K::side();
+    // Straight code for a clone that meets no other: it saves the stage that a call keeps from step to step.
     let count = cells.count(side);
     if is_too_many(count) {
         return Err(HandleError::TooMany);

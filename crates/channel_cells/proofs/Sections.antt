@@ -1,9 +1,11 @@
 -- Which lock is that of which list, and what a section does by what its cells asked for.
-use Rattle.std.proofs.Common.{◌≡◌, ◌∙◌, Bool, true, false, List, [], ◌∷◌, ap, refl, sym, subst}
+use Rattle.std.proofs.Common.{◌≡◌, ◌≢◌, ◌∙◌, ℕ, Bool, true, false, List, [], ◌∷◌, if◌then◌else◌, ap, refl, sym, subst, arith}
 use Rattle.std.proofs.lemmas.Bool.{true≢false}
-use Rattle.std.specs.Prelude.{Option, None, Some}
+use mathlib.Core.Bool.{beq}
+use mir.Val.{bool_byte}
+use Rattle.std.specs.Prelude.{Option, None, Some, is_some}
 use Rattle.concurrent_queue.specs.declared.cells.QueueForm.{QueueForm}
-use Rattle.event_listener.specs.Lists.{ListView, registration}
+use Rattle.event_listener.specs.Lists.{ListView, Notice, told_as, without, with_task, registration}
 use Rattle.event_listener.specs.declared.key.Key.{Key}
 use Rattle.channel_calls.specs.Deeds.{Deed, registered}
 use Rattle.channel_calls.specs.Parts.{Listeners, Registers, waits}
@@ -11,10 +13,10 @@ use Rattle.channel_calls.specs.declared.stage.WaitList.{WaitList}
 use Rattle.channel_calls.specs.declared.stage.WaitList.TheVariants.{Sends, Receives, Streams, Closings}
 use Rattle.channel_history.proofs.CallSections.{inside_lists, section_turn, section_done}
 use Rattle.channel_history.proofs.CellActs.{sections_act}
-use Rattle.channel_history.specs.CallSections.{HoldsList, IsInside, SectionTo, AnsweredTo, RegisteredTo, without_lists}
+use Rattle.channel_history.specs.CallSections.{HoldsList, IsInside, IsSectionOf, MayTurn, SectionTo, AnsweredTo, RegisteredTo, without_lists}
 use Rattle.channel_history.specs.Cells.{May, Did}
 use Rattle.channel_history.specs.Keeps.{ChangesList}
-use Rattle.channel_history.specs.Machine.{turns}
+use Rattle.channel_history.specs.Machine.{SetsFlag, both, with_list, turns, makes_section}
 use Rattle.channel_history.specs.Sections.{IsOnList}
 use Rattle.channel_history.specs.declared.party.Standing.{Standing}
 use Rattle.channel_cells.specs.Lists.{index_of, line_at}
@@ -28,16 +30,65 @@ line_there Closings = refl
 -- ---- a section, from what its cells asked for to the deed that they say they did
 
 module _ {T W : Type 0} (form : QueueForm) (line : WaitList) (d : Deed T W) (s u : Standing T W) (before after : Listeners W) (may : May form d s) (inside : IsInside line before s u) where
-  -- the event is a turn of the party, since the list was changed so
-  pub goes_on : IsOnList line d → ChangesList line d before after → (v : Standing T W) × turns form u v × SectionTo form line d after u v
+  -- the event is a section of the party, since the list was changed so
+  pub goes_on : IsOnList line d → ChangesList line d before after → (v : Standing T W) × IsSectionOf form line before after u v × SectionTo form line d after u v
   goes_on on changes =
       let l = inside.0 in
       let goes = section_turn (sections_act T W) form line d s l after on may (subst (λ (x : Listeners W). ChangesList line d x after) (sym inside.2) changes) in
-      subst (λ (x : Standing T W). (v : Standing T W) × turns form x v × SectionTo form line d after x v) (sym inside.1) goes
+      subst (λ (x : Standing T W). (v : Standing T W) × IsSectionOf form line before after x v × SectionTo form line d after x v) (sym inside.1)
+      (subst (λ (b : Listeners W). (v : Standing T W) × IsSectionOf form line b after (both s (with_list line l)) v × SectionTo form line d after (both s (with_list line l)) v) inside.2 goes)
 
   -- and once the list's seat has left, the deed was done
   pub was_done : (v : Standing T W) → SectionTo form line d after u v → Did form d s (without_lists v) × HoldsList line after v
   was_done v to = section_done (sections_act T W) form line d s u v inside.0 after may.2.2.0 inside.1 to
+
+-- ---- whether somebody waits
+
+module _ {T W : Type 0} (form : QueueForm) (line : WaitList) (u v : Standing T W) where
+  -- by whether nobody waited before and nobody does after
+  pub may_turn : (before after : Listeners W) (b a : Bool) → (b ≡ true → before.waiting ≡ []) → (b ≡ false → before.waiting ≢ []) → (a ≡ true → after.waiting ≡ []) → IsSectionOf form line before after u v
+      → MayTurn form line b a u v
+  may_turn before after b a none some left (l, k, made, is, so) = (
+    l,
+    k,
+    made,
+    λ e. ap (λ (x : Listeners W). x.waiting) is ∙ none e,
+    λ e free. some e (ap (λ (x : Listeners W). x.waiting) (sym is) ∙ free),
+    λ e. ap (λ (x : Listeners W). x.waiting) so ∙ left e,
+  )
+
+  -- where nobody comes to wait
+  pub turns_so : (before after : Listeners W) → (before.waiting ≡ [] → after.waiting ≡ []) → IsSectionOf form line before after u v → turns form u v
+  turns_so before after still (l, k, made, is, so) =
+      makes_section line l k made (λ free. ap (λ (x : Listeners W). x.waiting) so ∙ still (ap (λ (x : Listeners W). x.waiting) (sym is) ∙ free))
+
+module _ {T W : Type 0} (form : QueueForm) (line : WaitList) (u v : Standing T W) where
+  -- what `MayTurn` allows: a turn where both are the same, and elsewhere to set the word
+  pub turns_of : (b a : Bool) → beq b a ≡ true → MayTurn form line b a u v → turns form u v
+  turns_of true true same (l, k, made, none, some, left) = makes_section line l k made (λ free. left refl)
+  turns_of true false same (l, k, made, none, some, left) = absurd cc
+  turns_of false a same (l, k, made, none, some, left) = makes_section line l k made (λ free. absurd (some refl free))
+
+  pub flag_of : (b a : Bool) → beq b a ≡ false → (n : ℕ) → n ≡ bool_byte b → MayTurn form line b a u v → SetsFlag form u v line n
+  flag_of true a differ n is (l, k, made, none, some, left) = (l, k, made, λ zero. absurd (omega (arith, is, zero)))
+  flag_of false true differ n is (l, k, made, none, some, left) = (l, k, made, λ zero. left refl)
+  flag_of false false differ n is (l, k, made, none, some, left) = absurd cc
+
+either_way : {A : Type 0} (P : A → Type 0) (b : Bool) {x y : A} → P x → P y → P (if b then x else y)
+either_way P true f g = f
+either_way P false f g = g
+
+module _ {W : Type 0} where
+  -- a registration on a list on which nobody waits
+  registers_nobody : (gone : List (Key × Notice Unit)) (key : Key) (task : W) → (registration key task (record { told = gone; waiting = [] })).waiting ≡ []
+  registers_nobody gone key task =
+      let l : Listeners W = record { told = gone; waiting = [] } in
+      either_way (λ (x : Listeners W). x.waiting ≡ []) (is_some (told_as l key)) {x = without key l} {y = l} refl refl
+
+  pub registration_leaves_none : (key : Key) (task : W) (l : Listeners W) → l.waiting ≡ [] → (registration key task l).waiting ≡ []
+  registration_leaves_none key task l none =
+      let is : l ≡ record { told = l.told; waiting = [] } = (λ i. record { told = l.told; waiting = none i }) in
+      subst (λ (x : Listeners W). (registration key task x).waiting ≡ []) (sym is) (registers_nobody l.told key task)
 
 -- ---- a deed that follows from what the list held
 

@@ -13,8 +13,8 @@ use concurrent_queue::history::seats::IdleSeat;
 use concurrent_queue::history::table::CallSeat;
 use keyed_lock::KeyedLocks;
 
-/// What the handles of a channel with a bound share: the table of its queue, with the two counts of handles as words of it, and four lists
-/// of listeners behind a lock each.
+/// What the handles of a channel with a bound share: the table of its queue, and four lists of listeners behind a lock each. Words of the
+/// table are the two counts of handles, and for each list one that is 0 only where nobody waits on it.
 #[derive(Drop)]
 pub struct ChannelTable<T: Drop, W: Drop> {
     pub(crate) table: Table<T, W>,

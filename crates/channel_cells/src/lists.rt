@@ -1,6 +1,6 @@
 //! A list of listeners as it lies behind its lock.
 
-ghost use Rattle.std.specs.Prelude.{◌≡◌, ◌<◌, IfOk, OnErr, None, true};
+ghost use Rattle.std.specs.Prelude.{◌≡◌, ◌≢◌, ◌<◌, IfOk, OnErr, None, [], true, false};
 ghost use Rattle.event_listener.specs.Lists.{listened, kind_of, registration, removed, removed_wakes};
 ghost use Rattle.event_listener.specs.Notices.{Woken};
 ghost use Rattle.channel_calls.specs.Parts.{told_as, told_as_wakes, Registers};
@@ -21,7 +21,8 @@ use keyed_lock::Keeps;
 /// The table of a channel.
 pub(crate) type Table<T, W> = RuledTable<T, Standing<T, W>, OfChannel>;
 
-/// A list, with the seat that says in the channel's history that it lies here. It has a block of its own, since a section moves it.
+/// A list, with the seat that says in the channel's history that it lies here. It has a block of its own, since a section moves it: moved
+/// by value, lists would be a large part of the cost of a try.
 #[derive(Drop)]
 pub struct SeatedList<T, W: Drop> {
     pub(crate) list: Box<List<(), W>>,
@@ -49,6 +50,15 @@ pub(crate) fn index_of(line: WaitList) -> usize
         WaitList::Streams => 2,
         WaitList::Closings => 3,
     }
+}
+
+/// Whether nobody waits on the list, told or not told others.
+#[inline(always)]
+pub(crate) fn nobody_waits<W: Drop>(list: &Box<List<(), W>>) -> bool
+    ensures nobody { result ≡ true → list.now.value.lists.waiting ≡ [] }
+    ensures somebody { result ≡ false → list.now.value.lists.waiting ≢ [] }
+{
+    list.total() == list.told()
 }
 
 /// A listener more, which waits behind all others: [`List::insert`].

@@ -2,14 +2,15 @@
 use Rattle.std.proofs.Common.{◌≡◌, List, [], ◌∷◌, ◌++◌, refl, sym, ap, ◌∙◌, subst, append-nil}
 use Rattle.concurrent_queue.specs.declared.cells.QueueForm.{QueueForm}
 use Rattle.event_listener.specs.Lists.{ListView}
-use Rattle.channel_calls.specs.Deeds.{Deed}
+use Rattle.channel_calls.specs.Deeds.{Deed, told}
 use Rattle.channel_calls.specs.Parts.{Listeners}
+use Rattle.channel_calls.specs.declared.stage.Telling.{Telling}
 use Rattle.channel_calls.specs.declared.stage.WaitList.{WaitList}
 use Rattle.channel_steps.specs.every_run.Bridge.{on_wait_lists}
-use Rattle.channel_history.specs.CallSections.{HoldsList, LiesAlone, IsInside, without_lists, lists_alone, SectionTo}
+use Rattle.channel_history.specs.CallSections.{HoldsList, LiesAlone, IsInside, without_lists, lists_alone, SectionTo, IsSectionOf}
 use Rattle.channel_history.specs.Cells.{May, Did}
 use Rattle.channel_history.specs.Keeps.{ChangesList}
-use Rattle.channel_history.specs.Machine.{both, with_list, parts, turns, new_list}
+use Rattle.channel_history.specs.Machine.{both, with_list, parts, FindsNobody, new_list}
 use Rattle.channel_history.specs.Party.{Makes, with_own}
 use Rattle.channel_history.specs.Sections.{IsOnList, SectionsAct}
 use Rattle.channel_history.specs.declared.party.Belongings.{Belongings}
@@ -54,9 +55,9 @@ module _ {T W : Type 0} where
     abbrev left_with : Listeners W → ListView Unit W
     left_with lists = record new_list { lists = lists }
 
-    -- a deed on a list that may be done, and changes the list so, is a turn of the party, which its cells say they did
+    -- a deed on a list that may be done, and changes the list so, is a section of the party, which its cells say they did
     pub section_turn : (d : Deed T W) (s : Standing T W) (l : ListView Unit W) (lists : Listeners W) → IsOnList line d → May form d s → ChangesList line d l.lists lists
-        → (v : Standing T W) × turns form (both s (with_list line l)) v × SectionTo form line d lists (both s (with_list line l)) v
+        → (v : Standing T W) × IsSectionOf form line l.lists lists (both s (with_list line l)) v × SectionTo form line d lists (both s (with_list line l)) v
     section_turn d s l lists on may changes =
         let none : s.own.lists ≡ [] = may.2.2.0 in
         let gone = act.section_goes form line d s on may in
@@ -66,7 +67,7 @@ module _ {T W : Type 0} where
         let made : Makes form s (on_wait_lists d) t = (acts.0.0, acts.0.1, record { more = acts.0.2.more; acts = acts.0.2.acts; given = acts.0.2.given; asked = acts.0.2.asked }) in
         let none_left = no_list form d s t gone.1.1 in (
           both t (with_list line k),
-          section form s t line l k none none_left d (made, acts.1) changes,
+          (l, k, section form s t line l k none none_left d (made, acts.1) changes, refl, refl),
           (t, k, subst (λ (x : Standing T W). Did form d x t) (sym (outside line l s none)) gone.1.1, refl, refl),
         )
 
@@ -79,3 +80,15 @@ module _ {T W : Type 0} where
           subst (λ (x : Standing T W). Did form d s x) (sym (ap (λ (x : Standing T W). without_lists x) so ∙ outside line k t none_left)) from_s,
           (k, inside_lists line k t v none_left so, holds),
         )
+
+    -- a notice to nobody, which is made without the list
+    pub finds_nobody : (telling : Telling) (s : Standing T W) → May form (told line telling []) s → (t : Standing T W) × FindsNobody form s t line × Did form (told line telling []) s t
+    finds_nobody telling s may =
+        let none : s.own.lists ≡ [] = may.2.2.0 in
+        let d : Deed T W = told line telling [] in
+        let gone = act.section_goes form line d s refl may in
+        let t = gone.0 in
+        let acts = act.section_acts form line new_list new_list d s t gone.1 in
+        let made : Makes form s (on_wait_lists d) t = (acts.0.0, acts.0.1, record { more = acts.0.2.more; acts = acts.0.2.acts; given = acts.0.2.given; asked = acts.0.2.asked }) in
+        let lists : t.own.lists ≡ s.own.lists = no_list form d s t gone.1.1 ∙ sym none in
+        (t, (telling, made, λ i. record { lists = lists i; handles = acts.1.0 i; listeners = acts.1.1 i }), gone.1.1)

@@ -18,7 +18,7 @@ module _ {T W : Type 0} where
   left : (line : WaitList) (parts : Parts T W) (l m : Listeners W) → m ≡ l → with_wait_lists (with_listeners line l parts.wait_lists) parts ≡ with_wait_lists (with_listeners line m parts.wait_lists) parts
   left line parts l m e = ap (λ (x : Listeners W). with_wait_lists (with_listeners line x parts.wait_lists) parts) (sym e)
 
-  unchanged : (line : WaitList) (parts : Parts T W) (l : Listeners W) → listeners line parts.wait_lists ≡ l → with_wait_lists (with_listeners line l parts.wait_lists) parts ≡ parts
+  pub unchanged : (line : WaitList) (parts : Parts T W) (l : Listeners W) → listeners line parts.wait_lists ≡ l → with_wait_lists (with_listeners line l parts.wait_lists) parts ≡ parts
   unchanged line parts l e =
       left line parts l (listeners line parts.wait_lists) e ∙ ap (λ (a : WaitLists W). with_wait_lists a parts) (as_it_was line parts.wait_lists)
 

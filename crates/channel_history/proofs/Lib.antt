@@ -16,6 +16,7 @@ mod InHand
 mod Joining
 mod Splitting
 mod Row
+mod Waiting
 pub mod Machine
 pub mod ListTurns
 pub mod CallSections

@@ -12,7 +12,7 @@ use Rattle.channel_calls.specs.declared.stage.Telling.{Telling}
 use Rattle.channel_calls.specs.declared.stage.WaitList.{WaitList}
 use Rattle.channel_steps.specs.every_run.Bridge.{on_wait_lists}
 use Rattle.channel_history.specs.Keeps.{ChangesList, Leaves}
-use Rattle.channel_history.specs.Machine.{new_list, turns, makes_section, both, left, parts, with_list}
+use Rattle.channel_history.specs.Machine.{new_list, IsSection, both, left, parts, with_list}
 use Rattle.channel_history.specs.Party.{nothing, fresh, with_own, Makes}
 use Rattle.channel_history.specs.declared.party.Belongings.{Belongings}
 use Rattle.channel_history.specs.declared.party.Standing.{Standing}
@@ -67,29 +67,13 @@ module _ {T W : Type 0} where
     -- ---- sections
 
     module _ (s t : Standing T W) (line : WaitList) (l k : ListView Unit W) (none : s.own.lists ≡ []) (none_left : t.own.lists ≡ []) where
-      -- with the list before and after it
-      abbrev IsTurn : Type 0
-      IsTurn = turns form (both s (with_list line l)) (both t (with_list line k))
-
       -- the call makes this deed, and its seat keeps what the deed leaves
       abbrev MakesAndLeaves : Deed T W → Type 0
       MakesAndLeaves o = Makes form s (on_wait_lists o) t × Leaves o s t
 
-      pub section : (o : Deed T W) → MakesAndLeaves o → ChangesList line o l.lists k.lists → IsTurn
+      -- with the list before and after it
+      pub section : (o : Deed T W) → MakesAndLeaves o → ChangesList line o l.lists k.lists → IsSection form line l k (both s (with_list line l)) (both t (with_list line k))
       section o ((os, still, leads), leaves) changes =
           let made : Makes form (has_list line l s) (on_wait_lists o) (has_list line k t) = (os, still, record { more = leads.more; acts = leads.acts; given = leads.given; asked = leads.asked }) in
-          subst (λ (x : Standing T W). turns form x (both t (with_list line k))) (sym (taken_in line l s none))
-          (subst (λ (x : Standing T W). turns form (has_list line l s) x) (sym (taken_in line k t none_left)) (makes_section line l k o made refl refl leaves changes))
-
-      pub insert_section : (r : Result Key ListenError) → MakesAndLeaves (inserted line r)
-          → IfOk r (λ key. kind_of l.lists key ≡ None) → IfOk r (λ key. k.lists ≡ listened key l.lists) → OnErr r (k.lists ≡ l.lists) → IsTurn
-      insert_section r made unknown is same = section (inserted line r) made (insert_changes line l.lists k.lists r unknown is same)
-
-      pub register_section : (key : Key) (task : W) (r : Option W) → MakesAndLeaves (registered line key task r) → Registers l.lists key task r → k.lists ≡ registration key task l.lists → IsTurn
-      register_section key task r made answer is = section (registered line key task r) made (register_changes line l.lists k.lists key task r answer is)
-
-      pub remove_section : (key : Key) → MakesAndLeaves (taken_off line key (removed_wakes key true l.lists)) → k.lists ≡ removed key true l.lists → IsTurn
-      remove_section key made is = section (taken_off line key (removed_wakes key true l.lists)) made (remove_changes line l.lists k.lists key is)
-
-      pub notify_section : (telling : Telling) → MakesAndLeaves (told line telling (told_as_wakes telling l.lists)) → k.lists ≡ told_as telling l.lists → IsTurn
-      notify_section telling made is = section (told line telling (told_as_wakes telling l.lists)) made (notify_changes line l.lists k.lists telling is)
+          subst (λ (x : Standing T W). IsSection form line l k x (both t (with_list line k))) (sym (taken_in line l s none))
+          (subst (λ (x : Standing T W). IsSection form line l k (has_list line l s) x) (sym (taken_in line k t none_left)) (o, made, refl, refl, leaves, changes))

@@ -41,21 +41,27 @@ module _ {T W : Type 0} where
   AllOf of P s = Each P (of s.own)
 
   -- a seat keeps what it has
+  pub kept_each : (views : List (Standing T W)) (p : ℕ) (v w : Standing T W) → IsAt views p v → w.own ≡ v.own → KeepsEach views (slice_set views p w)
+  kept_each views p v w there same X of adds P h = each_set (AllOf of P) views p w h (subst (λ (o : Belongings W). Each P (of o)) (sym same) (each_at (AllOf of P) views p v there h))
+
   pub lie_kept : (views : List (Standing T W)) (p : ℕ) (v w : Standing T W) → IsAt views p v → w.own ≡ v.own → (f : WaitList → Listeners W) (n m : ℕ) → LieWithSeats views f n m
       → LieWithSeats (slice_set views p w) f n m
   lie_kept views p v w there same =
       lie_still views (slice_set views p w)
       (λ X of adds weigh. let set = total_set (weight of weigh) views p v w there in let e = ap (λ (o : Belongings W). total weigh (of o)) same in omega (arith, set, e))
-      (λ X of adds P h. each_set (AllOf of P) views p w h (subst (λ (o : Belongings W). Each P (of o)) (sym same) (each_at (AllOf of P) views p v there h)))
+      (kept_each views p v w there same)
 
   -- a seat comes with nothing
+  pub new_each : (views : List (Standing T W)) (w : Standing T W) → w.own ≡ nothing → KeepsEach views (views ++ w ∷ [])
+  new_each views w none X of adds P h = each_on (AllOf of P) views (w ∷ []) h (subst (λ (o : Belongings W). Each P (of o)) (sym none) (subst (λ (l : List X). Each P l) (sym adds.1) tt), tt)
+
   pub lie_with_new : (views : List (Standing T W)) (w : Standing T W) → w.own ≡ nothing → (f : WaitList → Listeners W) (n m : ℕ) → LieWithSeats views f n m → LieWithSeats (views ++ w ∷ []) f n m
   lie_with_new views w none =
       lie_still views (views ++ w ∷ [])
       (λ X of adds weigh.
       let on = total_on (weight of weigh) views (w ∷ []) in
       let e = ap (λ (o : Belongings W). total weigh (of o)) none ∙ ap (λ (l : List X). total weigh l) adds.1 in omega (arith, on, e))
-      (λ X of adds P h. each_on (AllOf of P) views (w ∷ []) h (subst (λ (o : Belongings W). Each P (of o)) (sym none) (subst (λ (l : List X). Each P l) (sym adds.1) tt), tt))
+      (new_each views w none)
 
   -- what one seat has goes to another
   module _ (views : List (Standing T W)) (p q : ℕ) (v w : Standing T W) (at_p : IsAt views p v) (at_q : IsAt views q w) (apart : q ≢ p) where
@@ -68,6 +74,13 @@ module _ {T W : Type 0} where
     abbrev First : List (Standing T W)
     First = slice_set views p Both
 
+    pub joined_each : KeepsEach views (slice_set First q Spent)
+    joined_each X of adds P h =
+        each_set (AllOf of P) First q Spent
+        (each_set (AllOf of P) views p Both h
+        (subst (λ (l : List X). Each P l) (sym (adds.0 v.own w.own)) (each_on P (of v.own) (of w.own) (each_at (AllOf of P) views p v at_p h) (each_at (AllOf of P) views q w at_q h))))
+        (subst (λ (l : List X). Each P l) (sym adds.1) tt)
+
     pub lie_joined : (f : WaitList → Listeners W) (n m : ℕ) → LieWithSeats views f n m → LieWithSeats (slice_set First q Spent) f n m
     lie_joined =
         lie_still views (slice_set First q Spent)
@@ -77,11 +90,7 @@ module _ {T W : Type 0} where
         let sum = ap (λ (l : List X). total weigh l) (adds.0 v.own w.own) ∙ total_on weigh (of v.own) (of w.own) in
         let none = ap (λ (l : List X). total weigh l) adds.1 in
         omega (arith, first, last, sum, none))
-        (λ X of adds P h.
-        each_set (AllOf of P) First q Spent
-        (each_set (AllOf of P) views p Both h
-        (subst (λ (l : List X). Each P l) (sym (adds.0 v.own w.own)) (each_on P (of v.own) (of w.own) (each_at (AllOf of P) views p v at_p h) (each_at (AllOf of P) views q w at_q h))))
-        (subst (λ (l : List X). Each P l) (sym adds.1) tt))
+        joined_each
 
   -- some of what a seat has goes to a new one
   module _ (views : List (Standing T W)) (p : ℕ) (v : Standing T W) (stays goes : Belongings W) (at_p : IsAt views p v) (cut : v.own ≡ both stays goes) where
@@ -91,6 +100,14 @@ module _ {T W : Type 0} where
     abbrev Gone : Standing T W
     Gone = with_own goes fresh
 
+    pub split_each : KeepsEach views (Left ++ Gone ∷ [])
+    split_each X of adds P h =
+        let had : Each P (of stays ++ of goes) =
+        subst (λ (l : List X). Each P l) (adds.0 stays goes) (subst (λ (o : Belongings W). Each P (of o)) cut (each_at (AllOf of P) views p v at_p h)) in
+        each_on (AllOf of P) Left (Gone ∷ [])
+        (each_set (AllOf of P) views p (with_own stays v) h (each_before P (of stays) (of goes) had))
+        (each_behind P (of stays) (of goes) had, tt)
+
     pub lie_split : (f : WaitList → Listeners W) (n m : ℕ) → LieWithSeats views f n m → LieWithSeats (Left ++ Gone ∷ []) f n m
     lie_split =
         lie_still views (Left ++ Gone ∷ [])
@@ -99,9 +116,4 @@ module _ {T W : Type 0} where
         let last = total_on (weight of weigh) Left (Gone ∷ []) in
         let sum = ap (λ (o : Belongings W). total weigh (of o)) cut ∙ ap (λ (l : List X). total weigh l) (adds.0 stays goes) ∙ total_on weigh (of stays) (of goes) in
         omega (arith, first, last, sum))
-        (λ X of adds P h.
-        let had : Each P (of stays ++ of goes) =
-        subst (λ (l : List X). Each P l) (adds.0 stays goes) (subst (λ (o : Belongings W). Each P (of o)) cut (each_at (AllOf of P) views p v at_p h)) in
-        each_on (AllOf of P) Left (Gone ∷ [])
-        (each_set (AllOf of P) views p (with_own stays v) h (each_before P (of stays) (of goes) had))
-        (each_behind P (of stays) (of goes) had, tt))
+        split_each

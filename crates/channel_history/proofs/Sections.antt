@@ -32,7 +32,7 @@ module _ {T W : Type 0} where
   with_put Streams k c f n m = refl
   with_put Closings k c f n m = refl
 
-not_one : (b : Bool) → one_if b ≡ 0 → b ≡ false
+pub not_one : (b : Bool) → one_if b ≡ 0 → b ≡ false
 not_one false e = refl
 not_one true e = absurd (omega (arith, e))
 

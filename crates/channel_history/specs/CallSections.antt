@@ -1,5 +1,5 @@
 -- A section of a call on a list, as its cells make it: the list's seat is taken into the call's, the event is made, and the seat leaves.
-use Rattle.std.specs.Prelude.{◌≡◌, [], ◌∷◌, Option}
+use Rattle.std.specs.Prelude.{◌≡◌, Bool, true, false, [], ◌∷◌, Option}
 use Rattle.concurrent_queue.specs.declared.cells.QueueForm.{QueueForm}
 use Rattle.event_listener.specs.Lists.{ListView, registration}
 use Rattle.event_listener.specs.declared.key.Key.{Key}
@@ -7,7 +7,7 @@ use Rattle.channel_calls.specs.Deeds.{Deed, registered}
 use Rattle.channel_calls.specs.Parts.{Listeners, Registers}
 use Rattle.channel_calls.specs.declared.stage.WaitList.{WaitList}
 use Rattle.channel_history.specs.Cells.{Did}
-use Rattle.channel_history.specs.Machine.{both, with_list}
+use Rattle.channel_history.specs.Machine.{both, with_list, NobodyWaits, IsSection}
 use Rattle.channel_history.specs.Party.{nothing, fresh, with_own}
 use Rattle.channel_history.specs.declared.party.Standing.{Standing}
 
@@ -44,3 +44,12 @@ module _ {T W : Type 0} where
   RegisteredTo form line key task u v =
       (l : ListView Unit W) × (u.own.lists ≡ (line, l) ∷ []) × (o : Option W) × Registers l.lists key task o
       × SectionTo form line (registered line key task o) (registration key task l.lists) u v
+
+  -- a section leads the party there: the list held the one and holds the other, and whether nobody waits on it before and after is known
+  abbrev pub IsSectionOf : QueueForm → WaitList → Listeners W → Listeners W → Standing T W → Standing T W → Type 0
+  IsSectionOf form line before after u v = (l : ListView Unit W) × (k : ListView Unit W) × IsSection form line l k u v × (l.lists ≡ before) × (k.lists ≡ after)
+
+  abbrev pub MayTurn : QueueForm → WaitList → Bool → Bool → Standing T W → Standing T W → Type 0
+  MayTurn form line before after u v =
+      (l : ListView Unit W) × (k : ListView Unit W) × IsSection form line l k u v
+      × (before ≡ true → NobodyWaits l) × (before ≡ false → NobodyWaits l → ⊥) × (after ≡ true → NobodyWaits k)

@@ -31,6 +31,7 @@ module _ {M : Type 0} where
 
 module _ {M X E : Type 0} where
   -- a run: steps, one after another, each with its entry, lead from one moment to another, as is said here of one step
+  -- It is a relation and no call: a call that made it would take steps of many parties and refuse some of them.
   pub record IsRun (Leads : M → X → E → M → Type 0) (from : M) (steps : List X) (trace : List E) (to : M) : Type 0 where
     pub moments : List M
     pub each : EachStep Leads from steps trace moments

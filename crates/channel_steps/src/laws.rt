@@ -227,8 +227,9 @@ pub fn tasks_may_be_others<T, W, V, C: ChannelCells<T, W>, S: Wakes<W>>()
 {}
 
 /// Tasks that were taken for one may be told apart. Of a merge each call may be given any task for which its own was put, and there is
-/// such a merge, in the same order, with the same given to each party. Which of these a telling wakes follows from the calls alone. So
-/// names may stand beside tasks, chosen anew for each call, though all calls of a thread have one waker.
+/// such a merge, in the same order, with the same given to each party. Which of these a telling wakes follows from the calls alone, since
+/// no machine and no cell looks at a task. So names may stand beside tasks, chosen anew for each call, though all calls of a thread have
+/// one waker.
 ///
 /// Own to this project.
 pub fn tasks_may_tell_more<T, W, V, S: Wakes<V>>()

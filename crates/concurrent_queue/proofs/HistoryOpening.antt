@@ -16,10 +16,10 @@ use Rattle.concurrent_queue.specs.declared.cells.QueueForm.TheVariants.{Bounded}
 use Rattle.concurrent_queue.proofs.Guards as guards
 use Rattle.concurrent_queue.specs.history.Joined.{AllStood, EachOnce, Lists}
 use Rattle.concurrent_queue.proofs.HistorySeats.{false_true}
-use Rattle.concurrent_queue.specs.history.Keeps.{HistoryOf, KeepsHistory}
-use Rattle.concurrent_queue.specs.history.Shared.{slots_of, stamps_of, words_of, contents, counts_set, count_in, first_view, IsRuled}
+use Rattle.concurrent_queue.specs.history.Keeps.{HistoryOf, KeepsHistory, Tally, opening_tally}
+use Rattle.concurrent_queue.specs.history.Shared.{slots_of, stamps_of, words_of, contents, offset_of, counts_set, count_in, tally_in, first_view, IsRuled}
 use Rattle.concurrent_queue.specs.declared.history.rule.Counter.{Counter}
-use Rattle.concurrent_queue.specs.declared.history.rule.Counter.TheVariants.{First, Second}
+use Rattle.concurrent_queue.specs.declared.history.rule.Counter.TheVariants.{First, Second, Third, Fourth, Fifth, Sixth}
 use Rattle.concurrent_queue.specs.declared.history.rule.CountStep.{CountStep}
 use Rattle.concurrent_queue.proofs.HistoryWords as words
 
@@ -71,6 +71,20 @@ first_is cap n = get_or-set_other (set (plain cap) (cap + 9) n) (cap + 28) (cap 
 second_is : (cap n : ℕ) → slice_index (first_words cap n) (cap + 28) ≡ n
 second_is cap n = get_or-set_same (set (plain cap) (cap + 9) n) (cap + 28) n 0 (subst (λ (l : ℕ). cap + 28 < l) (sym (length-set (plain cap) (cap + 9) n)) (inside cap 28 (omega arith)))
 
+-- and the others 0
+other_is : (cap n i : ℕ) → i < 32 → i ≢ 9 → i ≢ 28 → slice_index (first_words cap n) (cap + i) ≡ 0
+other_is cap n i h one two = else_is cap n (cap + i) (λ e. one (omega arith)) (λ e. two (omega arith)) ∙ word_is cap i h
+
+first_tally : (cap n : ℕ) → tally_in (Bounded cap) (first_words cap n) ≡ opening_tally n
+first_tally cap n = λ k. record {
+  first = first_is cap n k;
+  second = second_is cap n k;
+  third = other_is cap n 10 (omega arith) (λ e. omega arith) (λ e. omega arith) k;
+  fourth = other_is cap n 11 (omega arith) (λ e. omega arith) (λ e. omega arith) k;
+  fifth = other_is cap n 12 (omega arith) (λ e. omega arith) (λ e. omega arith) k;
+  sixth = other_is cap n 13 (omega arith) (λ e. omega arith) (λ e. omega arith) k;
+}
+
 module _ {T : Type 0} where
   snoc_none : (n : ℕ) → replicate n None ++ None ∷ [] ≡ None ∷ replicate {A = Option T} n None
   snoc_none zero = refl
@@ -104,8 +118,8 @@ module _ {T : Type 0} where
 
   first_contents : (cap n : ℕ) → contents (Bounded cap) (first_words cap n) (replicate cap None) ≡ new_cells {T = T} (Bounded cap)
   first_contents cap n =
-      words.spare_apart (Bounded cap) (set (plain cap) (cap + 9) n) (replicate cap None) n 28 (cap + 28) (inr (inr refl)) refl
-      ∙ (words.spare_apart (Bounded cap) (plain cap) (replicate cap None) n 9 (cap + 9) (inl refl) refl ∙ plain_contents cap)
+      words.spare_apart (Bounded cap) (set (plain cap) (cap + 9) n) (replicate cap None) n 28 (cap + 28) (inr (inl refl)) refl
+      ∙ (words.spare_apart (Bounded cap) (plain cap) (replicate cap None) n 9 (cap + 9) (inr (inr (omega arith, omega arith))) refl ∙ plain_contents cap)
 
   home_at : (l : List (Option T)) (i : ℕ) (x : Option T) → get_elem? (map home.some l) i ≡ home.some (home.some x) → slice_index_or l i None ≡ x
   home_at [] i x e = absurd (some-ne-none (home.some x) (sym e))
@@ -157,11 +171,11 @@ module _ {T A : Type 0} {moves : QueueForm → A → Event T → A → Type 0} {
       none_so zero v e = ap (λ u. u.over) (sym (some-injective _ v e))
       none_so (suc j) v e = absurd (some-ne-none v (sym e))
 
-      begins : is_history (Bounded cap) (first_view {T = T} opened (Bounded cap) ∷ []) (contents (Bounded cap) (first_words cap counted) (replicate cap None)) (count_in (Bounded cap) (first_words cap counted) First) (count_in (Bounded cap) (first_words cap counted) Second)
+      begins : is_history (Bounded cap) (first_view {T = T} opened (Bounded cap) ∷ []) (contents (Bounded cap) (first_words cap counted) (replicate cap None)) (tally_in (Bounded cap) (first_words cap counted))
       begins =
-          subst (λ (c : Contents T). is_history (Bounded cap) (first_view {T = T} opened (Bounded cap) ∷ []) c (count_in (Bounded cap) (first_words cap counted) First) (count_in (Bounded cap) (first_words cap counted) Second)) (sym (first_contents cap counted))
-          (subst (λ (n : ℕ). is_history (Bounded cap) (first_view {T = T} opened (Bounded cap) ∷ []) (new_cells (Bounded cap)) n (count_in (Bounded cap) (first_words cap counted) Second)) (sym (first_is cap counted))
-          (subst (λ (n : ℕ). is_history (Bounded cap) (first_view {T = T} opened (Bounded cap) ∷ []) (new_cells (Bounded cap)) counted n) (sym (second_is cap counted)) (laws.opens (Bounded cap) (first_view opened (Bounded cap)) has refl)))
+          subst (λ (c : Contents T). is_history (Bounded cap) (first_view {T = T} opened (Bounded cap) ∷ []) c (tally_in (Bounded cap) (first_words cap counted))) (sym (first_contents cap counted))
+          (subst (λ (t : Tally). is_history (Bounded cap) (first_view {T = T} opened (Bounded cap) ∷ []) (new_cells (Bounded cap)) t) (sym (first_tally cap counted))
+          (laws.opens (Bounded cap) (first_view opened (Bounded cap)) has refl))
 
   pub opens : (form : QueueForm) (cap n : ℕ) (words : List ℕ) → form ≡ Bounded cap → HasCells (Bounded cap) → n ≡ counted → words ≡ first_words cap n → IsRuled is_history admits form (opening words (replicate cap None) (first_view opened form))
   opens form cap n words e has start is =

@@ -16,9 +16,8 @@ use Rattle.concurrent_queue.specs.declared.cells.QueueForm.{QueueForm}
 use Rattle.concurrent_queue.specs.history.Keeps.{HistoryOf, KeepsHistory}
 use Rattle.concurrent_queue.specs.history.QueueKeeps.{at_end}
 use Rattle.concurrent_queue.specs.history.Shared as rule
-use Rattle.concurrent_queue.specs.history.Shared.{TableState, Seated, contents, going_on, slot_in, slot_out, guarded, flag_at, flag_in, count_in, IsKept, IsRuled}
+use Rattle.concurrent_queue.specs.history.Shared.{TableState, Seated, contents, going_on, slot_in, slot_out, guarded, flag_at, flag_in, tally_in, IsKept, IsRuled}
 use Rattle.concurrent_queue.specs.declared.history.rule.Counter.{Counter}
-use Rattle.concurrent_queue.specs.declared.history.rule.Counter.TheVariants.{First, Second}
 use Rattle.concurrent_queue.specs.declared.history.rule.CountStep.{CountStep}
 use Rattle.concurrent_queue.specs.declared.history.rule.View.{View}
 use Rattle.concurrent_queue.proofs.Guarding as guards
@@ -43,7 +42,7 @@ module _ {T A : Type 0} {moves : QueueForm → A → Event T → A → Type 0} {
   K = IsKept is_history form
 
   abbrev H : List (View T A) → List ℕ → List (Option T) → Type 0
-  H views ws values = is_history form views (contents form ws values) (count_in form ws First) (count_in form ws Second)
+  H views ws values = is_history form views (contents form ws values) (tally_in form ws)
 
   -- ---- a new seat
 
@@ -77,7 +76,7 @@ module _ {T A : Type 0} {moves : QueueForm → A → Event T → A → Type 0} {
   newcomer n a strange = record { who = n; nameless = false; form = form; state = a; held = None; foreign = strange; over = []; spent = false }
 
   arrives : (s : S) (a : A) (strange : Bool) → enters form a → (q : K s) → H (s.views ++ newcomer (length s.views) a strange ∷ []) s.words q.values
-  arrives s a strange go q = laws.arrives form s.views (contents form s.words q.values) (count_in form s.words First) (count_in form s.words Second) (newcomer (length s.views) a strange) q.history go
+  arrives s a strange go q = laws.arrives form s.views (contents form s.words q.values) (tally_in form s.words) (newcomer (length s.views) a strange) q.history go
 
   pub enters_so : (slots k : ℕ) (m0 : M) (a : A) → m0.0.form ≡ form → enters form a → Enters R slots k (λ n w. rule.enters a (step slots k 0 0 home.none) m0 n (w, []))
   enters_so slots k m0 a is go s r wide small = (
@@ -111,7 +110,7 @@ module _ {T A : Type 0} {moves : QueueForm → A → Event T → A → Type 0} {
         keeps,
         tt,
         steps.by_read laws admits form s id k me.0 w r at (λ z. z) refl (inl refl) refl live refl
-            (λ q. laws.turned form s.views (contents form s.words q.values) (count_in form s.words First) (count_in form s.words Second) id me.0 w q.history at (steps.of_form laws admits form s id me.0 (λ (f : QueueForm). turns f me.0.state w.state) r at go)),
+            (λ q. laws.turned form s.views (contents form s.words q.values) (tally_in form s.words) id me.0 w q.history at (steps.of_form laws admits form s id me.0 (λ (f : QueueForm). turns f me.0.state w.state) r at go)),
         refl,
       )
 
@@ -124,7 +123,7 @@ module _ {T A : Type 0} {moves : QueueForm → A → Event T → A → Type 0} {
 
   -- a view changes, and its party stands where it stood
   same : (s : S) (id : ℕ) (v w : View T A) → get_elem? s.views id ≡ home.some v → w.state ≡ v.state → (q : K s) → H (set s.views id w) s.words q.values
-  same s id v w at is q = laws.same form s.views (contents form s.words q.values) (count_in form s.words First) (count_in form s.words Second) id v w q.history at is
+  same s id v w at is q = laws.same form s.views (contents form s.words q.values) (tally_in form s.words) id v w q.history at is
 
   -- a seat is told its number
   pub names_so : (slots id k : ℕ) (me : M) → me.0.spent ≡ false → Allows R slots id me k (λ n. n) (rule.names (step slots k 0 0 home.none) me)
@@ -175,7 +174,7 @@ module _ {T A : Type 0} {moves : QueueForm → A → Event T → A → Type 0} {
       let there : get_elem? s.views other ≡ home.some w = sym (lists.set_else s.views id other (rule.both_views v w) two) ∙ mid in
       two_change s id other v w (rule.both_views v w) (rule.spent_view w) r at there two refl refl (seats.seats_join form (flag_in form s) s.views id other v w at there two live still named r.seated)
       (λ q.
-      laws.same form (set s.views id (rule.both_views v w)) (contents form s.words q.values) (count_in form s.words First) (count_in form s.words Second) other w (rule.spent_view w) (same s id v (rule.both_views v w) at refl q) mid refl)
+      laws.same form (set s.views id (rule.both_views v w)) (contents form s.words q.values) (tally_in form s.words) other w (rule.spent_view w) (same s id v (rule.both_views v w) at refl q) mid refl)
 
   -- one is taken in
   pub takes_in_so : (id other : ℕ) (v w : View T A) → v.spent ≡ false → w.spent ≡ false → Joins R id v other w (rule.taking_in both v w) (rule.left_view left w)
@@ -187,7 +186,7 @@ module _ {T A : Type 0} {moves : QueueForm → A → Event T → A → Type 0} {
       two_change s id other v w x y r at there two refl refl
       (seats.seats_step form f f (set s.views id x) other w y mid (λ z. z) refl (inr refl) still (λ n. n) (λ is. r.seated.admitted other w there is)
       (seats.seats_step form f f s.views id v x at (λ z. z) refl (inl refl) live (λ n. n) (λ is. r.seated.admitted id v at is) r.seated))
-      (λ q. laws.joined form s.views (contents form s.words q.values) (count_in form s.words First) (count_in form s.words Second) id other v w x y q.history at there two refl refl)
+      (λ q. laws.joined form s.views (contents form s.words q.values) (tally_in form s.words) id other v w x y q.history at there two refl refl)
 
   -- some of what a party has goes to a new one
   pub parts_so : (id : ℕ) (v : View T A) (stays goes : A) → v.held ≡ None → v.spent ≡ false → parts v.form v.state stays goes → Splits R id v (going_on v stays) (rule.parted_view v goes)
@@ -217,6 +216,6 @@ module _ {T A : Type 0} {moves : QueueForm → A → Event T → A → Type 0} {
                   (λ (p : (j ≢ id) × (get_elem? s.views j ≡ home.some u)). q.away j u l z p.1 held)
                   (at_set s.views id j x u t))
                   (at_end (set s.views id x) y u j e);
-              history = laws.parted form s.views (contents form s.words q.values) (count_in form s.words First) (count_in form s.words Second) id v x y q.history at (steps.of_form laws admits form s id v (λ (o : QueueForm). parts o v.state stays goes) r at go);
+              history = laws.parted form s.views (contents form s.words q.values) (tally_in form s.words) id v x y q.history at (steps.of_form laws admits form s id v (λ (o : QueueForm). parts o v.state stays goes) r at go);
             };
       }

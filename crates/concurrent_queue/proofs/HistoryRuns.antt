@@ -136,5 +136,5 @@ module _ {T : Type 0} (form : QueueForm) where
     all_did (x ∷ xs) a = (one_did x.0 a.0.0 x.1 a.0.1 a.0.2, all_did xs a.1)
 
 pub runs_with : (T : Type 0) → HistoriesAreRuns T → (v : View T (Standing T)) → Shown history v → IsRunWith v
-runs_with T runs v (views, c, n, m, h, mine, has, stood, once) =
+runs_with T runs v (views, c, t, h, mine, has, stood, once) =
     (views, c, h, runs v.form views c has h, mine, (one_did v.form views c h v.who v v.state mine refl, all_did v.form views c h v.over stood), once)

@@ -22,18 +22,18 @@ use Rattle.concurrent_queue.specs.machine.Guarded.{IsGuarded}
 use Rattle.concurrent_queue.specs.declared.cells.QueueForm.{QueueForm}
 use Rattle.concurrent_queue.specs.declared.cells.Slot.TheVariants.{At}
 use Rattle.concurrent_queue.specs.declared.cells.Word.{Word}
-use Rattle.concurrent_queue.specs.history.Keeps.{HistoryOf, KeepsHistory}
+use Rattle.concurrent_queue.specs.history.Keeps.{HistoryOf, KeepsHistory, Tally}
 use Rattle.concurrent_queue.specs.history.Shared as rule
-use Rattle.concurrent_queue.specs.history.Shared.{TableState, Seated, slots_of, stamps_of, words_of, own_word, IsOwn, answer, contents, LeavesAll, going_on, holding, slot_in, slot_out, guarded, flag_at, flag_in, count_in, IsKept, IsRuled, Made}
+use Rattle.concurrent_queue.specs.history.Shared.{TableState, Seated, slots_of, stamps_of, words_of, own_word, IsOwn, answer, contents, LeavesAll, going_on, holding, slot_in, slot_out, guarded, flag_at, flag_in, offset_of, count_at, tally_in, IsKept, IsRuled, Made}
 use Rattle.concurrent_queue.specs.declared.history.rule.Counter.{Counter}
-use Rattle.concurrent_queue.specs.declared.history.rule.Counter.TheVariants.{First, Second}
+use Rattle.concurrent_queue.specs.declared.history.rule.Counter.TheVariants.{First, Second, Third, Fourth, Fifth, Sixth}
 use Rattle.concurrent_queue.specs.declared.history.rule.CountStep.{CountStep}
 use Rattle.concurrent_queue.specs.declared.history.rule.View.{View}
 use Rattle.concurrent_queue.proofs.Guarding as guards
 use Rattle.concurrent_queue.proofs.HistorySeats as seats
 use Rattle.concurrent_queue.proofs.HistorySeats.{IsNamed, ListsNoMore}
 use Rattle.concurrent_queue.proofs.HistoryWords as words
-use Rattle.concurrent_queue.proofs.HistoryWords.{IsSpare}
+use Rattle.concurrent_queue.proofs.HistoryWords.{IsSpare, count_spare}
 
 or_pair : {X : Type 0} → X → Option X → X
 or_pair d (Some x) = x
@@ -99,7 +99,7 @@ module _ {T A : Type 0} {moves : QueueForm → A → Event T → A → Type 0} {
 
   -- the history, by the words of the table
   abbrev H : List (View T A) → List ℕ → List (Option T) → Type 0
-  H views ws values = is_history form views (contents form ws values) (count_in form ws First) (count_in form ws Second)
+  H views ws values = is_history form views (contents form ws values) (tally_in form ws)
 
   abbrev Unflagged : S → Type 0
   Unflagged s = admits → flag_in form s ≡ 0
@@ -114,16 +114,29 @@ module _ {T A : Type 0} {moves : QueueForm → A → Event T → A → Type 0} {
   guard_apart : (i j : ℕ) → i < slots_of form → i ≢ slots_of form + j
   guard_apart i j h e = let n : ℕ = slots_of form in let h' : i < n = h in let e' : i ≡ n + j = e in absurd (omega arith)
 
-  counts_stay : (views : List (View T A)) (c : Contents T) (ws ws' : List ℕ) → count_in form ws' First ≡ count_in form ws First → count_in form ws' Second ≡ count_in form ws Second
-      → is_history form views c (count_in form ws First) (count_in form ws Second) → is_history form views c (count_in form ws' First) (count_in form ws' Second)
-  counts_stay views c ws ws' a b h =
-      subst (λ (n : ℕ). is_history form views c n (count_in form ws' Second)) (sym a) (subst (λ (m : ℕ). is_history form views c (count_in form ws First) m) (sym b) h)
+  counts_stay : (views : List (View T A)) (c : Contents T) (ws ws' : List ℕ) → tally_in form ws' ≡ tally_in form ws
+      → is_history form views c (tally_in form ws) → is_history form views c (tally_in form ws')
+  counts_stay views c ws ws' e h = subst (λ (t : Tally). is_history form views c t) (sym e) h
+
+  -- a word is written that is no count
+  pub tally_stays : (ws : List ℕ) (k z : ℕ) → ((which : Counter) → k ≢ count_at form which) → tally_in form (set ws k z) ≡ tally_in form ws
+  tally_stays ws k z apart = λ i. record {
+    first = stays First i;
+    second = stays Second i;
+    third = stays Third i;
+    fourth = stays Fourth i;
+    fifth = stays Fifth i;
+    sixth = stays Sixth i;
+  }
+    where
+      stays : (which : Counter) → slice_index (set ws k z) (count_at form which) ≡ slice_index ws (count_at form which)
+      stays which = get_or-set_other ws k (count_at form which) z 0 (λ e. apart which (sym e))
 
   -- a guard is written, or the flag
   guard_set : (views : List (View T A)) (ws : List ℕ) (values : List (Option T)) (i z : ℕ) → i < slots_of form → H views ws values → H views (set ws i z) values
   guard_set views ws values i z inside h =
-      counts_stay views (contents form (set ws i z) values) ws (set ws i z) (spare_stays ws i z 9 (guard_apart i 9 inside)) (spare_stays ws i z 28 (guard_apart i 28 inside))
-      (subst (λ (c : Contents T). is_history form views c (count_in form ws First) (count_in form ws Second)) (sym (words.guards_apart form ws values z i inside)) h)
+      counts_stay views (contents form (set ws i z) values) ws (set ws i z) (tally_stays ws i z (λ which. guard_apart i (offset_of which) inside))
+      (subst (λ (c : Contents T). is_history form views c (tally_in form ws)) (sym (words.guards_apart form ws values z i inside)) h)
 
   -- a word is written that is no guard, or one as it was, and the seat holds what it held; the flag is not lowered
   pub kept : (s : S) (id k z : ℕ) (v w : View T A) (r : R s) → get_elem? s.views id ≡ home.some v → (IsNamed id v → IsNamed id w) → w.form ≡ v.form → ListsNoMore w v → w.held ≡ v.held → v.spent ≡ false
@@ -169,9 +182,9 @@ module _ {T A : Type 0} {moves : QueueForm → A → Event T → A → Type 0} {
 
   -- its machine makes an operation on the cells
   made : (s : S) (id : ℕ) (v : View T A) (a : A) (d : Deed T) (e : Contents T) (r : R s) (q : K s) → get_elem? s.views id ≡ home.some v → Does d (contents form s.words q.values) e → moves v.form v.state (does (Some d)) a
-      → is_history form (set s.views id (going_on v a)) e (count_in form s.words First) (count_in form s.words Second)
+      → is_history form (set s.views id (going_on v a)) e (tally_in form s.words)
   made s id v a d e r q at done go =
-      laws.more form s.views (contents form s.words q.values) e (count_in form s.words First) (count_in form s.words Second) id v (going_on v a) d q.history at done
+      laws.more form s.views (contents form s.words q.values) e (tally_in form s.words) id v (going_on v a) d q.history at done
       (of_form s id v (λ (f : QueueForm). moves f v.state (does (Some d)) a) r at go)
 
   -- AN OPERATION ON A WORD, whichever: it is enough that cells with this word answer it so, and that the machine makes it
@@ -184,7 +197,7 @@ module _ {T A : Type 0} {moves : QueueForm → A → Event T → A → Type 0} {
       let b = fits n in
       let v = going_on me.0 b.0 in
       let apart = words.behind_guards form w k own is in
-      let same = spare_stays s.words k (f n) 24 (apart.1 24 (inr (inl refl))) in (
+      let same = spare_stays s.words k (f n) 24 (apart.1 24 (inl refl)) in (
         v,
         keeps,
         tt,
@@ -198,7 +211,7 @@ module _ {T A : Type 0} {moves : QueueForm → A → Event T → A → Type 0} {
             subst (λ (j : ℕ). contents form (set s.words j (f n)) q.values ≡ write c w (f n)) (sym is) (words.written form s.words q.values (f n) w own r.words)
             ∙ ap (λ (x : ℕ). write c w (f x)) (sym there) in
             let done : Does (d n) c (contents form (set s.words k (f n)) q.values) = subst (λ (x : ℕ). Does (d x) c (contents form (set s.words k (f n)) q.values)) there (effect c _ e) in
-            counts_stay (set s.views id v) (contents form (set s.words k (f n)) q.values) s.words (set s.words k (f n)) (spare_stays s.words k (f n) 9 (apart.1 9 (inl refl))) (spare_stays s.words k (f n) 28 (apart.1 28 (inr (inr refl))))
+            counts_stay (set s.views id v) (contents form (set s.words k (f n)) q.values) s.words (set s.words k (f n)) (tally_stays s.words k (f n) (λ which. apart.1 (offset_of which) (count_spare which)))
             (made s id me.0 b.0 (d n) _ r q at done b.1)),
         (b.1, refl),
       )
@@ -215,7 +228,7 @@ module _ {T A : Type 0} {moves : QueueForm → A → Event T → A → Type 0} {
   )
 
   -- nothing is done, and the seat stays as it was
-  missed : (s : S) (id i : ℕ) (me : M) → R s → get_elem? s.views id ≡ home.some me.0 → R (stepped s i (slice_index s.words i) id me.1 me.0 keeps)
+  pub missed : (s : S) (id i : ℕ) (me : M) → R s → get_elem? s.views id ≡ home.some me.0 → R (stepped s i (slice_index s.words i) id me.1 me.0 keeps)
   missed s id i me r at =
       subst (λ (ws : List ℕ). R record { words = ws; homes = s.homes; views = set s.views id me.0 }) (sym (set-get_or s.words i 0))
       (subst (λ (vs : List (View T A)). R record { words = s.words; homes = s.homes; views = vs }) (sym (set_again s.views id me.0 at)) r)
@@ -236,9 +249,8 @@ module _ {T A : Type 0} {moves : QueueForm → A → Event T → A → Type 0} {
               let q = r.kept (λ a. ap (slice_index s.words) (sym is) ∙ zero a) in (
                 s.views,
                 contents form s.words q.values,
-                count_in form s.words First,
-                count_in form s.words Second,
-                subst (λ (f : QueueForm). is_history f s.views (contents form s.words q.values) (count_in form s.words First) (count_in form s.words Second)) (sym n.1) q.history,
+                tally_in form s.words,
+                subst (λ (f : QueueForm). is_history f s.views (contents form s.words q.values) (tally_in form s.words)) (sym n.1) q.history,
                 mine,
                 subst (λ (f : QueueForm). HasCells f) (sym n.1) r.has,
                 stood,
@@ -343,7 +355,7 @@ module _ {T A : Type 0} {moves : QueueForm → A → Event T → A → Type 0} {
       let w = holding (going_on me.0 a) (Some (i, y)) in
       won s id i me w x y r inside at idle live free (λ z. z) refl (inl refl) refl refl
       (λ zero q.
-      laws.more form s.views (contents form s.words q.values) (contents form s.words (set q.values i y)) (count_in form s.words First) (count_in form s.words Second) id me.0 w d q.history at (done q)
+      laws.more form s.views (contents form s.words q.values) (contents form s.words (set q.values i y)) (tally_in form s.words) id me.0 w d q.history at (done q)
       (of_form s id me.0 (λ (f : QueueForm). moves f me.0.state (does (Some d)) a) r at go))
 
   pub takes_so : (slots id i : ℕ) (me : M) → slots ≡ slots_of form → i < slots → me.0.held ≡ None → me.0.spent ≡ false → ((o : Option T) → (a : A) × moves me.0.form me.0.state (does (Some (deed.did_take (At i) o))) a)
@@ -434,7 +446,7 @@ module _ {T A : Type 0} {moves : QueueForm → A → Event T → A → Type 0} {
                   (λ (t : (j ≢ id) × (get_elem? s.views j ≡ home.some v)). q.away j v l z t.1 held)
                   (at_set s.views id j w v f);
               history = guard_set (set s.views id w) s.words q.values i 0 inside
-                  (laws.same form s.views (contents form s.words q.values) (count_in form s.words First) (count_in form s.words Second) id me.0 w q.history at refl);
+                  (laws.same form s.views (contents form s.words q.values) (tally_in form s.words) id me.0 w q.history at refl);
             };
       } in (
         w,
@@ -449,6 +461,14 @@ module _ {T A : Type 0} {moves : QueueForm → A → Event T → A → Type 0} {
   gives_so slots id i me y c fit near has holds live = returned slots id i me y c fit near has (ap slot_in holds) live (λ s at r zero q. q.away id me.0 i y at holds)
 
   -- ---- foreign calls
+
+  pub count_no_flag : (which : Counter) → 24 ≢ offset_of which
+  count_no_flag First e = absurd (omega arith)
+  count_no_flag Second e = absurd (omega arith)
+  count_no_flag Third e = absurd (omega arith)
+  count_no_flag Fourth e = absurd (omega arith)
+  count_no_flag Fifth e = absurd (omega arith)
+  count_no_flag Sixth e = absurd (omega arith)
 
   module _ (may : admits) where
     -- one is admitted
@@ -472,9 +492,9 @@ module _ {T A : Type 0} {moves : QueueForm → A → Event T → A → Type 0} {
               (λ zero q.
               let c = contents form s.words q.values in
               let off : (j : ℕ) → 24 ≢ j → k ≢ slots_of form + j = (λ j ne e. ne (let e' : k ≡ n + j = e in omega arith)) in
-              counts_stay (set s.views id w) (contents form (set s.words k 1) q.values) s.words (set s.words k 1) (spare_stays s.words k 1 9 (off 9 (λ e. omega arith))) (spare_stays s.words k 1 28 (off 28 (λ e. omega arith)))
-              (subst (λ (d : Contents T). is_history form (set s.views id w) d (count_in form s.words First) (count_in form s.words Second)) (sym (words.spare_apart form s.words q.values 1 24 k (inr (inl refl)) is))
-              (laws.same form s.views c (count_in form s.words First) (count_in form s.words Second) id me.0 w q.history at refl))),
+              counts_stay (set s.views id w) (contents form (set s.words k 1) q.values) s.words (set s.words k 1) (tally_stays s.words k 1 (λ which. off (offset_of which) (count_no_flag which)))
+              (subst (λ (d : Contents T). is_history form (set s.views id w) d (tally_in form s.words)) (sym (words.spare_apart form s.words q.values 1 24 k (inl refl) is))
+              (laws.same form s.views c (tally_in form s.words) id me.0 w q.history at refl))),
           refl,
         )
 
@@ -487,7 +507,7 @@ module _ {T A : Type 0} {moves : QueueForm → A → Event T → A → Type 0} {
       pub passes_so : (k : ℕ) (f : ℕ → ℕ) → slots_of form ≤ k → ((j : ℕ) → IsSpare j → k ≢ slots_of form + j) → Allows R slots id me k f (λ _ m. m ≡ me)
       passes_so k f behind apart s r wide at small =
           let z : ℕ = f (slice_index s.words k) in
-          let same = spare_stays s.words k z 24 (apart 24 (inr (inl refl))) in (
+          let same = spare_stays s.words k z 24 (apart 24 (inl refl)) in (
             me.0,
             keeps,
             tt,

@@ -14,7 +14,9 @@ use Rattle.concurrent_queue.specs.declared.cells.Slot.{Slot}
 use Rattle.concurrent_queue.specs.declared.cells.Slot.TheVariants.{At, In}
 use Rattle.concurrent_queue.specs.declared.cells.Word.{Word}
 use Rattle.concurrent_queue.specs.declared.cells.Word.TheVariants.{State, Head, Tail, Stamp, HeadBlock, TailBlock, Next, Reads, Written}
-use Rattle.concurrent_queue.specs.history.Shared.{slots_of, stamps_of, words_of, few_word, own_word, IsOwn, IsAbsent, IsNoSlot, answer, contents, HasSize, LeavesAll}
+use Rattle.concurrent_queue.specs.declared.history.rule.Counter.{Counter}
+use Rattle.concurrent_queue.specs.declared.history.rule.Counter.TheVariants.{First, Second, Third, Fourth, Fifth, Sixth}
+use Rattle.concurrent_queue.specs.history.Shared.{slots_of, stamps_of, words_of, offset_of, few_word, own_word, IsOwn, IsAbsent, IsNoSlot, answer, contents, HasSize, LeavesAll}
 
 none_some : {X : Type 0} (x : X) → Some x ≢ None
 none_some x e = absurd (cc)
@@ -44,27 +46,35 @@ named_behind form slots k w e f h =
     let at : k - slots ≡ i = omega arith in
     ap own_word at ∙ named form w h
 
--- where none of the queue's own words lies: the two counts and the flag
+-- where none of the queue's own words lies: the counts and the flag
 abbrev pub IsSpare : ℕ → Type 0
-IsSpare k = (k ≡ 9) ⊎ ((k ≡ 24) ⊎ (k ≡ 28))
+IsSpare k = (k ≡ 24) ⊎ ((k ≡ 28) ⊎ ((9 ≤ k) × (k < 14)))
 
-apart_from : (n k : ℕ) → n ≢ 9 → n ≢ 24 → n ≢ 28 → IsSpare k → n ≢ k
+pub count_spare : (which : Counter) → IsSpare (offset_of which)
+count_spare First = inr (inr (omega arith, omega arith))
+count_spare Second = inr (inl refl)
+count_spare Third = inr (inr (omega arith, omega arith))
+count_spare Fourth = inr (inr (omega arith, omega arith))
+count_spare Fifth = inr (inr (omega arith, omega arith))
+count_spare Sixth = inr (inr (omega arith, omega arith))
+
+apart_from : (n k : ℕ) → n ≢ 24 → n ≢ 28 → (9 ≤ n → n < 14 → ⊥) → IsSpare k → n ≢ k
 apart_from n k a b c (inl e) f = a (f ∙ e)
 apart_from n k a b c (inr (inl e)) f = b (f ∙ e)
-apart_from n k a b c (inr (inr e)) f = c (f ∙ e)
+apart_from n k a b c (inr (inr (l, h))) f = c (omega arith) (omega arith)
 
 spare_small : (k : ℕ) → IsSpare k → k < 32
 spare_small k (inl e) = omega arith
 spare_small k (inr (inl e)) = omega arith
-spare_small k (inr (inr e)) = omega arith
+spare_small k (inr (inr (l, h))) = omega arith
 
 pub not_spare : (form : QueueForm) (w : Word) → IsOwn form w → (k : ℕ) → IsSpare k → index_of (place_of w) ≢ k
-not_spare form State h k is = apart_from 0 k (λ e. omega arith) (λ e. omega arith) (λ e. omega arith) is
-not_spare form Head h k is = apart_from 1 k (λ e. omega arith) (λ e. omega arith) (λ e. omega arith) is
-not_spare form HeadBlock h k is = apart_from 2 k (λ e. omega arith) (λ e. omega arith) (λ e. omega arith) is
-not_spare form Tail h k is = apart_from 16 k (λ e. omega arith) (λ e. omega arith) (λ e. omega arith) is
-not_spare form TailBlock h k is = apart_from 17 k (λ e. omega arith) (λ e. omega arith) (λ e. omega arith) is
-not_spare form (Stamp i) h k is = apart_from (32 + i) k (λ e. omega arith) (λ e. omega arith) (λ e. omega arith) is
+not_spare form State h k is = apart_from 0 k (λ e. omega arith) (λ e. omega arith) (λ l h. omega arith) is
+not_spare form Head h k is = apart_from 1 k (λ e. omega arith) (λ e. omega arith) (λ l h. omega arith) is
+not_spare form HeadBlock h k is = apart_from 2 k (λ e. omega arith) (λ e. omega arith) (λ l h. omega arith) is
+not_spare form Tail h k is = apart_from 16 k (λ e. omega arith) (λ e. omega arith) (λ l h. omega arith) is
+not_spare form TailBlock h k is = apart_from 17 k (λ e. omega arith) (λ e. omega arith) (λ l h. omega arith) is
+not_spare form (Stamp i) h k is = apart_from (32 + i) k (λ e. omega arith) (λ e. omega arith) (λ l h. omega arith) is
 not_spare form (Next b) h k is = absurd (none_some b h.0)
 not_spare form (Reads b) h k is = absurd (none_some b h.0)
 not_spare form (Written b i) h k is = absurd (none_some b h.0)
@@ -168,9 +178,9 @@ module _ {T : Type 0} (form : QueueForm) where
     pub spare_apart : (j k : ℕ) → IsSpare j → k ≡ slots_of form + j → contents form (set words k x) values ≡ contents form words values
     spare_apart j k spare is =
         subst (λ (z : ℕ). contents form (set words z x) values ≡ contents form words values) (sym is)
-        (λ z. build (keep j 0 (apart_from 0 j (λ e. omega arith) (λ e. omega arith) (λ e. omega arith) spare) z) (keep j 1 (apart_from 1 j (λ e. omega arith) (λ e. omega arith) (λ e. omega arith) spare) z)
-        (keep j 16 (apart_from 16 j (λ e. omega arith) (λ e. omega arith) (λ e. omega arith) spare) z) (keep j 2 (apart_from 2 j (λ e. omega arith) (λ e. omega arith) (λ e. omega arith) spare) z)
-        (keep j 17 (apart_from 17 j (λ e. omega arith) (λ e. omega arith) (λ e. omega arith) spare) z) (stamps_keep j (spare_small j spare) z) values)
+        (λ z. build (keep j 0 (apart_from 0 j (λ e. omega arith) (λ e. omega arith) (λ l h. omega arith) spare) z) (keep j 1 (apart_from 1 j (λ e. omega arith) (λ e. omega arith) (λ l h. omega arith) spare) z)
+        (keep j 16 (apart_from 16 j (λ e. omega arith) (λ e. omega arith) (λ l h. omega arith) spare) z) (keep j 2 (apart_from 2 j (λ e. omega arith) (λ e. omega arith) (λ l h. omega arith) spare) z)
+        (keep j 17 (apart_from 17 j (λ e. omega arith) (λ e. omega arith) (λ l h. omega arith) spare) z) (stamps_keep j (spare_small j spare) z) values)
 
   -- what is found there is what the queue has
   pub found : (words : List ℕ) (values : List (Option T)) (w : Word) → IsOwn form w → read (contents form words values) w ≡ slice_index words (slots_of form + index_of (place_of w))

@@ -14,6 +14,7 @@ CanBeMade (Bounded cap) = 0 < cap
 CanBeMade Unbounded = Unit {0}
 
 -- the cells of a new queue: an empty slot, an empty ring of this capacity, or no block yet
+-- A run begins at these cells, so nothing is claimed of other cells, or of slots that were filled beforehand.
 abbrev pub new_cells : {T : Type 0} → QueueForm → Contents T
 new_cells (Bounded cap) = if cap == 1 then empty_slot else empty_ring cap
 new_cells Unbounded = empty_blocks

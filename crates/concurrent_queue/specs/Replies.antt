@@ -42,6 +42,7 @@ room_of Unbounded = None
 
 -- what may still be answered after a step might have been answered before it, and so might what it answers; and so long as
 -- closing and questions are not answered, they come nearer to it
+-- Over all steps of a call this gives that a refused message is the caller's own.
 module _ {A R : Type 0} where
   abbrev pub FollowsBy : (A → R → Type 0) → (A → Type 0) → (A → Type 0) → A → A → Option R → Type 0
   FollowsBy may last soon a a' answer =

@@ -278,6 +278,7 @@ fn push_load<T: Drop, C: Cells<T>>(
     ensures answers { RingFollows shape.cap (RingAction.Push when_full value) result }
     ensures deed { RingMakes shape.cap shape.mark C.did cells.old (RingAction.Push when_full value) cells.new result }
 {
+    // Load the tail first: the next steps test the stamp of this position and exchange this word. The same load shows a closed queue.
     let tail = cells.load(Word::Tail);
     if shape.is_marked(tail) {
         finish(refused(when_full, value))
@@ -300,6 +301,7 @@ fn push_shut<T: Drop, C: Cells<T>>(
     ensures answers { RingFollows shape.cap (RingAction.PushShut when_full value) result }
     ensures deed { RingMakes shape.cap shape.mark C.did cells.old (RingAction.PushShut when_full value) cells.new result }
 {
+    // An `or`, as in `close`: of all calls that set the mark only one finds it clear, and that call closed the queue.
     let tail = cells.fetch_or(Word::Tail, shape.mark);
     let reply = refused(when_full, value);
     if shape.is_marked(tail) {
@@ -321,18 +323,22 @@ fn push_look<T: Drop, C: Cells<T>>(
     ensures answers { RingFollows shape.cap (RingAction.PushStamp when_full value tail) result }
     ensures deed { RingMakes shape.cap shape.mark C.did cells.old (RingAction.PushStamp when_full value tail) cells.new result }
 {
+    // Load the stamp after the tail. A stamp equal to the position can't change until a push moves the tail from here, so `push_swap`
+    // need not load it again.
     let stamp = cells.load(shape.stamp(tail));
     if stamp == tail {
         return stay(RingAction::PushSwap(when_full, value, tail));
     }
     let lap = shape.lap();
     if lap <= tail && stamp == tail - lap + 1 {
+        // The message of the lap before is still in, or a call has won it and not freed the slot yet. The head tells which.
         let head = tail - lap;
         return match when_full {
             WhenFull::Refuse => stay(RingAction::PushHead(value, head)),
             WhenFull::Displace => stay(RingAction::ForceHead(value, head)),
         };
     }
+    // The push of the lap before hasn't finished, or the tail has moved on. Start again.
     stay(RingAction::Push(when_full, value))
 }
 
@@ -348,6 +354,7 @@ fn push_swap<T: Drop, C: Cells<T>>(
     ensures answers { RingFollows shape.cap (RingAction.PushSwap when_full value tail) result }
     ensures deed { RingMakes shape.cap shape.mark C.did cells.old (RingAction.PushSwap when_full value tail) cells.new result }
 {
+    // Commit. An exchange, not an add: an add would take a position of a closed queue, or one whose slot isn't free.
     match cells.compare_exchange(Word::Tail, tail, shape.next(tail)) {
         Ok(_) => did(
             RingAction::PushPut(when_full, value, tail),
@@ -368,6 +375,7 @@ fn push_put<T: Drop, C: Cells<T>>(
     ensures answers { RingFollows shape.cap (RingAction.PushPut when_full value tail) result }
     ensures deed { RingMakes shape.cap shape.mark C.did cells.old (RingAction.PushPut when_full value tail) cells.new result }
 {
+    // Put before the stamp is stored: a pop takes the message as soon as it finds that stamp.
     match cells.put(Slot::At(shape.index(tail)), value) {
         Ok(()) => stay(RingAction::PushStore(when_full, tail)),
         Err(value) => stay(RingAction::PushPut(when_full, value, tail)),
@@ -384,6 +392,7 @@ fn push_store<T: Drop, C: Cells<T>>(
     ensures answers { RingFollows shape.cap (RingAction.PushStore when_full tail) result }
     ensures deed { RingMakes shape.cap shape.mark C.did cells.old (RingAction.PushStore when_full tail) cells.new result }
 {
+    // Last: this publishes the message to pops. A store suffices, since until here only the call that won the position writes this stamp.
     cells.store(shape.stamp(tail), tail.wrapping_add(1));
     finish(accepted(when_full))
 }
@@ -394,6 +403,8 @@ fn push_head<T: Drop, C: Cells<T>>(value: T, head: u64, cells: &mut C) -> Steppe
     ensures answers { (cap : ℕ) → RingFollows cap (RingAction.PushHead value head) result }
     ensures deed { (cap m : ℕ) → RingMakes cap m C.did cells.old (RingAction.PushHead value head) cells.new result }
 {
+    // The head never moves back. If it is still here, the queue is full now, and was full and open when the tail was loaded.
+    // If not, another call has won the old message and the slot becomes free: `Full` would be false, so the push tries again.
     if cells.load(Word::Head) == head {
         finish(QueueReply::Push(Err(PushError::Full(value))))
     } else {
@@ -413,6 +424,7 @@ fn force_head<T: Drop, C: Cells<T>>(
     ensures answers { RingFollows shape.cap (RingAction.ForceHead value head) result }
     ensures deed { RingMakes shape.cap shape.mark C.did cells.old (RingAction.ForceHead value head) cells.new result }
 {
+    // An exchange: if a pop or another displacing push has won this message there may be room, and the call starts again.
     match cells.compare_exchange(Word::Head, head, shape.next(head)) {
         Ok(_) => did(RingAction::ForceAdd(value, head), QueueMark::TakeDisplaced),
         Err(_) => stay(RingAction::Push(WhenFull::Displace, value)),
@@ -430,6 +442,7 @@ fn force_add<T: Drop, C: Cells<T>>(
     ensures answers { RingFollows shape.cap (RingAction.ForceAdd value head) result }
     ensures deed { RingMakes shape.cap shape.mark C.did cells.old (RingAction.ForceAdd value head) cells.new result }
 {
+    // Commit. An exchange could fail after a close, when the old message is already won.
     cells.fetch_add(Word::Tail, shape.stride(head));
     did(RingAction::ForceTake(value, head), QueueMark::Append)
 }
@@ -444,6 +457,7 @@ fn force_take<T: Drop, C: Cells<T>>(
     ensures answers { RingFollows shape.cap (RingAction.ForceTake value head) result }
     ensures deed { RingMakes shape.cap shape.mark C.did cells.old (RingAction.ForceTake value head) cells.new result }
 {
+    // Until this call stores the stamp, every other push and pop at this slot tries again.
     match cells.take(Slot::At(shape.index(head))) {
         Some(old) => stay(RingAction::ForcePut(value, head, old)),
         None => stay(RingAction::ForceTake(value, head)),
@@ -461,6 +475,7 @@ fn force_put<T: Drop, C: Cells<T>>(
     ensures answers { RingFollows shape.cap (RingAction.ForcePut value head old) result }
     ensures deed { RingMakes shape.cap shape.mark C.did cells.old (RingAction.ForcePut value head old) cells.new result }
 {
+    // After the old message is out, and before the stamp lets a pop in.
     match cells.put(Slot::At(shape.index(head)), value) {
         Ok(()) => stay(RingAction::ForceStore(head, old)),
         Err(value) => stay(RingAction::ForcePut(value, head, old)),
@@ -477,6 +492,7 @@ fn force_store<T: Drop, C: Cells<T>>(
     ensures answers { RingFollows shape.cap (RingAction.ForceStore head old) result }
     ensures deed { RingMakes shape.cap shape.mark C.did cells.old (RingAction.ForceStore head old) cells.new result }
 {
+    // Last: the stamp of the new message, one lap on. A pop that has reached this position has been waiting for it.
     cells.store(shape.stamp(head), head.wrapping_add(shape.lap() + 1));
     finish(QueueReply::Force(Ok(Some(old))))
 }
@@ -491,12 +507,15 @@ fn pop_look<T: Drop, C: Cells<T>>(
     ensures answers { RingFollows shape.cap (RingAction.PopStamp head) result }
     ensures deed { RingMakes shape.cap shape.mark C.did cells.old (RingAction.PopStamp head) cells.new result }
 {
+    // Load the stamp after the head. A stamp that announces the message can't change until a call moves the head from here.
     let stamp = cells.load(shape.stamp(head));
     if stamp == head.wrapping_add(1) {
         stay(RingAction::PopSwap(head))
     } else if stamp == head {
+        // The slot is free: the queue is empty, or a push has won the position and not stored its stamp. The tail tells which.
         stay(RingAction::PopTail(head))
     } else {
+        // The last call at this slot hasn't stored its stamp yet, or the head has moved on. Start again.
         stay(RingAction::Pop)
     }
 }
@@ -510,6 +529,7 @@ fn pop_swap<T: Drop, C: Cells<T>>(
     ensures answers { RingFollows shape.cap (RingAction.PopSwap head) result }
     ensures deed { RingMakes shape.cap shape.mark C.did cells.old (RingAction.PopSwap head) cells.new result }
 {
+    // Commit. An exchange, since another pop or a displacing push may have won this message.
     match cells.compare_exchange(Word::Head, head, shape.next(head)) {
         Ok(_) => did(RingAction::PopTake(head), QueueMark::Take),
         Err(_) => stay(RingAction::Pop),
@@ -527,6 +547,8 @@ fn pop_tail<T: Drop, C: Cells<T>>(
     ensures answers { RingFollows shape.cap (RingAction.PopTail head) result }
     ensures deed { RingMakes shape.cap shape.mark C.did cells.old (RingAction.PopTail head) cells.new result }
 {
+    // Load the tail after the head. In the other order a push and a pop in between could make them equal while there was a message
+    // all the time, and `Empty` would be false.
     let tail = cells.load(Word::Tail);
     if shape.unmarked(tail) != head {
         return stay(RingAction::Pop);
@@ -547,6 +569,7 @@ fn pop_take<T: Drop, C: Cells<T>>(
     ensures answers { RingFollows shape.cap (RingAction.PopTake head) result }
     ensures deed { RingMakes shape.cap shape.mark C.did cells.old (RingAction.PopTake head) cells.new result }
 {
+    // Take before the stamp is stored: the push of the next lap puts its message as soon as it finds that stamp.
     match cells.take(Slot::At(shape.index(head))) {
         Some(value) => stay(RingAction::PopStore(head, value)),
         None => stay(RingAction::PopTake(head)),
@@ -563,6 +586,7 @@ fn pop_store<T: Drop, C: Cells<T>>(
     ensures answers { RingFollows shape.cap (RingAction.PopStore head value) result }
     ensures deed { RingMakes shape.cap shape.mark C.did cells.old (RingAction.PopStore head value) cells.new result }
 {
+    // Last: this frees the slot for the next lap. A store suffices, since until here only the call that won the head writes this stamp.
     cells.store(shape.stamp(head), head.wrapping_add(shape.lap()));
     finish(QueueReply::Pop(Ok(value)))
 }
@@ -572,6 +596,8 @@ fn close<T: Drop, C: Cells<T>>(shape: Shape, cells: &mut C) -> Stepped<RingActio
     ensures answers { RingFollows shape.cap RingAction.Close result }
     ensures deed { RingMakes shape.cap shape.mark C.did cells.old RingAction.Close cells.new result }
 {
+    // An `or` keeps the position, up to which pops go on. Pushes expect a tail without the mark, so from here on none gets in.
+    // Of two closes only one finds the mark clear.
     let tail = cells.fetch_or(Word::Tail, shape.mark);
     if shape.is_marked(tail) {
         finish(QueueReply::Close(false))
@@ -585,6 +611,7 @@ fn is_closed<T: Drop, C: Cells<T>>(shape: Shape, cells: &mut C) -> Stepped<RingA
     ensures answers { RingFollows shape.cap RingAction.IsClosed result }
     ensures deed { RingMakes shape.cap shape.mark C.did cells.old RingAction.IsClosed cells.new result }
 {
+    // One load decides: the mark is in the tail, and no step clears it.
     let tail = cells.load(Word::Tail);
     finish(QueueReply::Flag(shape.is_marked(tail)))
 }
@@ -598,6 +625,8 @@ fn empty_look<T: Drop, C: Cells<T>>(
     ensures answers { RingFollows shape.cap (RingAction.IsEmptyTail head) result }
     ensures deed { RingMakes shape.cap shape.mark C.did cells.old (RingAction.IsEmptyTail head) cells.new result }
 {
+    // Load the tail after the head: if they are equal, the queue is empty at this load. In the other order a push and a pop in between
+    // could make them equal.
     let tail = cells.load(Word::Tail);
     finish(QueueReply::Flag(shape.unmarked(tail) == head))
 }
@@ -607,6 +636,7 @@ fn full_load<T: Drop, C: Cells<T>>(shape: Shape, cells: &mut C) -> Stepped<RingA
     ensures answers { RingFollows shape.cap RingAction.IsFull result }
     ensures deed { RingMakes shape.cap shape.mark C.did cells.old RingAction.IsFull cells.new result }
 {
+    // Load the tail before the head: `full_look` says why.
     let tail = cells.load(Word::Tail);
     stay(RingAction::IsFullHead(shape.unmarked(tail)))
 }
@@ -620,6 +650,8 @@ fn full_look<T: Drop, C: Cells<T>>(
     ensures answers { RingFollows shape.cap (RingAction.IsFullHead tail) result }
     ensures deed { RingMakes shape.cap shape.mark C.did cells.old (RingAction.IsFullHead tail) cells.new result }
 {
+    // Load the head after the tail: if it is one lap behind, the queue was full when the tail was loaded. In the other order a pop and
+    // a push in between could make it look full.
     let head = cells.load(Word::Head);
     let lap = shape.lap();
     finish(QueueReply::Flag(lap <= tail && head == tail - lap))
@@ -630,6 +662,7 @@ fn len_load<T: Drop, C: Cells<T>>(shape: Shape, cells: &mut C) -> Stepped<RingAc
     ensures answers { RingFollows shape.cap RingAction.Len result }
     ensures deed { RingMakes shape.cap shape.mark C.did cells.old RingAction.Len cells.new result }
 {
+    // The first of two loads of the tail, with the head in between.
     let tail = cells.load(Word::Tail);
     stay(RingAction::LenHead(shape.unmarked(tail), shape.is_marked(tail)))
 }
@@ -651,6 +684,7 @@ fn len_again<T: Drop, C: Cells<T>>(
     } else {
         tail
     };
+    // Positions never repeat, so an equal word means that the tail stood still: when the head was loaded, the queue held this many.
     if cells.load(Word::Tail) == word {
         let length = shape.count(tail).wrapping_sub(shape.count(head));
         finish(QueueReply::Count(length as usize))
@@ -729,6 +763,7 @@ fn step_ring<T: Drop, C: Cells<T>>(
         RingAction::ForceTake(value, head) => force_take(shape, value, head, cells),
         RingAction::ForcePut(value, head, old) => force_put(shape, value, head, old, cells),
         RingAction::ForceStore(head, old) => force_store(shape, head, old, cells),
+        // Load the head first: the next steps test the stamp of this position and exchange this word.
         RingAction::Pop => stay(RingAction::PopStamp(cells.load(Word::Head))),
         RingAction::PopStamp(head) => pop_look(shape, head, cells),
         RingAction::PopSwap(head) => pop_swap(shape, head, cells),
@@ -737,11 +772,13 @@ fn step_ring<T: Drop, C: Cells<T>>(
         RingAction::PopStore(head, value) => pop_store(shape, head, value, cells),
         RingAction::Close => close(shape, cells),
         RingAction::IsClosed => is_closed(shape, cells),
+        // Load the head before the tail: `empty_look` says why.
         RingAction::IsEmpty => stay(RingAction::IsEmptyTail(cells.load(Word::Head))),
         RingAction::IsEmptyTail(head) => empty_look(shape, head, cells),
         RingAction::IsFull => full_load(shape, cells),
         RingAction::IsFullHead(tail) => full_look(shape, tail, cells),
         RingAction::Len => len_load(shape, cells),
+        // Load the head between two loads of the tail, which have to agree.
         RingAction::LenHead(tail, marked) => stay(RingAction::LenTail(
             tail,
             marked,

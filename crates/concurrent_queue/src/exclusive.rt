@@ -208,6 +208,7 @@ impl<T: Drop> Exclusive<T> {
         ensures same_queue { (walked result).ghost_name ≡ self.entry.ghost_name }
         ensures unchanged { (walked result).now ≡ self.old }
     {
+        // The walk has the ghost name of this borrow, so a caller can prove that a walk dropped unread changed nothing.
         ExclusiveIter { queue: self }
     }
 }

@@ -169,6 +169,7 @@ fn turn<T: Drop>(
         (λ why. IsRefused steps.old.items parties.old.items why × IsLeft steps.old.items (contents_of cells.old) parties.old.items trace.old.items steps.new.items (contents_of cells.new) parties.new.items trace.new.items) }
     ensures shorter { IfOk result (λ _. deque_len steps.new < deque_len steps.old) }
 {
+    // Before memory is asked for: a busy or idle turn is reported as such, and never as a lack of memory.
     admit(steps, parties)?;
     if trace.reserve(1).is_err() || parties.reserve(1).is_err() {
         return Err(QueueRefusal::NoMemory);

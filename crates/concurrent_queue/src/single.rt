@@ -124,37 +124,45 @@ pub(crate) fn step<T: Drop, C: Cells<T>>(
 {
     match action {
         SingleAction::Push(value) => push(value, cells),
+        // Put before the lock bit is cleared: a pop takes the message as soon as it finds the bit clear.
         SingleAction::PushPut(value) => match cells.put(SLOT, value) {
             Ok(()) => stay(SingleAction::PushUnlock),
             Err(value) => stay(SingleAction::PushPut(value)),
         },
         SingleAction::PushUnlock => {
+            // An `and`, not a store: a store would erase the closed bit of a close that came in between.
             cells.fetch_and(Word::State, NOT_LOCKED);
             finish(QueueReply::Push(Ok(())))
         }
         SingleAction::Force(value, expected) => force_push(value, expected, cells),
+        // Take the old message before putting the new one: the slot holds one message.
         SingleAction::ForceTake(value) => match cells.take(SLOT) {
             Some(old) => stay(SingleAction::ForcePut(value, Some(old))),
             None => stay(SingleAction::ForceTake(value)),
         },
+        // Put before the lock bit is cleared, as for a push.
         SingleAction::ForcePut(value, old) => match cells.put(SLOT, value) {
             Ok(()) => stay(SingleAction::ForceUnlock(old)),
             Err(value) => stay(SingleAction::ForcePut(value, old)),
         },
         SingleAction::ForceUnlock(old) => {
+            // Last: from here on a pop can take the new message. An `and` keeps the closed bit, as for a push.
             cells.fetch_and(Word::State, NOT_LOCKED);
             finish(QueueReply::Force(Ok(old)))
         }
         SingleAction::Pop(expected) => pop(expected, cells),
+        // Take before the lock bit is cleared: from then on a push can win the slot and put its message.
         SingleAction::PopTake => match cells.take(SLOT) {
             Some(value) => stay(SingleAction::PopUnlock(value)),
             None => stay(SingleAction::PopTake),
         },
         SingleAction::PopUnlock(value) => {
+            // Last: from here on a push can win the slot. An `and` keeps the closed bit.
             cells.fetch_and(Word::State, NOT_LOCKED);
             finish(QueueReply::Pop(Ok(value)))
         }
         SingleAction::Close => close(cells),
+        // One load answers each of the next four questions: all three bits are in one word, so the answer holds at this load.
         SingleAction::IsClosed => {
             let found = cells.load(Word::State);
             finish(QueueReply::Flag(found & CLOSED != 0))
@@ -182,6 +190,7 @@ fn push<T: Drop, C: Cells<T>>(value: T, cells: &mut C) -> Stepped<SingleAction<T
     ensures answers { SingleFollows (SingleAction.Push value) result }
     ensures deed { SingleMakes C.did cells.old (SingleAction.Push value) cells.new result }
 {
+    // Commit. Expecting 0 tests in one step that the queue is open, the slot is empty and no call holds it.
     match cells.compare_exchange(Word::State, 0, FILLING) {
         Ok(_) => mark(SingleAction::PushPut(value), QueueMark::Append),
         Err(found) => {
@@ -190,6 +199,7 @@ fn push<T: Drop, C: Cells<T>>(value: T, cells: &mut C) -> Stepped<SingleAction<T
             } else if found & PUSHED != 0 {
                 finish(QueueReply::Push(Err(PushError::Full(value))))
             } else {
+                // Locked but without a message: a pop is still reading. `Full` would be false here, so the push tries again.
                 stay(SingleAction::Push(value))
             }
         }
@@ -206,6 +216,7 @@ fn force_push<T: Drop, C: Cells<T>>(
     ensures answers { SingleFollows (SingleAction.Force value expected) result }
     ensures deed { SingleMakes C.did cells.old (SingleAction.Force value expected) cells.new result }
 {
+    // Commit. One exchange removes the old message, if there is one, and adds the new one, so no other call comes in between.
     match cells.compare_exchange(Word::State, expected, FILLING) {
         Ok(_) => {
             if expected == 0 {
@@ -220,22 +231,25 @@ fn force_push<T: Drop, C: Cells<T>>(
             } else if found & LOCKED == 0 {
                 stay(SingleAction::Force(value, found))
             } else {
+                // Never expect a word with the lock bit: the exchange would take the slot from the call that holds it.
                 stay(SingleAction::Force(value, expected))
             }
         }
     }
 }
 
-/// Wins the message. The closed bit is kept.
+/// Wins the message. The closed bit is kept. A refusal is read off the word that was found, as in `push`.
 fn pop<T: Drop, C: Cells<T>>(expected: u64, cells: &mut C) -> Stepped<SingleAction<T>, T>
     requires ready { Ready C.may (single_moves (SingleAction.Pop expected)) cells.old }
     ensures answers { SingleFollows (SingleAction.Pop expected) result }
     ensures deed { SingleMakes C.did cells.old (SingleAction.Pop expected) cells.new result }
 {
+    // Commit. The new word keeps the closed bit, since a closed queue is still emptied, and locks the slot against pushes.
     match cells.compare_exchange(Word::State, expected, (expected | LOCKED) & NOT_PUSHED) {
         Ok(_) => mark(SingleAction::PopTake, QueueMark::Take),
         Err(found) => {
             if found & PUSHED != 0 {
+                // Expect the word without the lock bit: the exchange fails, and the pop tries again, while a push is putting its message.
                 stay(SingleAction::Pop(found & NOT_LOCKED))
             } else if found & CLOSED != 0 {
                 finish(QueueReply::Pop(Err(PopError::Closed)))
@@ -252,6 +266,7 @@ fn close<T: Drop, C: Cells<T>>(cells: &mut C) -> Stepped<SingleAction<T>, T>
     ensures answers { SingleFollows SingleAction.Close result }
     ensures deed { SingleMakes C.did cells.old SingleAction.Close cells.new result }
 {
+    // An `or` keeps the bits of a call in flight, and of two closes only one finds the bit clear.
     let found = cells.fetch_or(Word::State, CLOSED);
     if found & CLOSED == 0 {
         Stepped {

@@ -5,12 +5,11 @@ ghost use Rattle.event_listener.specs.Notifying.{NotifiesEvent, TellsEvent, Coun
 ghost use Rattle.event_listener.specs.Sections.{counts_told, counts_all};
 
 use crate::error::{ListenError, NotifyError};
-use crate::home::Homes;
+use crate::homes::{Begun, Homes};
 use crate::id::EventId;
 use crate::into_notification::IntoNotification;
 use crate::list::List;
 use crate::listener::EventListener;
-use crate::notify::{Additional, Notify};
 use crate::steps::Steps;
 use crate::waking::{Task, WakerCell};
 use std::alloc::Global;
@@ -26,6 +25,13 @@ use std::sync::Wait;
 pub struct Event<T, L = List<T, Task>> {
     id: EventId,
     homes: Homes<T, L>,
+}
+
+/// What a call of an event is given once, where it begins: no section of the event's calls is made without one, and the section's right uses it
+/// up. It can't be copied, and nobody makes one but [`Event::begin`].
+#[derive(Drop)]
+pub(crate) struct OneCall {
+    made: (),
 }
 
 impl<T, L> Model for Event<T, L> {
@@ -67,8 +73,8 @@ impl<T: Drop, L: Steps<T>> Event<T, L> {
         ensures listens { IfOk result (Listened L.did) }
         ensures refused { IfErr result (RefusesToListen L.did L.holds L.refused self.now.lock) }
     {
-        match L::share(self.homes.alloc(), WakerCell::new()) {
-            Ok(cell) => EventListener::new(*rt, self, cell),
+        match L::share(self.alloc(), WakerCell::new()) {
+            Ok(cell) => EventListener::new(*rt, self.begin(), self.number(), self.alloc(), cell),
             Err(_) => Err(ListenError::NoMemory),
         }
     }
@@ -79,11 +85,16 @@ impl<T: Drop, L: Steps<T>> Event<T, L> {
         self.id.number()
     }
 
-    /// Where its list is kept.
-    pub(crate) fn homes(&self) -> &Homes<T, L>
-        ensures { result.now.once.id ≡ self.now.lock }
+    pub(crate) fn alloc(&self) -> Global {
+        self.homes.alloc()
+    }
+
+    /// Begins a call. Each public call of an event is this, once, and what it does with the right.
+    #[inline(always)]
+    pub(crate) fn begin(&self) -> Begun<'_, T, L>
+        ensures { result.homes.now.once.id ≡ self.now.lock }
     {
-        &self.homes
+        self.homes.begin(OneCall { made: () })
     }
 
     /// Tells listeners, the longest listening first: of the default kind so many that at least the notice's number are
@@ -100,11 +111,8 @@ impl<T: Drop, L: Steps<T>> Event<T, L> {
         requires { (n : N.Notify) → N.becomes notice n → N.Notify.can_give n }
         ensures tells { (n : N.Notify) × N.becomes notice n × NotifiesEvent N.Notify.size N.Notify.additional N.Notify.gives L.did L.holds L.lacks self.now.lock n result }
     {
-        let notice = notice.into_notification();
-        match self.homes.turn() {
-            Some(turn) => turn.notify(rt, notice),
-            None => Ok(0),
-        }
+        // The notice is taken by value, so no clause says what became of it: only a test shows that a notice for nobody makes no tag.
+        self.begin().notify(rt, notice)
     }
 
     /// Whether some listener was told and has not taken its tag yet. It may wait for the list's lock.
@@ -113,20 +121,14 @@ impl<T: Drop, L: Steps<T>> Event<T, L> {
     pub fn is_notified<R: Wait>(&self, rt: &R) -> bool
         ensures counted { CountsEvent L.did L.holds L.lacks self.now.lock counts_told (λ told. result ≡ nat_lt 0 told) }
     {
-        match self.homes.turn() {
-            Some(turn) => turn.told(rt) > 0,
-            None => false,
-        }
+        self.begin().is_notified(rt)
     }
 
     /// How many listeners there are, told and waiting. It may wait for the list's lock. As `event-listener` 5.4.2.
     pub fn total_listeners<R: Wait>(&self, rt: &R) -> usize
         ensures counted { CountsEvent L.did L.holds L.lacks self.now.lock counts_all (λ all. result ≡ all) }
     {
-        match self.homes.turn() {
-            Some(turn) => turn.total(rt),
-            None => 0,
-        }
+        self.begin().total_listeners(rt)
     }
 }
 
@@ -147,10 +149,7 @@ impl<L: Steps<()>> Event<(), L> {
         ensures at_most { result ≤ count }
         ensures told { TellsEvent L.did L.holds L.lacks self.now.lock false count result }
     {
-        match self.notify(rt, Notify { count }) {
-            Ok(told) => told,
-            Err(_) => unreachable!(),
-        }
+        self.begin().notify_relaxed(rt, count)
     }
 
     /// A notice that tells so many more listeners, whoever is told already: how many were told now.
@@ -160,15 +159,7 @@ impl<L: Steps<()>> Event<(), L> {
         ensures at_most { result ≤ count }
         ensures told { TellsEvent L.did L.holds L.lacks self.now.lock true count result }
     {
-        match self.notify(
-            rt,
-            Additional {
-                inner: Notify { count },
-            },
-        ) {
-            Ok(told) => told,
-            Err(_) => unreachable!(),
-        }
+        self.begin().notify_additional(rt, count)
     }
 
     /// As [`notify_additional`](Event::notify_additional), relaxed, which here is the same.

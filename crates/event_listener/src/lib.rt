@@ -16,11 +16,13 @@
 //! event that is made has a [`List`].
 #![tactic(auto)]
 
+mod begun;
 pub mod calls;
 mod counted;
 pub mod error;
 pub mod event;
 mod home;
+mod homes;
 pub mod id;
 mod integers;
 pub mod into_notification;

@@ -83,6 +83,7 @@ pub(crate) fn link_last<T: Drop, W: Drop>(
         after: None,
         state: State::Waiting(None),
     };
+    // Make the node before anything is linked: where memory is refused the chain is unchanged.
     let at = nodes.insert(node)?;
     set_after(nodes, ends, last, Some(at), true);
     ends.last = Some(at);
@@ -110,6 +111,7 @@ pub(crate) fn unlink<T: Drop, W: Drop>(
     ensures looks { nodes.new.looks ≤ nodes.old.looks + 3 }
 {
     let node = nodes.take(at);
+    // Two writes wherever the node stood: where it has no neighbour the end of the chain is written.
     set_after(nodes, ends, node.before, node.after, counted);
     set_before(nodes, ends, node.after, node.before, counted);
     node.state
@@ -188,6 +190,7 @@ pub(crate) fn move_run<T: Drop, W: Drop>(
         return;
     };
     let end = told.last;
+    // Nobody sees the chains between these writes: a list is reached by `&mut` alone, from behind its lock.
     set_before(nodes, waiting, next, None, true);
     waiting.first = next;
     set_after(nodes, told, end, Some(first), true);

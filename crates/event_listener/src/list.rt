@@ -139,6 +139,7 @@ impl<T: Drop, W: Drop> List<T, W> {
     {
         if told {
             let state = unlink(&mut self.nodes, &mut self.told, key.slot, counted);
+            // Keep the count in step with the chain: a notification that is not additional subtracts it from its number.
             self.told_count -= 1;
             state
         } else {
@@ -183,6 +184,7 @@ impl<T: Drop, W: Drop> List<T, W> {
         ensures used_up { self.old.serials ≡ 2 ^ 64 - 1 → result ≡ Err ListenError.SerialsUsedUp }
         ensures left { (key : Key) → HasLeft self.old key → HasLeft self.new key }
     {
+        // Refuse before a node is made. A serial that was given twice would let the key of a listener that has left name another one.
         if self.serials == u64::MAX {
             self.nodes.start();
             return Err(ListenError::SerialsUsedUp);
@@ -250,6 +252,7 @@ impl<T: Drop, W: Drop> List<T, W> {
         let mut next = self.waiting.first;
         for i in 0..many {
             let Some(at) = next else { unreachable!() };
+            // Ask for the tag before the node is changed. If it is refused, the listeners before this one stay told, and this one waits on.
             let Ok(tag) = notice.next_tag() else {
                 move_run(
                     &mut self.nodes,
@@ -262,10 +265,12 @@ impl<T: Drop, W: Drop> List<T, W> {
                 return Err(NotifyError { told: i });
             };
             let told = State::Told { additional, tag };
+            // Only the state changes here: one move after the loop takes all of them to the other chain with four links.
             let (was, after) = restate(&mut self.nodes, at, told, true);
             last = Some(at);
             next = after;
             if let Some(task) = task_of(was) {
+                // Wake at once: keeping the tasks for later would take memory, which a plain notification must not need.
                 sink.wake(task);
             }
         }

@@ -10,12 +10,14 @@ ghost use Rattle.event_listener.specs.Waits.{listener_of};
 
 use crate::error::ListenError;
 use crate::event::Event;
+use crate::homes::Begun;
 use crate::list::List;
 use crate::place::Place;
 use crate::steps::Steps;
 use crate::waking::{Task, WakerCell};
 use futures::future::Future;
 use futures::task::{Context, Poll, Waker};
+use std::alloc::Global;
 use std::error::Error;
 use std::fmt;
 use std::marker::Model;
@@ -201,13 +203,19 @@ impl<T: Drop, R: Wait + Copy, L: Steps<T>> Model for EventListener<T, R, L> {
 }
 
 impl<T: Drop, R: Wait + Copy, L: Steps<T>> EventListener<T, R, L> {
-    pub(crate) fn new(rt: R, event: &Event<T, L>, cell: Arc<WakerCell>) -> Result<Self, ListenError>
-        ensures event { IfOk result (λ listener. listener.event ≡ event.now.number) }
-        ensures list { IfOk result (λ listener. L.holds event.now.lock listener.list) }
+    pub(crate) fn new(
+        rt: R,
+        begun: Begun<'_, T, L>,
+        event: u64,
+        alloc: Global,
+        cell: Arc<WakerCell>,
+    ) -> Result<Self, ListenError>
+        ensures event { IfOk result (λ listener. listener.event ≡ event) }
+        ensures list { IfOk result (λ listener. L.holds begun.entry.homes.now.once.id listener.list) }
         ensures listens { IfOk result (Listened L.did) }
-        ensures refused { IfErr result (RefusesToListen L.did L.holds L.refused event.now.lock) }
+        ensures refused { IfErr result (RefusesToListen L.did L.holds L.refused begun.entry.homes.now.once.id) }
     {
-        match Place::open(&rt, event.homes(), event.number(), cell) {
+        match Place::open(&rt, begun, event, alloc, cell) {
             Ok(place) => Ok(EventListener { place, rt }),
             Err(error) => Err(error),
         }

@@ -51,6 +51,7 @@ pub(crate) struct Ends {
 #[derive(Drop)]
 pub(crate) struct Nodes<T, W> {
     last: u64,
+    // A `Slab` and no free list of our own: its contracts say exactly when memory is refused.
     slab: Slab<Node<T, W>>,
     looks: u64,
 }

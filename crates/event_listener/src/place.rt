@@ -12,7 +12,8 @@ ghost use Rattle.event_listener.specs.declared.key.Key.{Key};
 
 use crate::error::{ListenError, NoMemory};
 use crate::event::Event;
-use crate::home::{Home, Homes};
+use crate::home::Home;
+use crate::homes::Begun;
 use crate::listener::PollFault;
 use crate::parker::Parker;
 use crate::steps::Steps;
@@ -28,6 +29,7 @@ use std::time::{Clock, Duration, Instant};
 /// It is without the runtime, so its questions can't wait for anybody. It has no drop: who lets a listener go takes it off the list.
 pub(crate) struct Place<T, L> {
     home: Arc<Home<T, L>>,
+    // Kept here and not read in the list, which lies in a `OnceLock`: of what lies there a proof knows the type alone.
     pub(crate) event: u64,
     cell: Arc<WakerCell>,
     listed: Listed,
@@ -39,28 +41,29 @@ impl<T: Drop, L: Steps<T>> Place<T, L> {
     /// refused.
     pub(crate) fn open<R: Wait>(
         rt: &R,
-        homes: &Homes<T, L>,
+        begun: Begun<'_, T, L>,
         event: u64,
+        alloc: Global,
         cell: Arc<WakerCell>,
     ) -> Result<Place<T, L>, ListenError>
         ensures event { IfOk result (λ made. made.event ≡ event) }
-        ensures list { IfOk result (λ made. L.holds homes.now.once.id (seen made).list) }
+        ensures list { IfOk result (λ made. L.holds begun.entry.homes.now.once.id (seen made).list) }
         ensures listens { IfOk result (λ made. Listened L.did (seen made)) }
-        ensures refused { IfErr result (RefusesToListen L.did L.holds L.refused homes.now.once.id) }
+        ensures refused { IfErr result (RefusesToListen L.did L.holds L.refused begun.entry.homes.now.once.id) }
     {
-        let Ok(home) = homes.get_or_make(rt) else {
-            return Err(ListenError::NoMemory);
-        };
         let Ok(task) = L::share_again(&cell) else {
             return Err(ListenError::NoMemory);
         };
-        let listed = home.turn().listen(rt, task)?;
+        let Ok((home, turn)) = begun.open(rt) else {
+            return Err(ListenError::NoMemory);
+        };
+        let listed = turn.listen(rt, task)?;
         Ok(Place {
             home,
             event,
             cell,
             listed,
-            alloc: homes.alloc(),
+            alloc,
         })
     }
 

@@ -59,6 +59,7 @@ impl<T: Copy, W: Copy> Recording<T, W> {
         };
         match self.list.insert() {
             Ok(key) => {
+                // The serial of a new key is after all that were given, so no key comes back when the record is replayed.
                 self.calls.push_reserved(RecordedCall::Listened { key });
                 Ok(key)
             }

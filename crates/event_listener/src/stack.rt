@@ -68,11 +68,9 @@ impl<'ev, T: Drop, R: Wait + Copy, L: Steps<T>> StackSlot<'ev, T, R, L> {
                 Err(_) => return Err(ListenError::NoMemory),
             },
         };
-        match EventListener::new(self.rt, self.event, cell) {
-            Ok(inner) => Ok(StackListener {
-                event: self.event,
-                inner,
-            }),
+        let event = self.event;
+        match EventListener::new(self.rt, event.begin(), event.number(), event.alloc(), cell) {
+            Ok(inner) => Ok(StackListener { event, inner }),
             Err(error) => Err(error),
         }
     }

@@ -51,7 +51,8 @@ pub trait Steps<T>: Drop {
     /// Whether the thread slept on the parker of this name, without a limit or for so long at most.
     ghost slept: { ℕ → Option Span → Type 0 };
 
-    /// Whether memory was refused.
+    /// Whether memory was refused. It is a relation, which only `share` and `share_again` give, since no contract can say that an
+    /// allocator refused.
     ghost refused: { Type 0 };
 
     /// Memory for a value that is shared.
@@ -142,7 +143,8 @@ pub trait Steps<T>: Drop {
     fn total(&self, step: Step<'_>) -> usize
         ensures { did step.entry.seal.now.id (counts_all result) self.now self.now };
 
-    /// Sleeps on the parker that a listener registered with in this list, until it is rung.
+    /// Sleeps on the parker that a listener registered with in this list, until it is rung. Clauses that name two steps give them no order,
+    /// so the registration is a condition here, and this sleep is a condition of `look` and `leave`.
     fn sleep<R: Wait>(rt: &R, seal: &Source, key: Key, parker: &Parker)
         requires { OnSome did seal.now.id (parks key (parker_of parker.now) None) }
         ensures { slept (parker_of parker.now) None };
@@ -213,6 +215,7 @@ impl<T: Drop> Steps<T> for List<T, Task> {
     fn find<'a>(
         lock: &'a OnceLock<Arc<Home<T, Self>>>,
     ) -> Option<OnceToken<'a, Arc<Home<T, Self>>>> {
+        // The contract of `witness` says nothing of `None`, so no proof excludes a body that misses a list: only a test does.
         lock.witness()
     }
 

@@ -1,4 +1,4 @@
-//! The right to one section on the list of an event, and the listener's right to its place there.
+//! The rights to one section on the list of an event: a call's of the event, and a listener's, who has a place there.
 ghost use Rattle.std.specs.Prelude.{◌≡◌, ℕ, Some, None, Ok, Err, IfOk, IfErr, IfSome, IfNone, is_none, false, true};
 ghost use Rattle.std.specs.Arc.{arc_value};
 ghost use Rattle.futures.specs.Task.{IsArmed, Keeps};
@@ -19,9 +19,19 @@ use std::marker::PhantomData;
 use std::sync::{Arc, Wait};
 use std::time::Duration;
 
-/// The right to one section on a list, with one step in it. It has no drop, and each call uses it up and has nothing else of the list: so it is
-/// one section, and a body that makes two, or two steps in one, is no program.
+/// A listener's right to one section on its list, with one step in it. It has no drop, and each call uses it up and has nothing else of the list:
+/// so it is one section, and a body that makes two, or two steps in one, is no program.
+///
+/// Each step is one on a listener's own place. So who has this alone can't add a listener beside, and can't notify.
 pub(crate) struct Turn<'a, T, L> {
+    step: Step<'a>,
+    section: Section<'a, L>,
+    of: PhantomData<Locked<T>>,
+}
+
+/// The same right of a call of the event itself: a listener is added, a notice given, or a question asked. Only a call that has
+/// [begun](crate::homes::Begun) has one.
+pub(crate) struct EventTurn<'a, T, L> {
     step: Step<'a>,
     section: Section<'a, L>,
     of: PhantomData<Locked<T>>,
@@ -86,24 +96,6 @@ impl<'a, T, L: Steps<T>> Turn<'a, T, L> {
             step,
             section,
             of: PhantomData,
-        }
-    }
-
-    /// Adds a listener with the task of this cell.
-    #[inline(always)]
-    pub(crate) fn listen<R: Wait>(self, rt: &R, cell: Arc<WakerCell>) -> Result<Listed, ListenError>
-        ensures added { IfOk result (λ listed. (key : Key) × (listed.key ≡ Some key) × OnSome L.did self.entry.step.seal.now.id (listens (cell_of (arc_value cell)) (Ok key))) }
-        ensures refused { IfErr result (λ error. OnSome L.did self.entry.step.seal.now.id (listens (cell_of (arc_value cell)) (Err error))) }
-    {
-        let Turn {
-            step,
-            section,
-            of: _,
-        } = self;
-        let added = section.enter(rt).value().listen(step, cell);
-        match added {
-            Ok(key) => Ok(Listed { key: Some(key) }),
-            Err(error) => Err(error),
         }
     }
 
@@ -242,6 +234,38 @@ impl<'a, T, L: Steps<T>> Turn<'a, T, L> {
         let Listed { key: _ } = listed;
         section.enter(rt).value().remove(step, rt, key, pass_on)
     }
+}
+
+impl<'a, T, L: Steps<T>> EventTurn<'a, T, L> {
+    /// This step in this section.
+    #[inline(always)]
+    pub(crate) fn new(step: Step<'a>, section: Section<'a, L>) -> Self
+        ensures { result.step.seal.now.id ≡ step.entry.seal.now.id }
+    {
+        EventTurn {
+            step,
+            section,
+            of: PhantomData,
+        }
+    }
+
+    /// Adds a listener with the task of this cell.
+    #[inline(always)]
+    pub(crate) fn listen<R: Wait>(self, rt: &R, cell: Arc<WakerCell>) -> Result<Listed, ListenError>
+        ensures added { IfOk result (λ listed. (key : Key) × (listed.key ≡ Some key) × OnSome L.did self.entry.step.seal.now.id (listens (cell_of (arc_value cell)) (Ok key))) }
+        ensures refused { IfErr result (λ error. OnSome L.did self.entry.step.seal.now.id (listens (cell_of (arc_value cell)) (Err error))) }
+    {
+        let EventTurn {
+            step,
+            section,
+            of: _,
+        } = self;
+        let added = section.enter(rt).value().listen(step, cell);
+        match added {
+            Ok(key) => Ok(Listed { key: Some(key) }),
+            Err(error) => Err(error),
+        }
+    }
 
     /// Tells listeners.
     #[inline(always)]
@@ -253,7 +277,7 @@ impl<'a, T, L: Steps<T>> Turn<'a, T, L> {
         requires { N.can_give notice }
         ensures { TellsIn N.size N.gives notice result (λ tags. OnSome L.did self.entry.step.seal.now.id (notifies (N.additional notice) (N.size notice) tags result)) }
     {
-        let Turn {
+        let EventTurn {
             step,
             section,
             of: _,
@@ -266,7 +290,7 @@ impl<'a, T, L: Steps<T>> Turn<'a, T, L> {
     pub(crate) fn told<R: Wait>(self, rt: &R) -> usize
         ensures { OnSome L.did self.entry.step.seal.now.id (counts_told result) }
     {
-        let Turn {
+        let EventTurn {
             step,
             section,
             of: _,
@@ -279,7 +303,7 @@ impl<'a, T, L: Steps<T>> Turn<'a, T, L> {
     pub(crate) fn total<R: Wait>(self, rt: &R) -> usize
         ensures { OnSome L.did self.entry.step.seal.now.id (counts_all result) }
     {
-        let Turn {
+        let EventTurn {
             step,
             section,
             of: _,

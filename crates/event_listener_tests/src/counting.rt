@@ -1,4 +1,5 @@
-//! How many steps each call makes on the list of its event, by a list that counts them: one more, beside the right one, no contract sees.
+//! How many steps each call makes on the list of its event, by a list that counts them. A second plain notification beside the right one
+//! meets every contract; this test sees it.
 
 use crate::checks::expect_equal;
 use crate::event::{task, waker};

@@ -59,6 +59,7 @@ fn try_take<X, K, I: Keeps<X, K>>(
     // One atomic operation tests that the value is at home and says that it is taken: between a load and a store a second thread
     // could find it at home too. Where it fails it leaves the word as it is, so it doesn't hide that somebody sleeps.
     if locks.compare_exchange::<Takes<I>>(seat, STRIDE * which, FREE, TAKEN) == FREE {
+        // Only the thread that took the lock touches the slot until the word is 0 again, so the value is there.
         return locks.exchange(seat, which, None);
     }
     None

@@ -1,7 +1,7 @@
 //! What the cells of a call do, each step as its machine does it next.
 
 ghost use Rattle.std.specs.Prelude.{◌≡◌};
-ghost use Rattle.channel_history.specs.Machine.{side_of};
+ghost use Rattle.channel_history.specs.Machine.{counter_of, waiters_of};
 
 use crate::cells::CallCells;
 use crate::lists;
@@ -22,11 +22,24 @@ use std::{mem, thread};
 /// Which of the table's counts is that of these handles.
 #[inline(always)]
 pub(crate) fn counter_of(side: Side) -> Counter
-    ensures { side_of result ≡ side }
+    ensures { result ≡ counter_of side }
 {
     match side {
         Side::Senders => Counter::First,
         Side::Receivers => Counter::Second,
+    }
+}
+
+/// Which of the table's counts says whether somebody waits on this list.
+#[inline(always)]
+pub(crate) fn waiters_of(line: WaitList) -> Counter
+    ensures { result ≡ waiters_of line }
+{
+    match line {
+        WaitList::Sends => Counter::Third,
+        WaitList::Receives => Counter::Fourth,
+        WaitList::Streams => Counter::Fifth,
+        WaitList::Closings => Counter::Sixth,
     }
 }
 
@@ -64,13 +77,17 @@ impl<'a, T: Drop, W: Drop, R: Wait> ChannelCells<T, W> for CallCells<'a, T, W, R
 
     fn insert(&mut self, line: WaitList) -> Result<Key, ListenError> {
         let mut section = self.enter(line);
+        // Compare before and after: the step that lists the first waiting listener has to set the list's word, or `tell` would miss it.
+        let before = lists::nobody_waits(&section.list);
         let answer = lists::insert(&mut section.list);
-        self.queue
-            .seat
-            .turn_by::<Brand, (WaitList, Result<Key, ListenError>), Box<List<(), W>>>(
-                &(line, answer),
-                &section.list,
-            );
+        let after = lists::nobody_waits(&section.list);
+        self.happen::<Brand, (WaitList, Result<Key, ListenError>), Box<List<(), W>>>(
+            line,
+            before,
+            after,
+            &(line, answer),
+            &section.list,
+        );
         self.leave(line, section);
         answer
     }
@@ -88,31 +105,41 @@ impl<'a, T: Drop, W: Drop, R: Wait> ChannelCells<T, W> for CallCells<'a, T, W, R
 
     fn remove<S: Wakes<W>>(&mut self, line: WaitList, key: Key, sink: &mut S) {
         let mut section = self.enter(line);
+        // Where the last waiting listener leaves, the list's word is cleared, so that notifiers need not take the lock.
+        let before = lists::nobody_waits(&section.list);
         lists::remove(&mut section.list, key, sink);
-        self.queue
-            .seat
-            .turn_by::<Brand, (WaitList, Key), Box<List<(), W>>>(&(line, key), &section.list);
+        let after = lists::nobody_waits(&section.list);
+        self.happen::<Brand, (WaitList, Key), Box<List<(), W>>>(
+            line,
+            before,
+            after,
+            &(line, key),
+            &section.list,
+        );
         self.leave(line, section);
     }
 
+    // Where nobody waits, one load is the whole section: it would change nothing. Nobody is missed by that: whoever waits was put on the list
+    // in a section that raised its word, and tries the queue once more behind that.
     #[inline(always)]
     fn tell<S: Wakes<W>>(&mut self, line: WaitList, telling: Telling, sink: &mut S) {
-        let mut section = self.enter(line);
-        lists::tell(&mut section.list, telling, sink);
-        self.queue
+        let nobody = self
+            .queue
             .seat
-            .turn_by::<Brand, (WaitList, Telling), Box<List<(), W>>>(
-                &(line, telling),
-                &section.list,
-            );
-        self.leave(line, section);
+            .pass_count::<Brand, WaitList, Telling>(waiters_of(line), &line, &telling);
+        if nobody {
+            return;
+        }
+        self.tell_some(line, telling, sink);
     }
 
     fn count(&mut self, side: Side) -> usize {
+        // One load, which holds at that moment only: other handles come and go.
         self.queue.seat.count(counter_of(side)) as usize
     }
 
     fn lower(&mut self, side: Side) -> usize {
+        // Lower and read in one step: if two handles are dropped at once, only one of them finds that it was the last, and closes.
         self.queue.seat.lower_count(counter_of(side)) as usize
     }
 

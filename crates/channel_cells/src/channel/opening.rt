@@ -68,6 +68,8 @@ impl<T: Drop, W: Drop> ChannelTable<T, W> {
         let receives = new_list(alloc)?;
         let streams = new_list(alloc)?;
         let closings = new_list(alloc)?;
+        // The two counts of handles are words of this table, further apart than a cache line. The table doesn't promise where its words
+        // begin, so whether other words share their lines is not certain.
         let (table, first) = RuledTable::new(alloc, capacity, 1)?;
         let mut seat = table.go_on(first);
         let closings = part_list(&mut seat, closings, WaitList::Closings);

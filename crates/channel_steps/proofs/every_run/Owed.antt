@@ -1,5 +1,6 @@
 -- Who waits on a list, over one step of a run: one law, for whatever list, whatever is enough for those who wait on it, and whatever
--- the calls under way count for.
+-- the calls under way count for. On a list that is notified one at a time a call counts for each that it is to notify, or for one that it
+-- tries as. On a list that is notified at once, the call that is to notify it counts for one.
 use Rattle.std.proofs.Common.{◌≡◌, ℕ, ◌+◌, ◌≤◌, List, Option, None, ◌⊎◌, ⊎_elim, inl, inr, sym, subst}
 use Rattle.channel_steps.proofs.every_run.Words.{Phase, Key, Channel, Effect, Moves, ChannelAsk, Reply, WaitList, Stage, StageAt, MarkedMoment, Next, Begins, Configuration, Steps, Known, AllKnown, Entry, Step, total, AreOwed, PendingAreOwed, Waits, WaitApart, Any}
 use Rattle.channel_steps.specs.declared.run.Step.TheVariants as step

@@ -55,7 +55,7 @@ module _ {T W : Type 0} where
   Each P [] = Unit {0}
   Each P (u ∷ us) = P u × Each P us
 
-  -- this party has no call under way
+  -- this party has no call under way: each call that it begins from here on is a later one
   abbrev pub IsIdle : ℕ → Configuration T W → Type 0
   IsIdle p s = Each (λ u. u.party ≡ p → ⊥) s.under_way
 

@@ -1,5 +1,6 @@
 -- Which message a call under way has let in and is yet to put, and into which slot: what its next actions say. The actions are those
--- of the queue's form: those of one slot, of a ring, of blocks.
+-- of the queue's form: those of one slot, of a ring, of blocks. A message that is not in its slot is found by that slot and not by its
+-- value, since several messages may have the same value.
 use Rattle.std.specs.Prelude.{ℕ, ◌/◌, ◌%◌, Option, None, Some}
 use Rattle.concurrent_queue.specs.machine.RingWords.{index, ring_mark}
 use Rattle.concurrent_queue.specs.declared.bounded.RingAction.{RingAction}

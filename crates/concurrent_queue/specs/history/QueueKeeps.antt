@@ -156,14 +156,14 @@ module _ {T : Type 0} where
   pub queue_keeps : KeepsHistory {T = T} {A = Standing T} moves enters turns counts both left parts fresh 0 history
   queue_keeps = record {
     opens = λ form v has is. opens moves form fresh v is;
-    same = λ form views c n m p v w h at is. same moves form fresh views p v w c h at is;
-    arrives = λ form views c n m w h goes. comes form views c w h goes;
-    more = λ form views c d n m p v w o h at done made. more moves form fresh views p v w (does (Some o)) c d h at done made;
-    turned = λ form views c n m p v w h at made. more moves form fresh views p v w (begins made.0) c c h at refl made.1;
-    counts_on = λ form views c n m p v w which op h at never small. absurd never;
-    joined = λ form views c n m p q v w v' w' h at there two is stays.
+    same = λ form views c t p v w h at is. same moves form fresh views p v w c h at is;
+    arrives = λ form views c t w h goes. comes form views c w h goes;
+    more = λ form views c d t p v w o h at done made. more moves form fresh views p v w (does (Some o)) c d h at done made;
+    turned = λ form views c t p v w h at made. more moves form fresh views p v w (begins made.0) c c h at refl made.1;
+    counts_on = λ form views c t p v w which op h at never small. absurd never;
+    joined = λ form views c t p q v w v' w' h at there two is stays.
         same moves form fresh (set views p v') q w w' c (same moves form fresh views p v v' c h at is) (set_else views p q v' two ∙ there) stays;
-    parted = λ form views c n m p v v' w h at never. absurd never;
+    parted = λ form views c t p v v' w h at never. absurd never;
   }
 
   -- ---- a party whose call is under way makes what its call makes next, and goes on as that does

@@ -69,7 +69,7 @@ module _ {T : Type 0} where
   calls form s call = s.call ≡ Some call
 
   abbrev pub history : HistoryOf T (Standing T)
-  history form views c n m = IsHistory moves fresh form views c
+  history form views c t = IsHistory moves fresh form views c
 
   -- what the views say of each party: one that hasn't come yet has no call and no reply
   abbrev pub standing_in : home.Option (View T (Standing T)) → Standing T

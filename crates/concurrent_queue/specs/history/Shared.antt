@@ -1,4 +1,4 @@
--- The rule of a table that threads share: the words are a guard for each slot, then the queue's own words, a flag and two counts; and so
+-- The rule of a table that threads share: the words are a guard for each slot, then the queue's own words, a flag and six counts; and so
 -- long as no foreign call was admitted, the machine's history has made them and the slots what they are. And what each kind of step tells
 -- its seat.
 use Rattle.std.specs.Prelude.{◌≡◌, ◌≢◌, ℕ, zero, suc, ◌+◌, ◌-◌, ◌<◌, ◌≤◌, ◌==◌, nat_lt, true, false, List, [], ◌∷◌, ◌++◌, length, drop, Option, None, Some, Result, Ok, Err, slice_index, slice_index_or, slice_set, if◌then◌else◌, map}
@@ -19,11 +19,11 @@ use Rattle.concurrent_queue.specs.declared.cells.Word.TheVariants.{State, Head, 
 use Rattle.concurrent_queue.specs.declared.cells.Slot.{Slot}
 use Rattle.concurrent_queue.specs.declared.cells.Slot.TheVariants.{At, In}
 use Rattle.concurrent_queue.specs.declared.history.rule.Counter.{Counter}
-use Rattle.concurrent_queue.specs.declared.history.rule.Counter.TheVariants.{First, Second}
+use Rattle.concurrent_queue.specs.declared.history.rule.Counter.TheVariants.{First, Second, Third, Fourth, Fifth, Sixth}
 use Rattle.concurrent_queue.specs.declared.history.rule.CountStep.{CountStep}
-use Rattle.concurrent_queue.specs.declared.history.rule.CountStep.TheVariants.{Read, Lower, Raise}
+use Rattle.concurrent_queue.specs.declared.history.rule.CountStep.TheVariants.{Read, Lower, Raise, Set}
 use Rattle.concurrent_queue.specs.history.Joined.{AllStood, EachOnce, IsJoined}
-use Rattle.concurrent_queue.specs.history.Keeps.{HistoryOf}
+use Rattle.concurrent_queue.specs.history.Keeps.{HistoryOf, Tally}
 use Rattle.concurrent_queue.specs.declared.history.rule.View.{View}
 
 -- how many slots a queue has, how many stamps, and how many words of its own; only a ring has stamps
@@ -65,21 +65,38 @@ IsNoSlot form (In b i) = Unit {0}
 abbrev pub flag_at : QueueForm → ℕ
 flag_at form = slots_of form + 24
 
--- where the two words lie with which a machine counts; they are none of the queue's own either
-abbrev pub count_at : QueueForm → Counter → ℕ
-count_at form First = slots_of form + 9
-count_at form Second = slots_of form + 28
+-- where the words lie with which a machine counts; they are none of the queue's own either
+abbrev pub offset_of : Counter → ℕ
+offset_of First = 9
+offset_of Second = 28
+offset_of Third = 10
+offset_of Fourth = 11
+offset_of Fifth = 12
+offset_of Sixth = 13
 
--- the words of a table with so many slots, where both hold this
+abbrev pub count_at : QueueForm → Counter → ℕ
+count_at form which = slots_of form + offset_of which
+
+-- the words of a table with so many slots, where the first two counts hold this
 abbrev pub counts_set : ℕ → ℕ → List ℕ → List ℕ
 counts_set slots n words = slice_set (slice_set words (slots + 9) n) (slots + 28) n
 
 abbrev pub count_in : QueueForm → List ℕ → Counter → ℕ
 count_in form words which = slice_index words (count_at form which)
 
+abbrev pub tally_in : QueueForm → List ℕ → Tally
+tally_in form words = record {
+  first = count_in form words First;
+  second = count_in form words Second;
+  third = count_in form words Third;
+  fourth = count_in form words Fourth;
+  fifth = count_in form words Fifth;
+  sixth = count_in form words Sixth;
+}
+
 -- which of them lies there
 abbrev pub counter_at : ℕ → Counter
-counter_at n = if n == 9 then First else Second
+counter_at n = if n == 9 then First else (if n == 10 then Third else (if n == 11 then Fourth else (if n == 12 then Fifth else (if n == 13 then Sixth else Second))))
 
 -- what an exchange answers where this was found
 abbrev pub answer : ℕ → ℕ → Result ℕ ℕ
@@ -157,7 +174,7 @@ module _ {T A : Type 0} where
       pub count : length values ≡ slots_of form
       pub at_home : (i : ℕ) (x : Option T) → get_elem? s.homes i ≡ home.some (home.some x) → slice_index_or values i None ≡ x
       pub away : (j : ℕ) (v : View T A) (i : ℕ) (x : Option T) → get_elem? s.views j ≡ home.some v → v.held ≡ Some (i, x) → slice_index_or values i None ≡ x
-      pub history : is_history form s.views (contents form s.words values) (count_in form s.words First) (count_in form s.words Second)
+      pub history : is_history form s.views (contents form s.words values) (tally_in form s.words)
 
     -- THE RULE: a slot is out exactly where its guard is won, by the one seat whose view says so; and there is the history, while no foreign
     -- call was admitted if any may be
@@ -173,7 +190,7 @@ module _ {T A : Type 0} where
     -- that was joined in
     abbrev pub Shown : View T A → Type 0
     Shown v =
-        (views : List (View T A)) × (c : Contents T) × (n : ℕ) × (m : ℕ) × is_history v.form views c n m × (get_elem? views v.who ≡ home.some v) × HasCells v.form
+        (views : List (View T A)) × (c : Contents T) × (t : Tally) × is_history v.form views c t × (get_elem? views v.who ≡ home.some v) × HasCells v.form
         × AllStood views v.over × EachOnce ((v.who, v.state) ∷ v.over)
 
     -- where the word that was found is 0, or no foreign call may be admitted
@@ -268,6 +285,14 @@ module _ {T A : Type 0} where
 
     abbrev pub count_raises : Step (Option T) → Seated T A → ℕ → Seated T A → Type 0
     count_raises st m found m' = Counted (Raise st.first) st m found m'
+
+  -- a count is set, and the party goes on as a relation says
+  abbrev pub count_sets : (A → A → Type 0) → Step (Option T) → Seated T A → ℕ → Seated T A → Type 0
+  count_sets to st m found m' = led_by to st m found m'
+
+  -- where it is 0 the party goes on as a relation says; where it isn't nothing was done
+  abbrev pub count_passes : (A → A → Type 0) → Step (Option T) → Seated T A → ℕ → Seated T A → Type 0
+  count_passes to st m found m' = (found ≡ 0 → led_by to st m found m') × (found ≢ 0 → m' ≡ m)
 
   -- the seat knows its number
   abbrev pub named_so : View T A → ℕ → View T A

@@ -1,6 +1,10 @@
 //! The steps of a push and of a pop of a ring made on end, each of them atomic; what is saved is the choice of the next action
 //! at each of them. Over cells of any kind they are proved to be steps of the machine, to the answer or to the action that is
 //! handed on, and it is proved which answers they may give.
+//!
+//! `push_fast` makes `Push`, `PushStamp`, `PushSwap`, `PushPut` and `PushStore`, or `PushHead` for a full ring; `pop_fast` makes `Pop`,
+//! `PopStamp`, `PopSwap`, `PopTake` and `PopStore`, or `PopTail` for an empty one: `bounded` gives the reason for each operation at that
+//! step. A step that does not lead on is left to the machine.
 
 ghost use Rattle.std.specs.Prelude.{ℕ, true, MatchResult};
 ghost use Rattle.concurrent_queue.specs.machine.FastPath.{PushesOnEnd, PopsOnEnd};

@@ -1,12 +1,18 @@
-//! Operations on the two words with which a machine counts, as the handles of a channel. Each is asked to be the next step of its party's
+//! Operations on the words with which a machine counts, as the handles of a channel or those who wait on a list. Each is asked to be the next step of its party's
 //! machine. None waits.
 
-ghost use Rattle.std.specs.Prelude.{◌≡◌, ℕ, ◌+◌, ◌-◌, ◌<◌, ◌^◌};
+ghost use Rattle.std.specs.Prelude.{◌≡◌, ℕ, ◌+◌, ◌-◌, ◌<◌, ◌^◌, MatchBool};
 ghost use Rattle.concurrent_queue.specs.history.Shared.{slots_of, words_of, count_at};
-ghost use Rattle.concurrent_queue.specs.declared.history.rule.CountStep.TheVariants.{Read, Lower, Raise};
+ghost use Rattle.concurrent_queue.specs.declared.history.rule.CountStep.TheVariants.{Read, Lower, Raise, Set};
 
-use crate::history::rule::{CountLowers, CountRaises, CountReads, Counter, Machine};
-use crate::history::table::{CallSeat, FIRST_COUNT, KitTable, SECOND_COUNT};
+use crate::history::led::LeadsTo;
+use crate::history::rule::{
+    CountLowers, CountPasses, CountRaises, CountReads, CountSets, Counter, Machine,
+};
+use crate::history::table::{
+    CallSeat, FIFTH_COUNT, FIRST_COUNT, FOURTH_COUNT, KitTable, SECOND_COUNT, SIXTH_COUNT,
+    THIRD_COUNT,
+};
 
 /// Where a counting word lies.
 #[inline(always)]
@@ -19,6 +25,10 @@ fn count_index<T, A, P: Machine<T, A>>(table: &KitTable<T, A, P>, which: Counter
     match which {
         Counter::First => table.slot_count() + FIRST_COUNT,
         Counter::Second => table.slot_count() + SECOND_COUNT,
+        Counter::Third => table.slot_count() + THIRD_COUNT,
+        Counter::Fourth => table.slot_count() + FOURTH_COUNT,
+        Counter::Fifth => table.slot_count() + FIFTH_COUNT,
+        Counter::Sixth => table.slot_count() + SIXTH_COUNT,
     }
 }
 
@@ -63,5 +73,39 @@ impl<'a, T, A, P: Machine<T, A>> CallSeat<'a, T, A, P> {
         self.table
             .shared
             .compare_exchange::<CountRaises<P>>(&mut self.seat, at, from, from + 1)
+    }
+
+    /// Sets the word to `value`. Where this leads the party, the proof of the caller says by a relation, who says what it is about.
+    #[inline(always)]
+    pub fn set_count<E: LeadsTo<A>, X, Y>(
+        &mut self,
+        which: Counter,
+        value: u64,
+        _about: &X,
+        _and: &Y,
+    )
+        requires next { (a : A) × ((n : ℕ) → P.counts self.old.seat.me.0.form self.old.seat.me.0.state a which (Set value) n) × E.to self.old.seat.me.0.state a }
+        ensures made { E.to self.old.seat.me.0.state self.new.seat.me.0.state }
+        ensures same { (self.new.seat.table_id ≡ self.old.seat.table_id) × (self.new.seat.me.0.who ≡ self.old.seat.me.0.who) × (self.new.seat.me.0.form ≡ self.old.seat.me.0.form) × (self.new.seat.me.0.over ≡ self.old.seat.me.0.over) }
+    {
+        let at = count_index(self.table, which);
+        // One store with what the party does: who reads the word sees both or neither.
+        self.table
+            .shared
+            .store::<CountSets<E>>(&mut self.seat, at, value);
+    }
+
+    /// True: the word held 0, and at that moment the party went where the relation leads that the proof of the caller says. False: it held
+    /// another number, and nothing was done.
+    #[inline(always)]
+    pub fn pass_count<E: LeadsTo<A>, X, Y>(&mut self, which: Counter, _about: &X, _and: &Y) -> bool
+        requires next { (a : A) × P.counts self.old.seat.me.0.form self.old.seat.me.0.state a which Read 0 × E.to self.old.seat.me.0.state a }
+        ensures made { MatchBool result (E.to self.old.seat.me.0.state self.new.seat.me.0.state) (self.new.seat.me ≡ self.old.seat.me) }
+        ensures same { (self.new.seat.table_id ≡ self.old.seat.table_id) × (self.new.seat.me.0.who ≡ self.old.seat.me.0.who) × (self.new.seat.me.0.form ≡ self.old.seat.me.0.form) × (self.new.seat.me.0.over ≡ self.old.seat.me.0.over) }
+    {
+        let at = count_index(self.table, which);
+        // One load, which is the whole step where it finds 0.
+        let found = self.table.shared.load::<CountPasses<E>>(&mut self.seat, at);
+        found == 0
     }
 }

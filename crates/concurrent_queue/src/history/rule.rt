@@ -2,6 +2,7 @@
 //! kinds of steps that keep the rule. All but `Counter` is for the proofs alone: no value of these types is made.
 
 use crate::QueueForm;
+use crate::history::led::LeadsTo;
 use atomic_table::{Join, Play, Split, TableRule};
 use std::collections::LinkedList;
 use std::marker::{Brand, PhantomData};
@@ -26,13 +27,21 @@ pub struct View<T, A> {
     pub spent: bool,
 }
 
-/// One of the two words of a table with which a machine counts.
+/// One of the words of a table with which a machine counts.
 #[derive(Clone, Copy)]
 pub enum Counter {
-    /// The first.
+    /// The first, which begins at the machine's number.
     First,
-    /// The second.
+    /// The second, which begins there too.
     Second,
+    /// The third, which begins at 0, as the others do.
+    Third,
+    /// The fourth.
+    Fourth,
+    /// The fifth.
+    Fifth,
+    /// The sixth.
+    Sixth,
 }
 
 /// An operation on such a word.
@@ -43,6 +52,8 @@ pub enum CountStep {
     Lower,
     /// It is made one more, where it is this number.
     Raise(u64),
+    /// It is set to this number.
+    Set(u64),
 }
 
 /// The machine of every party: which steps lead it from which state to which, and the history that these steps keep.
@@ -50,7 +61,7 @@ pub trait Machine<T, A> {
     ghost use Rattle.std.specs.Prelude.{ℕ, List};
     ghost use Rattle.concurrent_queue.specs.Bridge.{Event};
     ghost use Rattle.concurrent_queue.specs.Contents.{Contents};
-    ghost use Rattle.concurrent_queue.specs.history.Keeps.{KeepsHistory};
+    ghost use Rattle.concurrent_queue.specs.history.Keeps.{KeepsHistory, Tally};
     ghost use Rattle.concurrent_queue.specs.declared.cells.QueueForm.{QueueForm};
     ghost use Rattle.concurrent_queue.specs.declared.history.rule.View.{View};
     ghost use Rattle.concurrent_queue.specs.declared.history.rule.Counter.{Counter};
@@ -62,7 +73,7 @@ pub trait Machine<T, A> {
     /// The state of a table's first party.
     ghost opened: { A };
 
-    /// What both counting words hold at first.
+    /// What the first two counting words hold at first; the others hold 0.
     ghost counted: { ℕ };
 
     /// On a queue of this form, this event leads a party from the one state to the other.
@@ -94,7 +105,7 @@ pub trait Machine<T, A> {
 
     /// There is a history in which the parties of these views stand where these say, and which has made of a new queue's cells these cells,
     /// and of its counts these numbers.
-    ghost history: { QueueForm → List (View T A) → Contents T → ℕ → ℕ → Type 0 };
+    ghost history: { QueueForm → List (View T A) → Contents T → Tally → Type 0 };
 
     /// Each kind of step keeps it.
     ghost keeps: { KeepsHistory moves enters turns counts both left parts opened counted history };
@@ -308,6 +319,28 @@ impl<T, A, P: Machine<T, A>> Play<Option<T>, View<T, A>> for CountRaises<P> {
     ghost use Rattle.concurrent_queue.specs.history.Shared.{count_raises};
 
     ghost then = { count_raises P.counts };
+}
+
+/// A counting word is set, in a step that leads the party as a relation says that the proof of the call picks.
+pub struct CountSets<E> {
+    of: PhantomData<E>,
+}
+
+impl<T, A, E: LeadsTo<A>> Play<Option<T>, View<T, A>> for CountSets<E> {
+    ghost use Rattle.concurrent_queue.specs.history.Shared.{count_sets};
+
+    ghost then = { count_sets E.to };
+}
+
+/// A counting word is read; where it is 0 the step leads the party so, and elsewhere nowhere.
+pub struct CountPasses<E> {
+    of: PhantomData<E>,
+}
+
+impl<T, A, E: LeadsTo<A>> Play<Option<T>, View<T, A>> for CountPasses<E> {
+    ghost use Rattle.concurrent_queue.specs.history.Shared.{count_passes};
+
+    ghost then = { count_passes E.to };
 }
 
 /// A seat is told its number.

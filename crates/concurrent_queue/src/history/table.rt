@@ -37,11 +37,19 @@ const TAIL_BLOCK: usize = 17;
 
 const STAMPS: usize = 32;
 
-/// Where the word lies that is 0 until a foreign call is admitted, on a cache line of its own. It is no word of the queue.
+/// Where the word lies that is 0 until a foreign call is admitted, apart from the queue's own words. It is no word of the queue.
 const FLAG: usize = 24;
 
-/// Where the two words lie with which the machine counts. They are no words of the queue either.
+/// Where the words lie with which the machine counts, the second apart from the others. They are no words of the queue either.
 pub(crate) const FIRST_COUNT: usize = 9;
+
+pub(crate) const THIRD_COUNT: usize = 10;
+
+pub(crate) const FOURTH_COUNT: usize = 11;
+
+pub(crate) const FIFTH_COUNT: usize = 12;
+
+pub(crate) const SIXTH_COUNT: usize = 13;
 
 pub(crate) const SECOND_COUNT: usize = 28;
 

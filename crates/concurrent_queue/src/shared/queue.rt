@@ -204,6 +204,7 @@ impl<T: Drop, W: Copy> ConcurrentQueue<T, W> {
         ensures deed { CallMakes S.did (form_in self.now) trace call.old (result.1) call.new (result.0) }
         ensures answers { IsSharedStep self.now call.old call.new (result.0) }
     {
+        // This question touches no cell, so it needs no seat: making one would be a load.
         if call.asks_capacity() {
             return (call.step_capacity(self.form, &trace), trace);
         }

@@ -1,4 +1,7 @@
 //! The steps of a push and of a pop of one slot made on end, as `bounded::fast_path` makes them of a ring.
+//!
+//! `push_fast` makes `Push`, `PushPut` and `PushUnlock`, `pop_fast` makes `Pop`, `PopTake` and `PopUnlock`: `single` gives the reason for
+//! each operation at that step. A step that does not lead on is left to the machine.
 
 ghost use Rattle.std.specs.Prelude.{true, MatchResult};
 ghost use Rattle.concurrent_queue.specs.machine.FastPath.{PushesOnEnd, PopsOnEnd};

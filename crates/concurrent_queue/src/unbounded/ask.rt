@@ -23,6 +23,7 @@ pub(crate) fn close_load<T: Drop, C: Cells<T>>(cells: &mut C) -> Progress<T>
     ensures ends { EndFollows UnboundedAction.Close result }
     ensures deed { ProgressMakes C.did cells.old UnboundedAction.Close cells.new result }
 {
+    // An `or`, as in a ring: pops still need the position, pushes expect a tail without the mark, and only one close finds the mark clear.
     let tail = cells.fetch_or(Word::Tail, 1);
     if tail % 2 == 1 {
         tell(QueueReply::Close(false))
@@ -40,6 +41,7 @@ pub(crate) fn ask_closed<T: Drop, C: Cells<T>>(cells: &mut C) -> Progress<T>
     ensures ends { EndFollows UnboundedAction.AskClosed result }
     ensures deed { ProgressMakes C.did cells.old UnboundedAction.AskClosed cells.new result }
 {
+    // One load decides: the mark is in the tail, and no step clears it.
     let tail = cells.load(Word::Tail);
     tell(QueueReply::Flag(tail % 2 == 1))
 }
@@ -49,6 +51,7 @@ pub(crate) fn ask_empty<T: Drop, C: Cells<T>>(cells: &mut C) -> Progress<T>
     ensures ends { EndFollows UnboundedAction.AskEmpty result }
     ensures deed { ProgressMakes C.did cells.old UnboundedAction.AskEmpty cells.new result }
 {
+    // Load the head before the tail: `empty_tail` says why.
     let head = cells.load(Word::Head);
     stay(UnboundedAction::EmptyTail(head))
 }
@@ -58,6 +61,8 @@ pub(crate) fn empty_tail<T: Drop, C: Cells<T>>(head: u64, cells: &mut C) -> Prog
     ensures ends { EndFollows (UnboundedAction.EmptyTail head) result }
     ensures deed { ProgressMakes C.did cells.old (UnboundedAction.EmptyTail head) cells.new result }
 {
+    // Load the tail after the head: if they are equal, the queue is empty at this load. In the other order a push and a pop in between
+    // could make them equal.
     let tail = cells.load(Word::Tail);
     tell(QueueReply::Flag(number_of(tail / 2) == number_of(head)))
 }
@@ -67,6 +72,7 @@ pub(crate) fn ask_len<T: Drop, C: Cells<T>>(cells: &mut C) -> Progress<T>
     ensures ends { EndFollows UnboundedAction.AskLen result }
     ensures deed { ProgressMakes C.did cells.old UnboundedAction.AskLen cells.new result }
 {
+    // The first of two loads of the tail, with the head in between.
     let tail = cells.load(Word::Tail);
     stay(UnboundedAction::LenHead(tail))
 }
@@ -76,6 +82,7 @@ pub(crate) fn len_head<T: Drop, C: Cells<T>>(tail: u64, cells: &mut C) -> Progre
     ensures ends { EndFollows (UnboundedAction.LenHead tail) result }
     ensures deed { ProgressMakes C.did cells.old (UnboundedAction.LenHead tail) cells.new result }
 {
+    // Load the head between two loads of the tail, which have to agree.
     let head = cells.load(Word::Head);
     stay(UnboundedAction::LenTail(tail, head))
 }
@@ -85,6 +92,7 @@ pub(crate) fn len_tail<T: Drop, C: Cells<T>>(tail: u64, head: u64, cells: &mut C
     ensures ends { EndFollows (UnboundedAction.LenTail tail head) result }
     ensures deed { ProgressMakes C.did cells.old (UnboundedAction.LenTail tail head) cells.new result }
 {
+    // Positions never repeat, so an equal word means that the tail stood still: when the head was loaded, the queue held this many.
     if cells.load(Word::Tail) == tail {
         tell(QueueReply::Count(number_of(tail / 2).saturating_sub(number_of(head)) as usize))
     } else {

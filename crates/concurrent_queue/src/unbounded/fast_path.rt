@@ -1,4 +1,9 @@
 //! The steps of a push and of a pop of an unbounded queue made on end, as `bounded::fast_path` makes them of a ring.
+//!
+//! `push_fast` makes `Push`, `PushLook`, `PushSwap`, `PushPut` and `PushStore`, and at the last slot of a block also `PushMore`,
+//! `PushTurn`, `PushAdd` and `PushLink`. `pop_fast` makes `Pop`, `PopLook`, `PopTail`, `PopSwap`, `PopWait`, `PopTake`, `PopCount` and
+//! `PopRetire`, and at the last slot also `PopNext`, `PopBlock` and `PopHead`. `push.rt` and `pop.rt` give the reason for each operation
+//! at that step. A step that does not lead on is left to the machine.
 
 ghost use Rattle.std.specs.Prelude.{◌≡◌, ◌/◌, ◌%◌, ◌==◌, if◌then◌else◌, false, true, None, MatchResult};
 ghost use Rattle.concurrent_queue.specs.machine.FastPath.{PushesOnEnd, PopsOnEnd, plainly};

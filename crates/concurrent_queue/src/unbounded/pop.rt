@@ -24,8 +24,10 @@ pub(crate) fn pop_load<T: Drop, C: Cells<T>>(cells: &mut C) -> Progress<T>
     ensures ends { EndFollows UnboundedAction.Pop result }
     ensures deed { ProgressMakes C.did cells.old UnboundedAction.Pop cells.new result }
 {
+    // Load the head first: the next steps load the block of this position, compare the tail with it and exchange this word.
     let head = cells.load(Word::Head);
     if head % 32 == 31 {
+        // Between two blocks: only the call that won the last message moves the head on from here.
         stay(UnboundedAction::Pop)
     } else {
         stay(UnboundedAction::PopLook(head))
@@ -37,6 +39,8 @@ pub(crate) fn pop_look<T: Drop, C: Cells<T>>(head: u64, cells: &mut C) -> Progre
     ensures ends { EndFollows (UnboundedAction.PopLook head) result }
     ensures deed { ProgressMakes C.did cells.old (UnboundedAction.PopLook head) cells.new result }
 {
+    // Load the block after the head. It is stored before the head moves into it, so it is the block of this position unless the head
+    // has moved since, and then `pop_swap` fails.
     let block = cells.load(Word::HeadBlock);
     stay(UnboundedAction::PopTail(head, block))
 }
@@ -46,6 +50,8 @@ pub(crate) fn pop_tail<T: Drop, C: Cells<T>>(head: u64, block: u64, cells: &mut 
     ensures ends { EndFollows (UnboundedAction.PopTail head block) result }
     ensures deed { ProgressMakes C.did cells.old (UnboundedAction.PopTail head block) cells.new result }
 {
+    // Load the tail after the head, as in a ring: in the other order a push and a pop in between could make them equal while there was
+    // a message all the time.
     let tail = cells.load(Word::Tail);
     if number_of(tail / 2) == number_of(head) {
         if tail % 2 == 1 {
@@ -54,6 +60,7 @@ pub(crate) fn pop_tail<T: Drop, C: Cells<T>>(head: u64, block: u64, cells: &mut 
             finish(Ending::Replied(QueueReply::Pop(Err(PopError::Empty))))
         }
     } else if block == 0 {
+        // The push that stored the first block at the tail has not stored it at the head yet.
         stay(UnboundedAction::Pop)
     } else {
         stay(UnboundedAction::PopSwap(head, block - 1))
@@ -65,6 +72,7 @@ pub(crate) fn pop_swap<T: Drop, C: Cells<T>>(head: u64, block: u64, cells: &mut 
     ensures ends { EndFollows (UnboundedAction.PopSwap head block) result }
     ensures deed { ProgressMakes C.did cells.old (UnboundedAction.PopSwap head block) cells.new result }
 {
+    // Commit. An exchange, since another pop may have won this message.
     match cells.compare_exchange(Word::Head, head, head.wrapping_add(1)) {
         Ok(_) => {
             if head % 32 == 30 {
@@ -82,6 +90,7 @@ pub(crate) fn pop_next<T: Drop, C: Cells<T>>(head: u64, block: u64, cells: &mut 
     ensures ends { EndFollows (UnboundedAction.PopNext head block) result }
     ensures deed { ProgressMakes C.did cells.old (UnboundedAction.PopNext head block) cells.new result }
 {
+    // The push into the last slot links the next block after it has moved the tail. Only this pop waits for the link.
     let next = cells.load(Word::Next(block));
     if next == 0 {
         stay(UnboundedAction::PopNext(head, block))
@@ -100,6 +109,7 @@ pub(crate) fn pop_block<T: Drop, C: Cells<T>>(
     ensures ends { EndFollows (UnboundedAction.PopBlock head block next) result }
     ensures deed { ProgressMakes C.did cells.old (UnboundedAction.PopBlock head block next) cells.new result }
 {
+    // Before the head moves into the next block: a pop that loads a position there has to find that block.
     cells.store(Word::HeadBlock, next);
     stay(UnboundedAction::PopHead(head, block))
 }
@@ -109,6 +119,7 @@ pub(crate) fn pop_head<T: Drop, C: Cells<T>>(head: u64, block: u64, cells: &mut 
     ensures ends { EndFollows (UnboundedAction.PopHead head block) result }
     ensures deed { ProgressMakes C.did cells.old (UnboundedAction.PopHead head block) cells.new result }
 {
+    // A store suffices: nobody else moves the head from between two blocks, and the head has no mark to lose.
     cells.store(Word::Head, head.wrapping_add(2));
     stay(UnboundedAction::PopWait(head, block))
 }
@@ -118,6 +129,7 @@ pub(crate) fn pop_wait<T: Drop, C: Cells<T>>(head: u64, block: u64, cells: &mut 
     ensures ends { EndFollows (UnboundedAction.PopWait head block) result }
     ensures deed { ProgressMakes C.did cells.old (UnboundedAction.PopWait head block) cells.new result }
 {
+    // The push of this position may not have put its message yet. The message is already this call's, so it can only wait.
     if cells.load(Word::Written(block, head % 32)) == 1 {
         stay(UnboundedAction::PopTake(head, block))
     } else {
@@ -130,6 +142,7 @@ pub(crate) fn pop_take<T: Drop, C: Cells<T>>(head: u64, block: u64, cells: &mut 
     ensures ends { EndFollows (UnboundedAction.PopTake head block) result }
     ensures deed { ProgressMakes C.did cells.old (UnboundedAction.PopTake head block) cells.new result }
 {
+    // Take before the read is counted: once all reads of a block are counted, the block is used again.
     match cells.take(Slot::In(block, head % 32)) {
         Some(value) => stay(UnboundedAction::PopCount(head, block, value)),
         None => stay(UnboundedAction::PopTake(head, block)),
@@ -146,6 +159,7 @@ pub(crate) fn pop_count<T: Drop, C: Cells<T>>(
     ensures ends { EndFollows (UnboundedAction.PopCount head block value) result }
     ensures deed { ProgressMakes C.did cells.old (UnboundedAction.PopCount head block value) cells.new result }
 {
+    // One step adds and returns the old number: of the 31 pops of a block only one finds 30, and it alone gives the block back.
     if cells.fetch_add(Word::Reads(block), 1) == 30 {
         stay(UnboundedAction::PopRetire(head, block, value))
     } else {
@@ -158,6 +172,7 @@ pub(crate) fn pop_retire<T: Drop, C: Cells<T>>(block: u64, value: T, cells: &mut
     ensures ends { (h : ℕ) → EndFollows (UnboundedAction.PopRetire h block value) result }
     ensures deed { (h : ℕ) → ProgressMakes C.did cells.old (UnboundedAction.PopRetire h block value) cells.new result }
 {
+    // Used again and not freed: no word, however old, leads a call to memory that is gone.
     cells.retire(block);
     finish(Ending::Replied(QueueReply::Pop(Ok(value))))
 }

@@ -4,7 +4,9 @@ use Rattle.channel_cells.proofs.channel.ChannelTable.look.Goals as goal
 pub returns-clause-told : goal.returns-clause-told
 returns-clause-told g c =
     let v = c.args.seat.now.seat.me.0 in
-    let (views, cells, senders, receivers, history, here, has, stood, once) = c.look.ensures.history (λ never. absurd never) in
+    let (views, cells, tally, (history, flagged), here, has, stood, once) = c.look.ensures.history (λ never. absurd never) in
+    let senders = tally.first in
+    let receivers = tally.second in
     let all = states views in
     record {
       views = views;

@@ -1,6 +1,7 @@
 use Rattle.channel_calls.specs.Deeds.{inserted}
 use Rattle.channel_history.specs.CallSections.{SectionTo}
 use Rattle.channel_cells.proofs.cells.steps.CallCellsChannelCells.insert.Given as goal
+use Rattle.channel_cells.specs.Cells.{form_in}
 
-abbrev pub ghosts-turn_by : goal.ghosts-turn_by
-ghosts-turn_by g a = record { to = λ u v. SectionTo a.self.now.seat.me.0.form a._about.now.0 (inserted a._about.now.0 a._about.now.1) a._and.now.value.lists u v }
+abbrev pub ghosts-happen : goal.ghosts-happen
+ghosts-happen g a = record { to = λ u v. SectionTo (form_in a.self.now) a.about.now.0 (inserted a.about.now.0 a.about.now.1) a.and.now.value.lists u v }

@@ -8,7 +8,7 @@ use Rattle.channel_history.proofs.ListTurns.{register_changes}
 use Rattle.channel_history.specs.CallSections.{HoldsList}
 use Rattle.channel_history.specs.Cells.{May, Did}
 use Rattle.channel_history.specs.declared.party.Standing.{Standing}
-use Rattle.channel_cells.proofs.Sections.{goes_on, was_done, registers_so, registers_once, registered_by, registers_to}
+use Rattle.channel_cells.proofs.Sections.{goes_on, turns_so, registration_leaves_none, was_done, registers_so, registers_once, registered_by, registers_to}
 use Rattle.channel_cells.proofs.cells.steps.CallCellsChannelCells.register.Goals as goal
 use Rattle.channel_cells.specs.Cells.{view_of, form_in, IsSameParty}
 
@@ -28,7 +28,7 @@ turn_by-requires g c =
     let after = registration c.args.key c.args.task list in
     let may = subst (λ (f : QueueForm). May f d s) (sym enter.ensures.same.0) (c.requires.may o.0) in
     let goes = goes_on at c.args.line d s u list after may enter.ensures.inside refl (register_changes c.args.line list after c.args.key c.args.task o.0 o.1 refl) in
-    record { next = (goes.0, goes.1, registered_by at c.args.line s u list none enter.ensures.inside c.args.key c.args.task o.0 goes.0 o.1 goes.2) }
+    record { next = (goes.0, turns_so at c.args.line u goes.0 list after (registration_leaves_none c.args.key c.args.task list) goes.1, registered_by at c.args.line s u list none enter.ensures.inside c.args.key c.args.task o.0 goes.0 o.1 goes.2) }
 
 pub leave-requires : goal.leave-requires
 leave-requires g c =

@@ -1,52 +1,26 @@
-use Rattle.std.proofs.Common.{◌∙◌, [], refl, sym, subst}
-use Rattle.concurrent_queue.specs.declared.cells.QueueForm.{QueueForm}
-use Rattle.channel_history.proofs.ListTurns.{notify_changes}
-use Rattle.channel_calls.specs.Deeds.{Deed, told}
-use Rattle.channel_calls.specs.Parts.{Listeners, told_as_wakes}
-use Rattle.channel_history.specs.Cells.{May, Did}
+use Rattle.std.proofs.Common.{[], refl, sym, subst}
+use Rattle.concurrent_queue.specs.declared.history.rule.Counter.{Counter}
+use Rattle.concurrent_queue.specs.declared.history.rule.CountStep.TheVariants.{Read}
+use Rattle.channel_history.proofs.CallSections.{finds_nobody}
+use Rattle.channel_history.proofs.CellActs.{sections_act}
+use Rattle.concurrent_queue.specs.history.Shared.{Seated}
+use Rattle.channel_calls.specs.Deeds.{told}
+use Rattle.channel_history.specs.Cells.{May}
+use Rattle.channel_history.specs.Machine.{counts}
 use Rattle.channel_history.specs.declared.party.Standing.{Standing}
-use Rattle.channel_cells.proofs.Sections.{goes_on, was_done, answered_by, answers_to}
+use Rattle.channel_cells.proofs.Counting.{passes_by}
 use Rattle.channel_cells.proofs.cells.steps.CallCellsChannelCells.tell.Goals as goal
-use Rattle.channel_cells.specs.Cells.{view_of, form_in, IsSameParty}
+use Rattle.channel_cells.specs.Cells.{view_of, form_in}
 
-pub enter-section-requires : goal.enter-section-requires
-enter-section-requires g c = record { free = (c.requires.may []).2.2.0 }
+pub pass_count-nobody-requires : goal.pass_count-nobody-requires
+pass_count-nobody-requires g c =
+    let form = form_in c.args.self.now in
+    let s = view_of c.args.self.now in
+    let goes = finds_nobody (sections_act g.row.T.Denot g.row.W.Denot) form c.args.line c.args.telling s (c.requires.may []) in
+    record { next = (goes.0, subst (λ (w : Counter). counts form s goes.0 w Read 0) (sym c.waiters_of.ensures) (passes_by form s goes.0 c.args.line goes.1), goes.2) }
 
-pub turn_by-requires : goal.turn_by-requires
-turn_by-requires g c =
-    let enter = c.enter-section in
-    let list = enter.result.list.value.lists in
-    let after = c.tell.new.list.value.lists in
-    let deed : Listeners g.row.W.Denot → Deed g.row.T.Denot g.row.W.Denot = λ l. told c.args.line c.args.telling (told_as_wakes c.args.telling l) in
-    let may = subst (λ (f : QueueForm). May f (deed list) (view_of c.args.self.now)) (sym enter.ensures.same.0) (c.requires.may (told_as_wakes c.args.telling list)) in
-    let goes = goes_on (form_in enter.new.self) c.args.line (deed list) (view_of c.args.self.now) (view_of enter.new.self) list after may enter.ensures.inside refl (notify_changes c.args.line list after c.args.telling c.tell.ensures.lists) in
-    record { next = (goes.0, goes.1, answered_by (form_in enter.new.self) c.args.line (view_of c.args.self.now) (view_of enter.new.self) list may.2.2.0 enter.ensures.inside deed after goes.0 goes.2) }
-
-pub leave-requires : goal.leave-requires
-leave-requires g c =
-    let enter = c.enter-section in
-    let list = enter.result.list.value.lists in
-    let after = c.tell.new.list.value.lists in
-    let deed : Listeners g.row.W.Denot → Deed g.row.T.Denot g.row.W.Denot = λ l. told c.args.line c.args.telling (told_as_wakes c.args.telling l) in
-    let may = subst (λ (f : QueueForm). May f (deed list) (view_of c.args.self.now)) (sym enter.ensures.same.0) (c.requires.may (told_as_wakes c.args.telling list)) in
-    let to = answers_to (form_in enter.new.self) c.args.line (view_of c.args.self.now) (view_of enter.new.self) list may.2.2.0 enter.ensures.inside deed after c.turn_by.new.self.seat.me.0.state c.turn_by.ensures.made in
-    let done = was_done (form_in enter.new.self) c.args.line (deed list) (view_of c.args.self.now) (view_of enter.new.self) list after may enter.ensures.inside c.turn_by.new.self.seat.me.0.state to in
-    record { inside = done.1; taken = enter.ensures.taken }
-
-pub returns-clause-deed : goal.returns-clause-deed
-returns-clause-deed g c =
-    let enter = c.enter-section in
-    let list = enter.result.list.value.lists in
-    let after = c.tell.new.list.value.lists in
-    let deed : Listeners g.row.W.Denot → Deed g.row.T.Denot g.row.W.Denot = λ l. told c.args.line c.args.telling (told_as_wakes c.args.telling l) in
-    let may = subst (λ (f : QueueForm). May f (deed list) (view_of c.args.self.now)) (sym enter.ensures.same.0) (c.requires.may (told_as_wakes c.args.telling list)) in
-    let to = answers_to (form_in enter.new.self) c.args.line (view_of c.args.self.now) (view_of enter.new.self) list may.2.2.0 enter.ensures.inside deed after c.turn_by.new.self.seat.me.0.state c.turn_by.ensures.made in
-    let done = was_done (form_in enter.new.self) c.args.line (deed list) (view_of c.args.self.now) (view_of enter.new.self) list after may enter.ensures.inside c.turn_by.new.self.seat.me.0.state to in
-    let turned = c.turn_by.ensures.same in
-    let left = c.leave.ensures.same in
-    let entered = enter.ensures.same in
-    let form = left.0 ∙ (turned.2 ∙ entered.0) in
-    let party : IsSameParty c.args.self.now c.leave.new.self = (left.1.0 ∙ (turned.0 ∙ entered.1.0), left.1.1 ∙ (turned.1 ∙ entered.1.1), left.1.2 ∙ (turned.3 ∙ entered.1.2)) in
-    let did = subst (λ (f : QueueForm). Did f (deed list) (view_of c.args.self.now) (view_of c.leave.new.self)) entered.0
-    (subst (λ (x : Standing g.row.T.Denot g.row.W.Denot). Did (form_in enter.new.self) (deed list) (view_of c.args.self.now) x) (sym c.leave.ensures.outside) done.0) in
-    (told_as_wakes c.args.telling list, (did, form, party), c.tell.ensures.woken)
+pub tell_some-requires : goal.tell_some-requires
+tell_some-requires g c = record {
+  may = λ names.
+      subst (λ (m : Seated g.row.T.Denot (Standing g.row.T.Denot g.row.W.Denot)). May m.0.form (told c.args.line c.args.telling names) m.0.state) (sym c.if-nobody.ensures.made) (c.requires.may names);
+}
