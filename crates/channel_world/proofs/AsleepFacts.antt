@@ -1,19 +1,18 @@
 -- What answers for who sleeps, in the numbers that a world tells.
-use Rattle.std.proofs.Common.{arith, ◌≡◌, ◌⊎◌, ◌<◌, ◌==◌, ℕ, Bool, List, [], ◌∷◌, length, Option, None, Some, inl, inr, refl, sym, ap, subst, ◌∙◌, vec_len}
+use Rattle.std.proofs.Common.{arith, ◌≡◌, ◌⊎◌, ◌<◌, ◌==◌, ℕ, Bool, List, [], ◌∷◌, length, Option, None, Some, inl, inr, refl, sym, ap, subst, vec_len}
 use Rattle.std.proofs.lemmas.Bool.Decides.{nat_tests}
 use Rattle.channel_world_model.specs.Awake.{AwakeIn}
 use Rattle.channel_world_model.specs.Laws.{free_places}
 use Rattle.channel_world_model.specs.Settling.{NobodyGoesOn}
 use Rattle.channel_world_model.specs.State.{State}
 use Rattle.channel_world_model.proofs.Settle.{at_rest as settled_rest}
-use Rattle.channel_world_runs.specs.Apart.{AreApart}
 use Rattle.channel_world_runs.specs.WorldState.{messages_in, name_state_of, IsQuiet, Stands, TellsQuiet}
 use Rattle.channel_world_runs.specs.declared.world_state.WorldState.{WorldState}
 use Rattle.channel_world_runs.specs.declared.calls.CallUnderWay.{CallUnderWay}
 use Rattle.channel_world_runs.proofs.Interface.{none_under_way}
 use Rattle.channel_world_runs.specs.rest.Rest.{RestIsAWorld}
 use Rattle.channel_world.proofs.Opening.{at_rest_is}
-use Rattle.channel_world.proofs.NumberFacts.{messages_at_rest, woken_at_rest}
+use Rattle.channel_world.proofs.NumberFacts.{messages_at_rest}
 use Rattle.channel_world.specs.Asleep.{NobodyIsLeftAtRest, NoReceiveIsLeft, NoStreamIsLeft, NoSendIsLeft, NobodyIsLeftOnAClosed, HasAPlace, NoReceivePendsBesideAMessage, NoSendPendsBesideAPlace, NoStreamPendsBesideAMessage, woken_among}
 use Rattle.channel_world.specs.Numbers.{CallsAtRest}
 use Rattle.channel_world.specs.World.{at_rest}
@@ -79,14 +78,13 @@ module _ {T : Type 0} (w : WorldState T) (k : Stands w) (rests : RestIsAWorld T)
   pub left_on_a_closed : NobodyIsLeftOnAClosed (view_of w)
   left_on_a_closed quiet shut line = let a = awake quiet in a.opened shut line
 
-  module _ (apart : AreApart w.name_table) where
-    none_goes_on : IsQuiet w → woken_among (view_of w) ≡ 0 → NobodyGoesOn (at_rest w)
-    none_goes_on quiet none =
-        let nobody = none_of (at_rest w).waiting.woken (sym (woken_at_rest w k rests apart quiet) ∙ none) in
-        (settled_rest (at_rest w) (at_rest w) [] (awake quiet) (nobody, refl)).1
+  none_goes_on : IsQuiet w → woken_among (view_of w) ≡ 0 → NobodyGoesOn (at_rest w)
+  none_goes_on quiet none =
+      let nobody = none_of (at_rest w).waiting.woken none in
+      (settled_rest (at_rest w) (at_rest w) [] (awake quiet) (nobody, refl)).1
 
-    pub no_receive_left : NoReceiveIsLeft (view_of w)
-    no_receive_left quiet none = no_receive_goes_on w (messages_at_rest w k quiet) (none_goes_on quiet none)
+  pub no_receive_left : NoReceiveIsLeft (view_of w)
+  no_receive_left quiet none = no_receive_goes_on w (messages_at_rest w k quiet) (none_goes_on quiet none)
 
-    pub no_send_left : NoSendIsLeft (view_of w)
-    no_send_left quiet none = no_send_goes_on w (messages_at_rest w k quiet) (none_goes_on quiet none)
+  pub no_send_left : NoSendIsLeft (view_of w)
+  no_send_left quiet none = no_send_goes_on w (messages_at_rest w k quiet) (none_goes_on quiet none)

@@ -1,5 +1,5 @@
 -- What a call asks that blocks, and what its operation asks by name.
-use Rattle.std.proofs.Common.{◌≡◌, Bool, Option, None, Some, inr, refl, sym, ap, ◌∙◌}
+use Rattle.std.proofs.Common.{◌≡◌, Option, None, Some, inr, refl, sym, ap, ◌∙◌}
 use Rattle.std.specs.Option.{option_map}
 use Rattle.event_listener.specs.declared.key.Key.{Key}
 use Rattle.channel_calls.specs.Blocks.{poll_woken}
@@ -57,19 +57,19 @@ module _ {T : Type 0} where
   refusal_of (Send m) handle key = refl
   refusal_of Receive handle key = refl
 
-  refused_asks : (b : Blocked T) (op : OpId) (r : NameTable T) (key : Key) (is_woken : Bool) → StandsFor b (Waits key is_woken) op r
+  refused_asks : (b : Blocked T) (op : OpId) (r : NameTable T) (key : Key) → StandsFor b (Waits key) op r
       → asks r (PollRefused op) ≡ poll_refused b key
-  refused_asks b op r key is_woken f =
-      ap (λ (o : Option (Operation T)). refusal_asked (held_of r (Op op)) o) (seen b op r (Waits key is_woken) f)
-      ∙ (ap (λ (k : Option Key). refusal_asked k (Some (operation_for b f.handle))) (holds b op r (Waits key is_woken) f)
+  refused_asks b op r key f =
+      ap (λ (o : Option (Operation T)). refusal_asked (held_of r (Op op)) o) (seen b op r (Waits key) f)
+      ∙ (ap (λ (k : Option Key). refusal_asked k (Some (operation_for b f.handle))) (holds b op r (Waits key) f)
       ∙ refusal_of b f.handle key)
 
 pub polls_by_name : (T : Type 0) → PollsByName T
 polls_by_name T =
     record {
       first = λ b op r f. poll_asks b op r Rests f ∙ first_asked b f.handle op;
-      next = λ b op r key is_woken f.
-          let same = poll_asks b op r (Waits key is_woken) f in
+      next = λ b op r key f.
+          let same = poll_asks b op r (Waits key) f in
           inr (next_asked b f.handle op key ∙ ap (λ (a : ChannelAsk T Waiter). listening_first a) (sym same));
       refused = refused_asks;
     }

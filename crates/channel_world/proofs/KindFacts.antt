@@ -1,36 +1,54 @@
 -- Who is pending and who was woken, line by line; and who of a line doesn't sleep, in the numbers that a world tells.
-use Rattle.std.proofs.Common.{arith, ◌≡◌, ◌≤◌, ◌+◌, ℕ, suc, nat_eq, Bool, true, false, List, [], ◌∷◌, map, Option, None, Some, refl, ap, ◌∙◌}
-use Rattle.std.specs.List.{AllByRecursion, count_by}
+use Rattle.std.proofs.Common.{arith, ◌≡◌, ◌≤◌, ◌+◌, ℕ, suc, nat_eq, Bool, true, false, List, [], ◌∷◌, map, Option, None, Some, is_some, ◌⊎◌, inl, inr, refl, sym, ap, ◌∙◌, subst}
+use Rattle.std.specs.List.{AllByRecursion, count_by, filter}
 use Rattle.std.specs.Map.{keys_of, lookup}
 use Rattle.std.proofs.lemmas.Cmp.{nat_eq_equiv}
+use Rattle.std.proofs.lemmas.List.Sums.{length-filter}
 use Rattle.std.proofs.lemmas.Map.Views.{lookup-from_Contains}
 use Rattle.lru.proofs.Splits.{all_from}
-use Rattle.event_listener.specs.declared.key.Key.{Key}
 use Rattle.concurrent_queue.specs.declared.queue_call.QueueCall.{QueueCall}
+use Rattle.channel_calls.specs.declared.stage.ListenerRef.{ListenerRef}
 use Rattle.channel_calls.specs.declared.stage.WaitList.{WaitList}
 use Rattle.channel_calls.specs.declared.stage.WaitList.TheVariants.{Sends, Receives, Streams, Closings}
 use Rattle.channel_calls.specs.declared.stage.Stage.{Stage}
 use Rattle.channel_calls.specs.declared.stage.Stage.TheVariants.{Working}
 use Rattle.channel_calls.specs.declared.stage.ListStep.TheVariants.{Leave}
-use Rattle.channel_world_model.specs.Laws.{same_line}
+use Rattle.channel_steps.specs.Configuration.{Configuration}
+use Rattle.channel_world_model.specs.Awake.{times}
+use Rattle.channel_world_model.specs.Laws.{is_line, line_at, same_line}
+use Rattle.channel_world_model.specs.Lines.{same_waiter, is_among}
 use Rattle.channel_world_model.specs.Names.{Directory}
 use Rattle.channel_world_model.specs.declared.name.Waiter.{Waiter}
 use Rattle.channel_world_model.specs.declared.name.Waiter.TheVariants.{Op, Stream}
+use Rattle.channel_world_model.proofs.Counting.{absent_counts}
+use Rattle.channel_world_model.proofs.Settle.{front_stays}
+use Rattle.channel_world_model.proofs.WaiterLemmas.{decided, or_true, same_sound}
 use Rattle.channel_world_runs.specs.Apart.{AreApart}
-use Rattle.channel_world_runs.specs.WorldState.{observation_of, Stands}
-use Rattle.channel_world_runs.specs.Owed.{IsUnwoken, all_names, is_woken_on, woken_on, unannounced, all_unannounced}
-use Rattle.channel_world_runs.specs.Owners.{NameStatus, waits, status_by, stream_status, operation_status, status}
+use Rattle.channel_world_runs.specs.NameTable.{names_of}
+use Rattle.channel_world_runs.specs.WorldState.{name_state_of, observation_of, Stands}
+use Rattle.channel_world_runs.specs.Owed.{IsUnwoken, woken_on, unannounced, all_unannounced}
+use Rattle.channel_world_runs.specs.Owners.{IsAmong, NameStatus, free, waits, status_by, stream_status, operation_status, status}
+use Rattle.channel_world_runs.specs.OwnerWoken.{WokenSound}
+use Rattle.channel_world_runs.specs.Run.{NameState}
+use Rattle.channel_world_runs.specs.refinement.Refines.{of_line}
 use Rattle.channel_world_runs.specs.declared.activity.Activity.{Activity}
 use Rattle.channel_world_runs.specs.declared.calls.CallUnderWay.{CallUnderWay}
 use Rattle.channel_world_runs.specs.declared.world_state.WorldState.{WorldState}
 use Rattle.channel_world_runs.specs.declared.names.HandleEntry.{HandleEntry}
 use Rattle.channel_world_runs.specs.declared.names.OperationEntry.{OperationEntry}
 use Rattle.channel_world_runs.specs.declared.name_table.NameTable.{NameTable}
+use Rattle.channel_world_runs.proofs.NoLonger.{no_longer}
 use Rattle.channel_world_runs.proofs.OwedCounts.{one_if, count_first}
+use Rattle.channel_world_runs.proofs.OwnerOrderNames.{among_is}
+use Rattle.channel_world_runs.proofs.refinement.Names.{among_of_line}
+use Rattle.channel_world_runs.proofs.refinement.Standing.{times_of_line}
+use Rattle.channel_world_runs.proofs.rest.LoneAnswers.{behind}
+use Rattle.channel_world_runs.proofs.rest.Names.{line_is as line_of}
+use Rattle.channel_world_runs.proofs.rest.Woken.{none_twice_times}
 use Rattle.channel_world.specs.Asleep.{ALineIsAwake, NobodySleepsWhereClosed, NoReceiveSleeps, NoSendSleeps, NoStreamSleeps}
-use Rattle.channel_world.specs.Kinds.{is_pending_on, operation_stance, pending_on_line, stream_stance, takings_of}
+use Rattle.channel_world.specs.Kinds.{all_names, is_pending_on, operation_stance, pending_on_line, stream_stance, takings_of}
 use Rattle.channel_world.specs.View.{view_of}
-use Rattle.channel_world.proofs.SleepFacts.{count_both, count_more, none_fits, one_more}
+use Rattle.channel_world.proofs.SleepFacts.{count_both, none_fits}
 
 -- ---- names and entries
 
@@ -66,12 +84,7 @@ module _ {T : Type 0} (test : NameStatus → Bool) (r : NameTable T) (apart : Ar
       let both = count_both p (map op_name (keys_of r.operations)) (map stream_name (keys_of r.handles)) in
       omega (arith, a, b, both)
 
--- ---- who is woken is pending; who sleeps is pending and was not woken
-
-woken_pends : (line : WaitList) (p : NameStatus) → is_woken_on line p ≡ true → is_pending_on line p ≡ true
-woken_pends line (waits h true) e = e
-woken_pends line (waits h false) e = cc e
-woken_pends line p e = cc e
+-- ---- who is pending on a line has a name that was taken
 
 same_self : (line : WaitList) → same_line line line ≡ true
 same_self Sends = refl
@@ -79,62 +92,110 @@ same_self Receives = refl
 same_self Streams = refl
 same_self Closings = refl
 
-abbrev stream_woken : WaitList → Option HandleEntry → Bool
-stream_woken line o = is_woken_on line (stream_stance o)
+module _ (name : ℕ → Waiter) (same : (m n : ℕ) → same_waiter (name m) (name n) ≡ nat_eq m n) where
+  taken_there : {X : Type 0} (n : ℕ) (es : Directory X) → is_some (lookup (nat_eq n) es) ≡ true → is_among (name n) (map name (keys_of es)) ≡ true
+  taken_there n [] e = cc e
+  taken_there n (f ∷ es) e = elim (decided (nat_eq n f.0)) [
+    | inl t ↦ rw (same n f.0 ∙ t) refl
+    | inr t ↦ rw (same n f.0 ∙ t) (taken_there n es (rw t at e))
+  ]
 
-abbrev stream_pends : WaitList → Option HandleEntry → Bool
-stream_pends line o = is_pending_on line (stream_stance o)
+-- a name that passes, and stands there, stands among those who pass
+passes_there : (p : Waiter → Bool) (w : Waiter) (ws : List Waiter) → p w ≡ true → is_among w ws ≡ true → 1 ≤ times w (filter p ws)
+passes_there p w [] t e = cc e
+passes_there p w (v ∷ ws) t e = elim (or_true (same_waiter w v) (is_among w ws) e) [
+  | inl s ↦ let mine : p v ≡ true = ap p (sym (same_sound w v s)) ∙ t in rw mine (rw s (omega arith))
+  | inr i ↦
+      let more = passes_there p w ws t i in
+      elim (decided (p v)) [
+        | inl u ↦ rw u (elim (decided (same_waiter w v)) [
+          | inl s ↦ rw s (omega arith)
+          | inr s ↦ rw s more
+        ])
+        | inr u ↦ rw u more
+      ]
+]
 
 module _ {T : Type 0} where
-  abbrev entry_woken : WaitList → Option (OperationEntry T) → Bool
-  entry_woken line o = is_woken_on line (operation_stance o)
+  abbrev op_names : NameTable T → List Waiter
+  op_names r = map (λ n. Op (record { 0 = n })) (keys_of r.operations)
 
-  abbrev entry_pends : WaitList → Option (OperationEntry T) → Bool
-  entry_pends line o = is_pending_on line (operation_stance o)
+  abbrev stream_names : NameTable T → List Waiter
+  stream_names r = map (λ n. Stream (record { 0 = n })) (keys_of r.handles)
 
-  -- where one of a line sleeps more are pending on it than are woken
-  more_of_line : (line : WaitList) (name : Waiter) (r : NameTable T) → AreApart r → IsUnwoken line name r → suc (woken_on line r) ≤ pending_on_line line r
-  more_of_line line name r apart asleep = by name asleep
+  taken_name : (r : NameTable T) (w : Waiter) (h : ListenerRef) → status r w ≡ waits h → is_among w (all_names r) ≡ true
+  taken_name r (Op op) h e =
+      let name : ℕ → Waiter = λ n. Op (record { 0 = n }) in
+      front_stays (Op op) (op_names r) (stream_names r)
+      (taken_there name (λ m n. refl) op.0 r.operations (by (lookup (nat_eq op.0) r.operations) refl))
     where
-      woken : woken_on line r ≡ count_by (λ (e : ℕ × Option (OperationEntry T)). entry_woken line e.1) r.operations
-          + count_by (λ (e : ℕ × Option HandleEntry). stream_woken line e.1) r.handles
-      woken = by_entries (is_woken_on line) r apart
+      by : (o : Option (Option (OperationEntry T))) → lookup (nat_eq op.0) r.operations ≡ o → is_some (lookup (nat_eq op.0) r.operations) ≡ true
+      by None f = absurd (let no : free ≡ waits h = sym (ap (λ x. status_by (λ (x : OperationEntry T). operation_status x.operation x.poll_state) x) f) ∙ e in cc)
+      by (Some o) f = rw f refl
+  taken_name r (Stream handle) h e =
+      let name : ℕ → Waiter = λ n. Stream (record { 0 = n }) in
+      behind (Stream handle) (op_names r) (stream_names r)
+      (taken_there name (λ m n. refl) handle.0 r.handles (by (lookup (nat_eq handle.0) r.handles) refl))
+    where
+      by : (o : Option (Option HandleEntry)) → lookup (nat_eq handle.0) r.handles ≡ o → is_some (lookup (nat_eq handle.0) r.handles) ≡ true
+      by None f = absurd (let no : free ≡ waits h = sym (ap (λ x. status_by (λ (x : HandleEntry). stream_status x.handle.kind x.poll_state) x) f) ∙ e in cc)
+      by (Some o) f = rw f refl
 
-      pends : pending_on_line line r ≡ count_by (λ (e : ℕ × Option (OperationEntry T)). entry_pends line e.1) r.operations
-          + count_by (λ (e : ℕ × Option HandleEntry). stream_pends line e.1) r.handles
-      pends = by_entries (is_pending_on line) r apart
+  -- one of a line that sleeps, before those of the line who were woken
+  module _ (b : NameState T) (s : Configuration T Waiter) (k : WokenSound b s) (line : WaitList) (name : Waiter)
+      (asleep : IsUnwoken line name b.name_table b.order.woken) where
+    abbrev r : NameTable T
+    r = b.name_table
 
-      on : (p : NameStatus) (key : Key) → p ≡ waits (record { line = line; key = key }) false → is_pending_on line p ≡ true
-      on p key e = ap (λ (q : NameStatus). is_pending_on line q) e ∙ same_self line
+    abbrev woken : List Waiter
+    woken = b.order.woken
 
-      out : (p : NameStatus) (key : Key) → p ≡ waits (record { line = line; key = key }) false → is_woken_on line p ≡ false
-      out p key e = ap (λ (q : NameStatus). is_woken_on line q) e
+    abbrev pends : Waiter → Bool
+    pends w = is_pending_on line (status r w)
 
-      by : (w : Waiter) → IsUnwoken line w r → suc (woken_on line r) ≤ pending_on_line line r
-      by (Op op) (key, e) = at_op (lookup (nat_eq op.0) r.operations) refl e
-        where
-          at_op : (o : Option (Option (OperationEntry T))) → lookup (nat_eq op.0) r.operations ≡ o
-              → status_by (λ (x : OperationEntry T). operation_status x.operation x.poll_state) o ≡ waits (record { line = line; key = key }) false
-              → suc (woken_on line r) ≤ pending_on_line line r
-          at_op None there so = cc so
-          at_op (Some o) there so =
-              let more = one_more (entry_woken line) (entry_pends line) (λ x k. woken_pends line (operation_stance x) k) op.0 o r.operations there
-              (out _ key so) (on _ key so) in
-              let others = count_more (λ (f : ℕ × Option HandleEntry). stream_woken line f.1) (λ (f : ℕ × Option HandleEntry). stream_pends line f.1)
-              (λ f k. woken_pends line (stream_stance f.1) k) r.handles in
-              omega (arith, more, others, woken, pends)
-      by (Stream handle) (key, e) = at_handle (lookup (nat_eq handle.0) r.handles) refl e
-        where
-          at_handle : (o : Option (Option HandleEntry)) → lookup (nat_eq handle.0) r.handles ≡ o
-              → status_by (λ (x : HandleEntry). stream_status x.handle.kind x.poll_state) o ≡ waits (record { line = line; key = key }) false
-              → suc (woken_on line r) ≤ pending_on_line line r
-          at_handle None there so = cc so
-          at_handle (Some o) there so =
-              let more = one_more (stream_woken line) (stream_pends line) (λ x k. woken_pends line (stream_stance x) k) handle.0 o r.handles there
-              (out _ key so) (on _ key so) in
-              let others = count_more (λ (f : ℕ × Option (OperationEntry T)). entry_woken line f.1) (λ (f : ℕ × Option (OperationEntry T)). entry_pends line f.1)
-              (λ f k. woken_pends line (operation_stance f.1) k) r.operations in
-              omega (arith, more, others, woken, pends)
+    abbrev mine : List Waiter
+    mine = of_line (line_at (names_of r)) line woken
+
+    pending : (w : Waiter) (h : ListenerRef) → status r w ≡ waits h → same_line line h.line ≡ true → 1 ≤ times w (filter pends (all_names r))
+    pending w h e own =
+        passes_there pends w (all_names r) (ap (λ (p : NameStatus). is_pending_on line p) e ∙ own) (taken_name r w h e)
+
+    there : (w : Waiter) → is_among w (name ∷ mine) ≡ true → 1 ≤ times w (filter pends (all_names r))
+    there w i = by (or_true (same_waiter w name) (is_among w mine) i)
+      where
+        by : (same_waiter w name ≡ true) ⊎ (is_among w mine ≡ true) → 1 ≤ times w (filter pends (all_names r))
+        by (inl t) =
+            pending w (record { line = line; key = asleep.0 }) (ap (status r) (same_sound w name t) ∙ asleep.1) (same_self line)
+        by (inr j) =
+            let of = among_of_line (line_at (names_of r)) line w woken j in
+            let h = k.pending w (among_is w woken of.0) in
+            let own : Some h.0.line ≡ Some line = sym (line_of r w h.0 h.1) ∙ of.1 in
+            let same : h.0.line ≡ line = ap (λ (o : Option WaitList). elim o [ None ↦ line | Some l ↦ l ]) own in
+            pending w h.0 h.1 (ap (same_line line) same ∙ same_self line)
+
+    -- none of them twice
+    once : (w : Waiter) → times w (name ∷ mine) ≤ 1
+    once w = elim (decided (same_waiter w name)) [
+      | inl t ↦ let none : times w mine ≡ 0 = by (decided (is_among w mine)) t in rw t (omega (arith, none))
+      | inr t ↦
+          let few = times_of_line (line_at (names_of r)) line w woken in
+          let one = none_twice_times w woken k.once in
+          rw t (omega (arith, few, one))
+    ]
+      where
+        by : (is_among w mine ≡ true) ⊎ (is_among w mine ≡ false) → same_waiter w name ≡ true → times w mine ≡ 0
+        by (inl i) t =
+            let of = among_of_line (line_at (names_of r)) line w woken i in
+            absurd (asleep.2 (subst (λ (x : Waiter). IsAmong x woken) (same_sound w name t) (among_is w woken of.0)))
+        by (inr i) t = absent_counts w mine i
+
+    -- so more are pending on it than are woken
+    more_of_line : suc (woken_on line r woken) ≤ pending_on_line line r
+    more_of_line =
+        let more = no_longer (name ∷ mine) (filter pends (all_names r)) once there in
+        let long = length-filter (λ w. is_line line (line_at (names_of r) w)) woken in
+        let wide = length-filter pends (all_names r) in
+        omega (arith, more, long, wide)
 
   -- ---- places
 
@@ -149,7 +210,7 @@ module _ {T : Type 0} where
       let rest = all_few cs in
       omega (arith, one, rest)
 
-  module _ (w : WorldState T) (k : Stands w) (apart : AreApart w.name_table) where
+  module _ (w : WorldState T) (k : Stands w) where
     pub no_receive_sleeps : NoReceiveSleeps (view_of w)
     no_receive_sleeps more = record {
       none = λ name asleep. let o = k.stands.owed in let most = o.receives name asleep in omega (arith, more, most);
@@ -175,5 +236,5 @@ module _ {T : Type 0} where
 
     pub a_line_awake : ALineIsAwake (view_of w)
     a_line_awake line same = record {
-      none = λ name asleep. let more = more_of_line line name w.name_table apart asleep in omega (arith, more, same);
+      none = λ name asleep. let more = more_of_line (name_state_of w) k.configuration k.stands.kept.woken line name asleep in omega (arith, more, same);
     }

@@ -1,6 +1,4 @@
 -- The numbers that a world tells, with no call under way, are those of its state.
-use Rattle.std.specs.List.{filter}
-use Rattle.std.specs.Map.{lookup}
 use Rattle.std.specs.Option.{option_map_or}
 use Rattle.std.proofs.Common.{arith, ◌≡◌, ◌⊎◌, ℕ, ◌+◌, ◌≤◌, nat_eq, Bool, true, false, List, [], ◌∷◌, ◌++◌, length, Option, None, Some, is_some, inl, inr, refl, sym, ap, ◌∙◌, length-append}
 use Rattle.event_listener.specs.declared.key.Key.{Key}
@@ -11,36 +9,31 @@ use Rattle.channel_world_model.specs.Lines.{Waiting, is_among, same_waiter, unto
 use Rattle.channel_world_model.specs.Names.{at}
 use Rattle.channel_world_model.specs.Settling.{pending_count}
 use Rattle.channel_world_model.specs.State.{State}
-use Rattle.channel_world_model.specs.declared.name.HandleKind.{HandleKind}
-use Rattle.channel_world_model.specs.declared.name.HandleKind.TheVariants as handle_kind
 use Rattle.channel_world_model.specs.declared.name.Waiter.{Waiter}
 use Rattle.channel_world_model.specs.declared.name.Waiter.TheVariants.{Op, Stream}
 use Rattle.channel_world_model.proofs.Counting.{among_append, among_counts, count_append}
-use Rattle.channel_world_model.proofs.WaiterLemmas.{decided, or_true, same_refl, same_sound}
+use Rattle.channel_world_model.proofs.WaiterLemmas.{or_true, same_sound}
 use Rattle.channel_world_runs.specs.Apart.{AreApart}
 use Rattle.channel_world_runs.specs.WorldState.{name_state_of, IsQuiet, Stands}
-use Rattle.channel_world_runs.specs.OwnerOrder.{was_woken}
-use Rattle.channel_world_runs.specs.Owners.{IsAmong, NameStatus, invalid, status_on, no_stream_status, stream_status, status_by, send_status, operation_status, status}
 use Rattle.channel_world_runs.specs.Pending.{stands_pending, how_many, operation_stands, stream_stands}
-use Rattle.channel_world_runs.specs.NameTable.{key_of, held_of, is_woken}
+use Rattle.channel_world_runs.specs.NameTable.{key_of, held_of}
 use Rattle.channel_world_runs.specs.WorldInvariant.{WorldInvariant}
 use Rattle.channel_world_runs.specs.Run.{NameState}
 use Rattle.channel_world_runs.specs.declared.world_state.WorldState.{WorldState}
 use Rattle.channel_world_runs.specs.declared.names.HandleEntry.{HandleEntry}
 use Rattle.channel_world_runs.specs.declared.names.OperationEntry.{OperationEntry}
-use Rattle.channel_world_model.specs.declared.name.Operation.{Operation}
-use Rattle.channel_world_model.specs.declared.name.Operation.TheVariants as live
 use Rattle.channel_world_runs.specs.declared.names.PollState.{PollState}
-use Rattle.channel_world_runs.specs.declared.names.PollState.TheVariants.{Rests, Waits, IsPolled}
 use Rattle.channel_world_runs.specs.declared.name_table.NameTable.{NameTable}
 use Rattle.channel_world_runs.proofs.Interface.{none_under_way}
+use Rattle.channel_world_runs.proofs.OwnerOrderNames.{among_is}
+use Rattle.channel_world_runs.proofs.OwnerWoken.{waits_pending}
 use Rattle.channel_world_runs.specs.refinement.Refines.{AreUntold}
 use Rattle.channel_world_runs.specs.rest.Rest.{state_at, IsWorld, RestIsAWorld}
-use Rattle.channel_world_runs.proofs.rest.Woken.{among_filter, woken_waits}
 use Rattle.channel_steps.specs.Configuration.{Configuration}
 use Rattle.channel_world.specs.Numbers.{MessagesAtRest, PendingAtRest, WokenAtRest}
 use Rattle.channel_world.specs.World.{at_rest}
-use Rattle.channel_world.proofs.NumberLists.{no_longer, named, named_many, none_named, named_there, named_once, named_so}
+use Rattle.channel_world_runs.proofs.NoLonger.{no_longer}
+use Rattle.channel_world.proofs.NumberLists.{named, named_many, none_named, named_there, named_once, named_so}
 use Rattle.channel_world.proofs.Opening.{at_rest_is}
 use Rattle.channel_world.specs.View.{view_of}
 
@@ -64,10 +57,10 @@ module _ {T : Type 0} (test : PollState → Bool) (r : NameTable T) where
   abbrev streams_so : List Waiter
   streams_so = named (stream_stands test) stream_name r.handles
 
-  abbrev all_so : List Waiter
+  abbrev pub all_so : List Waiter
   all_so = operations_so ++ streams_so
 
-  so_many : length all_so ≡ how_many test r
+  pub so_many : length all_so ≡ how_many test r
   so_many =
       let both = length-append operations_so streams_so in
       let first = named_many (operation_stands test) op_name r.operations in
@@ -77,7 +70,7 @@ module _ {T : Type 0} (test : PollState → Bool) (r : NameTable T) where
   so_split : (w : Waiter) → times w all_so ≡ times w operations_so + times w streams_so
   so_split w = count_append (same_waiter w) operations_so streams_so
 
-  so_there : (w : Waiter) → stands_so w ≡ true → 1 ≤ times w all_so
+  pub so_there : (w : Waiter) → stands_so w ≡ true → 1 ≤ times w all_so
   so_there (Op op) e =
       let split = so_split (Op op) in
       let there = named_there (operation_stands test) op_name (λ m n. refl) refl op.0 r.operations e in
@@ -147,79 +140,6 @@ module _ {T : Type 0} (r : NameTable T) where
       by None = refl
       by (Some x) = refl
 
-  -- ---- who was woken
-
-  woken_on : (line : WaitList) (s : PollState) → is_woken s ≡ was_woken (status_on line s)
-  woken_on line Rests = refl
-  woken_on line (Waits key b) = refl
-  woken_on line (IsPolled brings) = refl
-
-  woken_off : (s : PollState) → (no_stream_status s ≡ invalid → ⊥) → is_woken s ≡ was_woken (no_stream_status s)
-  woken_off Rests fine = refl
-  woken_off (Waits key b) fine = absurd (fine refl)
-  woken_off (IsPolled brings) fine = refl
-
-  woken_stream : (k : HandleKind) (s : PollState) → (stream_status k s ≡ invalid → ⊥) → is_woken s ≡ was_woken (stream_status k s)
-  woken_stream handle_kind.Receiver s fine = woken_on Streams s
-  woken_stream handle_kind.Sender s fine = woken_off s fine
-  woken_stream handle_kind.WeakSender s fine = woken_off s fine
-  woken_stream handle_kind.WeakReceiver s fine = woken_off s fine
-
-  woken_send : (m : Option T) (s : PollState) → (send_status m s ≡ invalid → ⊥) → is_woken s ≡ was_woken (send_status m s)
-  woken_send None Rests fine = refl
-  woken_send None (Waits key b) fine = absurd (fine refl)
-  woken_send None (IsPolled brings) fine = refl
-  woken_send (Some m) s fine = woken_on Sends s
-
-  woken_operation : (x : Operation T) (s : PollState) → (operation_status x s ≡ invalid → ⊥)
-      → is_woken s ≡ was_woken (operation_status x s)
-  woken_operation (live.Send h m) s fine = woken_send m s fine
-  woken_operation (live.Receive h) s fine = woken_on Receives s
-  woken_operation (live.Closing h) s fine = woken_on Closings s
-
-  abbrev lives : {X : Type 0} → Option (Option X) → Option X
-  lives o = option_map_or (λ (x : Option _). x) o None
-
-  abbrev operation_seen : Option (Option (OperationEntry T)) → NameStatus
-  operation_seen o = status_by (λ (x : OperationEntry T). operation_status x.operation x.poll_state) o
-
-  abbrev handle_seen : Option (Option HandleEntry) → NameStatus
-  handle_seen o = status_by (λ (x : HandleEntry). stream_status x.handle.kind x.poll_state) o
-
-  -- where nothing is amiss whoever was woken stands so by its name
-  pub woken_so : (w : Waiter) → (status r w ≡ invalid → ⊥) → stands_so is_woken r w ≡ was_woken (status r w)
-  woken_so (Op op) fine = by (lookup (nat_eq op.0) r.operations) fine
-    where
-      by : (o : Option (Option (OperationEntry T))) → (operation_seen o ≡ invalid → ⊥)
-          → operation_stands is_woken (lives o) ≡ was_woken (operation_seen o)
-      by None f = refl
-      by (Some None) f = refl
-      by (Some (Some x)) f = woken_operation x.operation x.poll_state f
-  woken_so (Stream handle) fine = by (lookup (nat_eq handle.0) r.handles) fine
-    where
-      by : (o : Option (Option HandleEntry)) → (handle_seen o ≡ invalid → ⊥) → stream_stands is_woken (lives o) ≡ was_woken (handle_seen o)
-      by None f = refl
-      by (Some None) f = refl
-      by (Some (Some x)) f = woken_stream x.handle.kind x.poll_state f
-
-  pub woken_pends : (s : PollState) → is_woken s ≡ true → stands_pending s ≡ true
-  woken_pends Rests e = e
-  woken_pends (Waits key b) e = refl
-  woken_pends (IsPolled brings) e = e
-
-  -- and is pending
-  woken_are_pending : (w : Waiter) → stands_so is_woken r w ≡ true → stands_so stands_pending r w ≡ true
-  woken_are_pending (Op op) e = by (at op.0 r.operations) e
-    where
-      by : (o : Option (OperationEntry T)) → operation_stands is_woken o ≡ true → operation_stands stands_pending o ≡ true
-      by None f = f
-      by (Some x) f = woken_pends x.poll_state f
-  woken_are_pending (Stream handle) e = by (at handle.0 r.handles) e
-    where
-      by : (o : Option HandleEntry) → stream_stands is_woken o ≡ true → stream_stands stands_pending o ≡ true
-      by None f = f
-      by (Some x) f = woken_pends x.poll_state f
-
 -- ---- those who stand in the lines
 
 untold_hold : (held : Waiter → Option Key) (es : List (Key × Option Waiter)) (ws : List Waiter) (w : Waiter) → AreUntold held es ws
@@ -233,23 +153,6 @@ untold_hold held (e ∷ es) (v ∷ ws) w h i =
     by : (same_waiter w v ≡ true) ⊎ (is_among w ws ≡ true) → (is_among w ws ≡ true → is_some (held w) ≡ true) → is_some (held w) ≡ true
     by (inl t) on = ap (λ (x : Waiter). is_some (held x)) (same_sound w v t) ∙ ap (λ (o : Option Key). is_some o) h.0.0
     by (inr k) on = on k
-
--- who has a place and passes is kept
-kept_in : (p : Waiter → Bool) (w : Waiter) (ws : List Waiter) → IsAmong w ws → p w ≡ true → 1 ≤ times w (filter p ws)
-kept_in p w [] i e = absurd i
-kept_in p w (v ∷ ws) (inl same) e =
-    let passes : p v ≡ true = ap p same ∙ e in
-    let own : same_waiter w v ≡ true = ap (λ (x : Waiter). same_waiter w x) same ∙ same_refl w in
-    rw passes (rw own (omega arith))
-kept_in p w (v ∷ ws) (inr i) e =
-    let more = kept_in p w ws i e in
-    elim (decided (p v)) [
-      | inl t ↦ rw t (elim (decided (same_waiter w v)) [
-        | inl s ↦ rw s (omega arith)
-        | inr f ↦ rw f more
-      ])
-      | inr f ↦ rw f more
-    ]
 
 abbrev everybody : Waiting → List Waiter
 everybody l = l.sends ++ (l.receives ++ (l.streams ++ (l.closings ++ l.woken)))
@@ -277,24 +180,11 @@ module _ {T : Type 0} (b : NameState T) (s : Configuration T Waiter) (kept : Wor
   once_in : (w : Waiter) → times_in w who ≤ 1
   once_in w = let placed = world.awake.placed in placed.once w
 
-  fine : (w : Waiter) → status b.name_table w ≡ invalid → ⊥
-  fine w e = let owned = kept.owned in owned.none_amiss w e
-
-  told_so : (w : Waiter) → is_among w who.woken ≡ true → stands_so is_woken b.name_table w ≡ true
-  told_so w i = woken_so b.name_table w (fine w) ∙ among_filter (λ v. was_woken (status b.name_table v)) w b.order i
-
-  told_there : (w : Waiter) → stands_so is_woken b.name_table w ≡ true → 1 ≤ times w who.woken
-  told_there w e =
-      let was : was_woken (status b.name_table w) ≡ true = sym (woken_so b.name_table w (fine w)) ∙ e in
-      let h = woken_waits b.name_table w was in
-      let order = kept.order in
-      kept_in (λ v. was_woken (status b.name_table v)) w b.order (order.placed w (inl (h.0, true, h.1))) was
-
-  told_once : (w : Waiter) → times w who.woken ≤ 1
-  told_once w = let all = once_in w in omega (arith, all)
-
-  pub woken_number : how_many is_woken b.name_table ≡ length who.woken
-  woken_number = counted_so is_woken b.name_table apart who.woken told_once told_so told_there
+  woken_so : (w : Waiter) → is_among w who.woken ≡ true → stands_so stands_pending b.name_table w ≡ true
+  woken_so w i =
+      let k = kept.woken in
+      let h = k.pending w (among_is w who.woken i) in
+      pending_holds b.name_table w ∙ waits_pending b.name_table w h.0 h.1
 
   line_so : (line : WaitList) (w : Waiter) → is_among w (untold line who) ≡ true → stands_so stands_pending b.name_table w ≡ true
   line_so line w i =
@@ -307,7 +197,7 @@ module _ {T : Type 0} (b : NameState T) (s : Configuration T Waiter) (kept : Wor
     where
       closings : (is_among w who.closings ≡ true) ⊎ (is_among w who.woken ≡ true) → stands_so stands_pending b.name_table w ≡ true
       closings (inl k) = line_so Closings w k
-      closings (inr k) = woken_are_pending b.name_table w (told_so w k)
+      closings (inr k) = woken_so w k
 
       streams : (is_among w who.streams ≡ true) ⊎ (is_among w (who.closings ++ who.woken) ≡ true) → stands_so stands_pending b.name_table w ≡ true
       streams (inl k) = line_so Streams w k
@@ -343,6 +233,9 @@ module _ {T : Type 0} (w : WorldState T) (k : Stands w) where
   at_rest_there : IsQuiet w → at_rest w ≡ state_at (name_state_of w) k.configuration
   at_rest_there quiet = at_rest_is w k.configuration k.stands.shown quiet
 
+  pub woken_at_rest : WokenAtRest (view_of w)
+  woken_at_rest quiet = refl
+
   pub messages_at_rest : MessagesAtRest (view_of w)
   messages_at_rest quiet =
       let sh = k.stands.shown in
@@ -356,8 +249,3 @@ module _ {T : Type 0} (w : WorldState T) (k : Stands w) where
     pending_at_rest quiet =
         pending_number (name_state_of w) k.configuration k.stands.kept (rest quiet) apart
         ∙ ap (λ (x : State T). pending_count x.waiting) (sym (at_rest_there quiet))
-
-    pub woken_at_rest : WokenAtRest (view_of w)
-    woken_at_rest quiet =
-        woken_number (name_state_of w) k.configuration k.stands.kept (rest quiet) apart
-        ∙ ap (λ (x : State T). length x.waiting.woken) (sym (at_rest_there quiet))

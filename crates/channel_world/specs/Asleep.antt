@@ -1,5 +1,5 @@
 -- Who sleeps in a world, pending and not woken since the last poll, and what answers for it: calls under way or not.
-use Rattle.std.specs.Prelude.{◌≡◌, ℕ, ◌+◌, ◌<◌, ◌≤◌, true, false, [], Option, None, Some}
+use Rattle.std.specs.Prelude.{◌≡◌, ℕ, ◌+◌, ◌<◌, ◌≤◌, true, false, [], length, Option, None, Some}
 use Rattle.channel_calls.specs.declared.stage.WaitList.{WaitList}
 use Rattle.channel_calls.specs.declared.stage.WaitList.TheVariants.{Sends, Receives, Streams}
 use Rattle.channel_steps.specs.every_run.Sends.{HasPlaces}
@@ -8,9 +8,8 @@ use Rattle.channel_world_model.specs.Lines.{untold}
 use Rattle.channel_world_model.specs.declared.name.Waiter.{Waiter}
 use Rattle.channel_world_runs.specs.Owed.{IsUnwoken, woken_on}
 use Rattle.channel_world_runs.specs.Pending.{stands_pending, how_many}
-use Rattle.channel_world_runs.specs.NameTable.{is_woken}
 use Rattle.channel_world.specs.Kinds.{pending_on_line}
-use Rattle.channel_world.specs.View.{names_in, messages_in, capacity_in, is_closed, calls_in, taken_in, at_rest, observation_of, IsQuiet, WorldView}
+use Rattle.channel_world.specs.View.{names_in, woken_in, messages_in, capacity_in, is_closed, calls_in, taken_in, at_rest, observation_of, IsQuiet, WorldView}
 
 -- one more message fits: always, where there is no bound
 abbrev pub HasAPlace : Option ℕ → ℕ → Type 0
@@ -23,46 +22,46 @@ module _ {T : Type 0} where
   pending_in w = how_many stands_pending (names_in w)
 
   abbrev pub woken_among : WorldView T → ℕ
-  woken_among w = how_many is_woken (names_in w)
+  woken_among w = length (woken_in w)
 
   -- nobody sleeps on this line
   pub record NobodySleeps (line : WaitList) (w : WorldView T) : Type 0 where
-    pub none : (name : Waiter) → IsUnwoken line name (names_in w) → ⊥
+    pub none : (name : Waiter) → IsUnwoken line name (names_in w) (woken_in w) → ⊥
 
   -- ---- what answers for who sleeps, in the numbers that a world tells
 
   -- where a receive sleeps there are no more messages than woken ones and calls under way
   abbrev pub ReceivesAreAnswered : WorldView T → Type 0
-  ReceivesAreAnswered w = (name : Waiter) → IsUnwoken Receives name (names_in w) → messages_in w ≤ woken_among w + calls_in w
+  ReceivesAreAnswered w = (name : Waiter) → IsUnwoken Receives name (names_in w) (woken_in w) → messages_in w ≤ woken_among w + calls_in w
 
   -- where a send sleeps on an open channel it has a bound, and no more places than messages, woken ones, calls under way, and places
   -- that such calls have freed and not announced yet
   abbrev pub SendsAreAnswered : WorldView T → Type 0
   SendsAreAnswered w =
-      (name : Waiter) → IsUnwoken Sends name (names_in w) → is_closed w ≡ false
+      (name : Waiter) → IsUnwoken Sends name (names_in w) (woken_in w) → is_closed w ≡ false
       → HasPlaces (capacity_in w) (messages_in w + (woken_among w + (calls_in w + (observation_of w).freed)))
 
   -- where a stream sleeps beside a message a call is under way
   abbrev pub StreamsAreAnswered : WorldView T → Type 0
-  StreamsAreAnswered w = (name : Waiter) → IsUnwoken Streams name (names_in w) → 0 < messages_in w → 0 < calls_in w
+  StreamsAreAnswered w = (name : Waiter) → IsUnwoken Streams name (names_in w) (woken_in w) → 0 < messages_in w → 0 < calls_in w
 
   -- and where anybody sleeps on a closed channel
   abbrev pub ClosingIsAnswered : WorldView T → Type 0
   ClosingIsAnswered w =
-      (line : WaitList) (name : Waiter) → IsUnwoken line name (names_in w) → is_closed w ≡ true → 0 < calls_in w
+      (line : WaitList) (name : Waiter) → IsUnwoken line name (names_in w) (woken_in w) → is_closed w ≡ true → 0 < calls_in w
 
   -- ---- by kind, in the numbers that a world tells of it
 
   -- no receive sleeps where more messages are held than receives are woken and calls sending or receiving,
   abbrev pub NoReceiveSleeps : WorldView T → Type 0
   NoReceiveSleeps w =
-      woken_on Receives (names_in w) + ((observation_of w).sending + (observation_of w).receiving) < messages_in w → NobodySleeps Receives w
+      woken_on Receives (names_in w) (woken_in w) + ((observation_of w).sending + (observation_of w).receiving) < messages_in w → NobodySleeps Receives w
 
   -- no send on an open channel where more fits than messages, woken sends, sending calls, and messages that calls have taken
   abbrev pub NoSendSleeps : WorldView T → Type 0
   NoSendSleeps w =
       is_closed w ≡ false
-      → HasAPlace (capacity_in w) (messages_in w + (woken_on Sends (names_in w) + ((observation_of w).sending + taken_in w)))
+      → HasAPlace (capacity_in w) (messages_in w + (woken_on Sends (names_in w) (woken_in w) + ((observation_of w).sending + taken_in w)))
       → NobodySleeps Sends w
 
   -- no stream beside a message where no call is sending,
@@ -75,7 +74,7 @@ module _ {T : Type 0} where
 
   -- and nobody on a line of which as many are woken as are pending
   abbrev pub ALineIsAwake : WorldView T → Type 0
-  ALineIsAwake w = (line : WaitList) → pending_on_line line (names_in w) ≡ woken_on line (names_in w) → NobodySleeps line w
+  ALineIsAwake w = (line : WaitList) → pending_on_line line (names_in w) ≡ woken_on line (names_in w) (woken_in w) → NobodySleeps line w
 
   -- ---- with no call under way
 

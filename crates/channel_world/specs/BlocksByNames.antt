@@ -1,5 +1,5 @@
 -- The polls that a call makes which blocks, as those of an operation by name. Their task is the name.
-use Rattle.std.specs.Prelude.{◌≡◌, Bool, Some}
+use Rattle.std.specs.Prelude.{◌≡◌, Some}
 use Rattle.event_listener.specs.declared.key.Key.{Key}
 use Rattle.channel_calls.specs.Blocks.{poll_woken}
 use Rattle.channel_calls.specs.declared.blocked.Blocked.{Blocked}
@@ -29,11 +29,11 @@ module _ {T : Type 0} where
     pub handle : HandleId
     pub lives : at op.0 r.operations ≡ Some (record { operation = operation_for b handle; poll_state = poll_state })
 
--- Where the operation isn't pending its poll is the call's first poll. Where it is pending, woken or not, its poll is the one that the
+-- Where the operation isn't pending its poll is the call's first poll. Where it is pending, its poll is the one that the
 -- call makes when it has woken, but that this asks the listener first; and so is the poll that is refused its task.
 pub record PollsByName (T : Type 0) : Type 0 where
   pub first : (b : Blocked T) (op : OpId) (r : NameTable T) → StandsFor b Rests op r → asks r (Poll op) ≡ first_poll b (Op op)
-  pub next : (b : Blocked T) (op : OpId) (r : NameTable T) (key : Key) (is_woken : Bool) → StandsFor b (Waits key is_woken) op r
+  pub next : (b : Blocked T) (op : OpId) (r : NameTable T) (key : Key) → StandsFor b (Waits key) op r
       → IsOrListens (asks r (Poll op)) (poll_woken b key (Op op))
-  pub refused : (b : Blocked T) (op : OpId) (r : NameTable T) (key : Key) (is_woken : Bool) → StandsFor b (Waits key is_woken) op r
+  pub refused : (b : Blocked T) (op : OpId) (r : NameTable T) (key : Key) → StandsFor b (Waits key) op r
       → asks r (PollRefused op) ≡ poll_refused b key

@@ -1,24 +1,21 @@
 -- Who is pending on which line, and how many messages calls under way have taken: numbers that a world tells.
-use Rattle.std.specs.Prelude.{ℕ, ◌+◌, Bool, true, false, List, [], ◌∷◌, Option, Some}
+use Rattle.std.specs.Prelude.{ℕ, ◌+◌, Bool, false, List, [], ◌∷◌, ◌++◌, map, Option, Some}
 use Rattle.std.specs.List.{count_by}
+use Rattle.std.specs.Map.{keys_of}
 use Rattle.channel_calls.specs.declared.stage.WaitList.{WaitList}
 use Rattle.channel_world_model.specs.Laws.{same_line}
-use Rattle.channel_world_runs.specs.Owed.{all_names, is_woken_on}
+use Rattle.channel_world_model.specs.declared.name.Waiter.{Waiter}
+use Rattle.channel_world_model.specs.declared.name.Waiter.TheVariants.{Op, Stream}
 use Rattle.channel_world_runs.specs.Owners.{NameStatus, waits, status_by, operation_status, stream_status, status}
 use Rattle.channel_world_runs.specs.declared.calls.CallUnderWay.{CallUnderWay}
 use Rattle.channel_world_runs.specs.declared.names.HandleEntry.{HandleEntry}
 use Rattle.channel_world_runs.specs.declared.names.OperationEntry.{OperationEntry}
 use Rattle.channel_world_runs.specs.declared.name_table.NameTable.{NameTable}
 
--- whether one that stands so is pending on this line, woken or not
+-- whether one that stands so is pending on this line
 abbrev pub is_pending_on : WaitList → NameStatus → Bool
-is_pending_on line (waits h is_woken) = same_line line h.line
+is_pending_on line (waits h) = same_line line h.line
 is_pending_on line other = false
-
--- whether one that stands so is pending on this line; and was woken, where only the woken are asked for
-abbrev pub stands_on : Bool → WaitList → NameStatus → Bool
-stands_on false line p = is_pending_on line p
-stands_on true line p = is_woken_on line p
 
 -- how a receiver's stream stands under a name that was taken
 abbrev pub stream_stance : Option HandleEntry → NameStatus
@@ -34,10 +31,10 @@ module _ {T : Type 0} where
   abbrev pub operation_stance : Option (OperationEntry T) → NameStatus
   operation_stance o = status_by (λ (x : OperationEntry T). operation_status x.operation x.poll_state) (Some o)
 
+  -- the names that were ever taken
+  abbrev pub all_names : NameTable T → List Waiter
+  all_names r = map (λ n. Op (record { 0 = n })) (keys_of r.operations) ++ map (λ n. Stream (record { 0 = n })) (keys_of r.handles)
+
   -- how many are pending on this line
   abbrev pub pending_on_line : WaitList → NameTable T → ℕ
   pending_on_line line r = count_by (λ w. is_pending_on line (status r w)) (all_names r)
-
-  -- how many are pending on this line; of them those who were woken, where only these are asked for
-  abbrev pub standing_on_line : Bool → WaitList → NameTable T → ℕ
-  standing_on_line only_woken line r = count_by (λ w. stands_on only_woken line (status r w)) (all_names r)

@@ -17,6 +17,7 @@ use Rattle.channel_steps.specs.every_run.BridgeHeadline.{KeepsTheHeadline}
 use Rattle.channel_world_runs.specs.AskedBy.{IsOrListens, IsStepOf}
 use Rattle.channel_world_runs.specs.Bookkeeping.{asks}
 use Rattle.channel_world_runs.specs.Owed.{Owed}
+use Rattle.channel_world_runs.specs.Order.{no_places}
 use Rattle.channel_world_runs.specs.Refusal.{begin_refusal, step_refusal}
 use Rattle.channel_world_runs.specs.NameTable.{first_name_table}
 use Rattle.channel_world_runs.specs.Run.{NameState, IsNameStateOf, name_state_begun}
@@ -37,7 +38,7 @@ pub record NamedMoment (T S : Type 0) : Type 0 where
 module _ {T : Type 0} where
   -- the name state of a channel that was just opened: its first sender and its first receiver live, and nobody is at work
   abbrev pub first_name_state : NameState T
-  first_name_state = record { name_table = first_name_table; order = []; agents = [] }
+  first_name_state = record { name_table = first_name_table; order = no_places; agents = [] }
 
 module _ {T S : Type 0} (wakes : S → Waiter → S → Type 0) where
   -- ---- what is asked
@@ -70,12 +71,12 @@ module _ {T S : Type 0} (wakes : S → Waiter → S → Type 0) where
     pub name_state : IsNameStateOf x.by_name e.reply e.kept names m.name_state n.name_state
     -- beside one who is pending and was not woken, there is no message, free place or closing but such as a woken one or a call
     -- under way answers for
-    pub owed : Owed (observation_at n.name_state.name_table n.merge.configuration)
+    pub owed : Owed (observation_at n.name_state n.merge.configuration)
 
   -- the run that a merge is, as its headline tells it, is one by names from the opening of a channel
   pub record IsByNames {form : QueueForm} {events : List (Happening T Waiter)} {given : ℕ → List (Completed T)} {sink : S}
       {last : Parts T Waiter} {woken : S} (k : KeepsTheHeadline wakes form events given sink last woken) : Type 0 where
-    pub at_first : Owed {T = T} (observation_at first_name_table (new_configuration (capacity_of form)))
+    pub at_first : Owed {T = T} (observation_at first_name_state (new_configuration (capacity_of form)))
     pub steps : List (NamedStep T)
     pub to : NamedMoment T S
     pub run : IsRun SaysByNames (record { name_state = first_name_state; merge = just_opened form sink }) steps k.is.trace to

@@ -2,8 +2,7 @@
 use Rattle.std.specs.Prelude.{◌≡◌, length}
 use Rattle.channel_world_model.specs.Settling.{pending_count}
 use Rattle.channel_world_runs.specs.Pending.{stands_pending, how_many}
-use Rattle.channel_world_runs.specs.NameTable.{is_woken}
-use Rattle.channel_world.specs.View.{names_in, messages_in, calls_in, at_rest, IsQuiet, WorldView}
+use Rattle.channel_world.specs.View.{names_in, woken_in, messages_in, calls_in, at_rest, IsQuiet, WorldView}
 
 module _ {T : Type 0} where
   -- the messages that it tells are as many as its list has
@@ -16,7 +15,7 @@ module _ {T : Type 0} where
 
   -- and those of them who were woken as many as stand in that order
   abbrev pub WokenAtRest : WorldView T → Type 0
-  WokenAtRest w = IsQuiet w → how_many is_woken (names_in w) ≡ length (at_rest w).waiting.woken
+  WokenAtRest w = IsQuiet w → length (woken_in w) ≡ length (at_rest w).waiting.woken
 
   -- no call is under way just where it tells that none is
   pub record CallsAtRest (w : WorldView T) : Type 0 where

@@ -47,7 +47,7 @@ module _ {T : Type 0} where
     pub begun : Each (λ u. BeginsItsMarks u) m.configuration.under_way
     -- beside one who is pending and was not woken, there is no message, free place or closing but such as a woken one or a call
     -- under way answers for
-    pub owed : Owed (observation_at m.name_state.name_table m.configuration)
+    pub owed : Owed (observation_at m.name_state m.configuration)
     -- the channel is closed or not and holds so many messages as its queue's words say; and each message lies in the slot that
     -- they name for it alone, without a bound by the blocks that the queue has used, or is with the call that is yet to put it there
     pub words : WordsSay m.parts.cells (active_calls world) m.configuration

@@ -11,7 +11,6 @@ use Rattle.channel_world_model.specs.declared.call.Call.{Call}
 use Rattle.channel_world_model.specs.declared.call.Call.TheVariants as call
 use Rattle.channel_world_model.specs.declared.name.Waiter.{Waiter}
 use Rattle.channel_world_runs.specs.WorldState.{parts_in}
-use Rattle.channel_world_runs.specs.OwnerOrder.{woken_in}
 use Rattle.channel_world_runs.specs.NameTable.{names_of}
 use Rattle.channel_world_runs.specs.declared.world_state.WorldState.{WorldState}
 
@@ -45,7 +44,7 @@ module _ {T : Type 0} where
   at_rest f = record {
     channel = channel_of (parts_in f);
     names = names_of f.name_table;
-    waiting = waiting_in (parts_in f).wait_lists (woken_in f.name_table f.order);
+    waiting = waiting_in (parts_in f).wait_lists f.order.woken;
   }
 
   -- how many a call may wake at most

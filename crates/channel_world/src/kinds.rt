@@ -1,65 +1,57 @@
 //! Those who are pending, and those of them who were woken, line by line; and what calls under way have taken.
 
 ghost use Rattle.std.specs.Prelude.{◌≡◌};
-ghost use Rattle.channel_world.specs.Kinds.{operation_stance, stands_on, stream_stance};
+ghost use Rattle.channel_world.specs.Kinds.{is_pending_on, operation_stance, stream_stance};
 
 use super::world::World;
 use channel_calls::stage::WaitList;
 use channel_world_model::name::HandleKind;
 use channel_world_runs::names::{HandleEntry, OperationEntry};
 
-/// Whether an operation is pending on this line; and was woken, where only the woken are asked for.
-fn stands_on<T>(line: WaitList, only_woken: bool, operation: &Option<OperationEntry<T>>) -> bool
-    ensures { result ≡ stands_on only_woken line (operation_stance operation.now) }
+/// Whether an operation is pending on this line.
+fn pends_on<T>(line: WaitList, operation: &Option<OperationEntry<T>>) -> bool
+    ensures { result ≡ is_pending_on line (operation_stance operation.now) }
 {
     matches!(operation, Some(entry)
-        if entry.poll_state.is_counted(only_woken) && entry.operation.is_on(line))
+        if entry.poll_state.is_pending() && entry.operation.is_on(line))
 }
 
-/// Whether a receiver's stream is pending on this line; and was woken, where only the woken are asked for.
-fn streams_on(line: WaitList, only_woken: bool, handle_entry: &Option<HandleEntry>) -> bool
-    ensures { result ≡ stands_on only_woken line (stream_stance handle_entry.now) }
+/// Whether a receiver's stream is pending on this line.
+fn streams_on(line: WaitList, handle_entry: &Option<HandleEntry>) -> bool
+    ensures { result ≡ is_pending_on line (stream_stance handle_entry.now) }
 {
     matches!((line, handle_entry), (WaitList::Streams, Some(entry))
         if matches!(entry.handle.kind, HandleKind::Receiver)
-            && entry.poll_state.is_counted(only_woken))
+            && entry.poll_state.is_pending())
 }
 
 impl<T: Drop> World<T> {
     ghost use Rattle.std.specs.Prelude.{◌≡◌, ◌<◌, ◌^◌, IfSome, IsSome};
     ghost use Rattle.channel_world_runs.specs.Owed.{woken_on};
-    ghost use Rattle.channel_world.specs.Kinds.{pending_on_line, standing_on_line};
-    ghost use Rattle.channel_world.specs.View.{names_in, taken_in};
-
-    /// How many are pending on this line; of them those who were woken, where only these are asked for. A walk over all names.
-    fn standing_on(&self, line: WaitList, only_woken: bool) -> usize
-        ensures { result ≡ standing_on_line only_woken line (names_in self.now) }
-    {
-        self.keeps_names();
-        let operations = self.world_state.name_table.operations.iter();
-        let operations = operations
-            .filter(|(_, x)| stands_on(line, only_woken, *x))
-            .count();
-        let streams = self.world_state.name_table.handles.iter();
-        let streams = streams
-            .filter(|(_, x)| streams_on(line, only_woken, *x))
-            .count();
-        operations + streams
-    }
+    ghost use Rattle.channel_world.specs.Kinds.{pending_on_line};
+    ghost use Rattle.channel_world.specs.View.{names_in, taken_in, woken_in};
 
     /// How many are pending on this line: they live, their last poll ended so, and no poll of them is under way. A walk over all
     /// names. Own to this project.
     pub fn pending_of(&self, line: WaitList) -> usize
         ensures { result ≡ pending_on_line line (names_in self.now) }
     {
-        self.standing_on(line, false)
+        self.keeps_names();
+        let operations = self.world_state.name_table.operations.iter();
+        let operations = operations.filter(|(_, x)| pends_on(line, *x)).count();
+        let streams = self.world_state.name_table.handles.iter();
+        let streams = streams.filter(|(_, x)| streams_on(line, *x)).count();
+        operations + streams
     }
 
-    /// How many of those who are pending on this line were woken since their last poll. A walk over all names. Own to this project.
+    /// How many of those who are pending on this line were woken since their last poll. A walk over all names that are polled or
+    /// pending. Own to this project.
     pub fn woken_of(&self, line: WaitList) -> usize
-        ensures { result ≡ woken_on line (names_in self.now) }
+        ensures { result ≡ woken_on line (names_in self.now) (woken_in self.now) }
     {
-        self.standing_on(line, true)
+        self.world_state
+            .order
+            .count_woken_on(&self.world_state.name_table, line)
     }
 
     /// How many messages the calls under way have taken: of these are the places that they have freed and not announced yet. None

@@ -116,7 +116,7 @@ impl<T: Drop> World<T> {
         ensures { IfOk result (λ names. names.items ≡ (at_rest self.now).waiting.woken) }
     {
         let state = &self.world_state;
-        state.order.woken(&state.name_table, state.alloc)
+        state.order.woken(state.alloc)
     }
 
     /// Those who are woken, and room for all that settling answers. None where it was refused, or where somebody is woken and the queue has

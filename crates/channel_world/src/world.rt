@@ -109,7 +109,6 @@ impl<T: Drop> World<T> {
     ghost use Rattle.channel_world_model.specs.declared.name.Waiter.{Waiter};
     ghost use Rattle.channel_steps.specs.Configuration.{Configuration};
     ghost use Rattle.channel_world_runs.specs.Apart.{AreApart};
-    ghost use Rattle.channel_world_runs.specs.NameTable.{is_woken};
     ghost use Rattle.channel_world_runs.specs.Pending.{stands_pending, how_many};
     ghost use Rattle.channel_world_runs.specs.Run.{StopsAt};
     ghost use Rattle.channel_world_runs.specs.Runs.{accepted_in, left_in};
@@ -118,7 +117,7 @@ impl<T: Drop> World<T> {
     ghost use Rattle.channel_world.specs.Headline.{Headline};
     ghost use Rattle.channel_world.specs.StepsLeft.{EndsInFront};
     ghost use Rattle.channel_world.specs.TheEnd.{NothingComesAfter};
-    ghost use Rattle.channel_world.specs.View.{names_in, messages_in, capacity_in, is_closed, calls_in, at_rest, name_state_of, TellsQuiet, HasPositions, StandsIn, Stands, RanTo};
+    ghost use Rattle.channel_world.specs.View.{names_in, woken_in, messages_in, capacity_in, is_closed, calls_in, at_rest, name_state_of, TellsQuiet, HasPositions, StandsIn, Stands, RanTo};
 
     /// Runs steps of any parties, from the front. The first one that is refused stays in front, with nothing of it done;
     /// `stopped` says at which place of the list, counted from 0, and why.
@@ -235,11 +234,12 @@ impl<T: Drop> World<T> {
         self.world_state.name_table.count_pending()
     }
 
-    /// How many of those that are pending were woken since their last poll. A walk over all names. Own to this project.
+    /// How many of those that are pending were woken since their last poll. A walk over all names that are polled or pending. Own to
+    /// this project.
     pub fn woken(&self) -> usize
-        ensures { result ≡ how_many is_woken (names_in self.now) }
+        ensures { result ≡ length (woken_in self.now) }
     {
-        self.world_state.name_table.count_woken()
+        self.world_state.order.count_woken()
     }
 }
 

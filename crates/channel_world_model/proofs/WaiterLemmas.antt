@@ -69,10 +69,6 @@ rest_apart w ws d = d.1
 -- ---- entries under names
 
 module _ {X : Type 0} (w : Waiter) where
-  pub no_entry : (es : List (Waiter × X)) → is_among w (keys_of es) ≡ false → lookup_entry (same_waiter w) es ≡ None
-  no_entry [] e = refl
-  no_entry (f ∷ es) e = let h = or_false (same_waiter w f.0) (is_among w (keys_of es)) e in rw h.0 (no_entry es h.1)
-
   pub entry_is : (es : List (Waiter × X)) (g : Waiter × X) → lookup_entry (same_waiter w) es ≡ Some g → same_waiter w g.0 ≡ true
   entry_is [] g e = cc e
   entry_is (f ∷ es) g e = elim (decided (same_waiter w f.0)) [

@@ -19,20 +19,21 @@ use Rattle.channel_steps.specs.Run as start
 use Rattle.channel_steps.specs.Configuration.{ActiveCall, Configuration, Steps, Known, AllKnown, sees, does, unless_ended}
 use Rattle.channel_steps.specs.declared.party.Entry.{Entry}
 use Rattle.channel_world_runs.specs.AskedBy.{IsOrListens}
-use Rattle.channel_world_runs.specs.Bookkeeping.{asks, on_return_of, written_back, all_woken}
+use Rattle.channel_world_runs.specs.Bookkeeping.{asks, on_return_of, written_back}
 use Rattle.channel_world_runs.specs.Counted.{tally, is_lowering, is_closing, is_raising, makes_strong, CountsSide, Counted}
-use Rattle.channel_world_runs.specs.Owners.{NameStatus, status, wait_of, Suits, Together, Owned}
+use Rattle.channel_world_runs.specs.Owners.{NameStatus, status, wait_of, Together, Owned}
 use Rattle.channel_world_runs.specs.NameTable.{first_name_table}
+use Rattle.channel_world_runs.specs.Order.{WakeOrder, no_places}
 use Rattle.channel_world_runs.specs.Run.{NameState, name_state_begun, with_woken}
 use Rattle.channel_world_runs.specs.Calls.{Agent}
 use Rattle.channel_world_runs.specs.declared.step.PartyId.{PartyId}
 use Rattle.channel_world_runs.proofs.AskStarts.{asks_lowering, asks_raising, lowering_same, raising_same, Starts, starts}
 use Rattle.channel_world_runs.proofs.CountBegins.{BeginsSo, begins_so}
 use Rattle.channel_world_runs.proofs.CountClosings.{closing_shuts, last_closes}
-use Rattle.channel_world_runs.proofs.CountNames.{bit, woken_live, settled_live}
+use Rattle.channel_world_runs.proofs.CountNames.{bit, settled_live}
 use Rattle.channel_world_runs.proofs.CountTurns.{Turns, turns}
-use Rattle.channel_world_runs.proofs.OwnerRuns.{mid_busy, parts, IsAfter, ended_as}
-use Rattle.channel_world_runs.proofs.OwnerTogether.{busy, suits_on, Parted}
+use Rattle.channel_world_runs.proofs.OwnerRuns.{parts, IsAfter, ended_as}
+use Rattle.channel_world_runs.proofs.OwnerTogether.{Parted}
 
 -- ---- lists
 
@@ -57,7 +58,7 @@ one_of false = inr refl
 module _ {T : Type 0} where
   -- ---- a channel that was just opened
 
-  pub counted_first : (cap : Option ℕ) → Counted {T = T} (record { name_table = first_name_table; order = []; agents = [] }) (new_configuration cap)
+  pub counted_first : (cap : Option ℕ) → Counted {T = T} (record { name_table = first_name_table; order = no_places; agents = [] }) (new_configuration cap)
   counted_first cap Senders = record { counts = omega arith; opened = λ o. inl (omega arith); makers = refl }
   counted_first cap Receivers = record { counts = omega arith; opened = λ o. inl (omega arith); makers = refl }
 
@@ -278,9 +279,8 @@ module _ {T : Type 0} where
       let turn = step.0 in
       let had = tally_was b s t p m None kp names o known st stays counted side (λ at. is_lowering side at) in
       let has = tally_is b s t p m None kp names o known st stays counted side (λ at. is_lowering side at) in
-      let live = woken_live side names b.name_table in
       record {
-        counts = omega (arith, c, turn, had, has, live);
+        counts = omega (arith, c, turn, had, has);
         opened = still_opened b s t p m None kp names o known st stays counted side;
         makers = (counted side).makers ∙ (was ∙ (ap middle (sym step.1) ∙ sym is));
       }
@@ -305,20 +305,19 @@ module _ {T : Type 0} where
   -- it ends, and writes back what it has to
   counted_ends : (b : NameState T) (s t : Configuration T Waiter) (p : ℕ) (m : Mark) (y : Reply T) (kp : Option (Returned T)) (names : List Waiter)
       (o : Owned b s) (known : AllKnown s.now s.under_way) (st : Steps s p (record { mark = m; reply = Some y; kept = kp }) names t)
-      (kept : Returned T) (order : List Waiter) → (Shut s.now → Shut t.now) → Counted b s
+      (kept : Returned T) (order : WakeOrder) → (Shut s.now → Shut t.now) → Counted b s
       → (let pt = parts b s t p m (Some y) kp names o known st in
-      Counted (record { name_table = written_back pt.agent.on_return y kept (all_woken names b.name_table); order = order; agents = pt.front ++ pt.back }) t)
+      Counted (record { name_table = written_back pt.agent.on_return y kept b.name_table; order = order; agents = pt.front ++ pt.back }) t)
   counted_ends b s t p m y kp names o known st kept order stays counted side =
       let c = (counted side).counts in
       let step = turned b s t p m (Some y) kp names o known st stays counted side in
       let had = tally_was b s t p m (Some y) kp names o known st stays counted side (λ at. is_lowering side at) in
       let has = tally_is b s t p m (Some y) kp names o known st stays counted side (λ at. is_lowering side at) in
-      let live = woken_live side names b.name_table in
-      let back = settled_live side pt.agent.on_return y kept (wait_of st.mine.ask) (all_woken names b.name_table) own_suits in
+      let back = settled_live side pt.agent.on_return y kept (wait_of st.mine.ask) b.name_table pt.own.suits in
       let same : bit (makes_strong side pt.agent.on_return && is_made (Some y)) ≡ bit (is_raising side st.mine.at && is_made (Some y)) =
       ap (λ (x : Bool). bit (x && is_made (Some y))) two.own in
       record {
-        counts = omega (arith, c, step, had, has, live, back, same);
+        counts = omega (arith, c, step, had, has, back, same);
         opened = still_opened b s t p m (Some y) kp names o known st stays counted side;
         makers = makers;
       }
@@ -334,11 +333,6 @@ module _ {T : Type 0} where
 
       two : Apart makes may pt.front pt.agent pt.back st.before st.mine st.behind
       two = pairs b s t p m (Some y) kp names o known st stays counted side
-
-      own_suits : Suits (status (all_woken names b.name_table)) pt.agent.on_return (wait_of st.mine.ask)
-      own_suits =
-          suits_on (status b.name_table) (status (all_woken names b.name_table)) pt.agent.on_return (wait_of st.mine.ask)
-          (λ v e. mid_busy names b.name_table v (busy (status b.name_table) pt.agent.on_return (wait_of st.mine.ask) v pt.own.suits e)) pt.own.suits
 
       makers : map makes (pt.front ++ pt.back) ≡ map may t.under_way
       makers =

@@ -14,7 +14,7 @@ use Rattle.channel_world_model.specs.declared.name.HandleKind.{HandleKind}
 use Rattle.channel_world_model.specs.declared.name.HandleKind.TheVariants as handle_kind
 use Rattle.channel_world_model.specs.declared.name.Waiter.{Waiter}
 use Rattle.channel_world_model.specs.declared.name.Waiter.TheVariants.{Op, Stream}
-use Rattle.channel_world_runs.specs.Bookkeeping.{written_back, installed, with_one_woken, all_woken, handed_over_by}
+use Rattle.channel_world_runs.specs.Bookkeeping.{written_back, installed, handed_over_by}
 use Rattle.channel_world_runs.specs.Counted.{is_strong, strong_lives, live_on, makes_strong}
 use Rattle.channel_world_runs.specs.Owners.{NameStatus, free, retired, no_stream_status, stream_status, status, status_by, Suits}
 use Rattle.channel_world_runs.specs.NameTable.{poll_state_with, unused, used_more, used_less, borrowed_more, handed_over, with_handle, with_lent, with_given_back, with_borrowed, with_poll_state}
@@ -88,7 +88,7 @@ none_vacant x h = h
 
 not_vacant : (k : HandleKind) (s : PollState) → IsVacant (stream_status k s) → ⊥
 not_vacant handle_kind.Receiver Rests h = h
-not_vacant handle_kind.Receiver (Waits key is_woken) h = h
+not_vacant handle_kind.Receiver (Waits key) h = h
 not_vacant handle_kind.Receiver (IsPolled brings) h = h
 not_vacant x s h = none_vacant s h
 
@@ -136,14 +136,6 @@ module _ {T : Type 0} where
   pub poll_state_live : (side : Side) (s : PollState) (handle : HandleId) (r : NameTable T)
       → live_on side (with_poll_state s handle r).handles ≡ live_on side r.handles
   poll_state_live side s handle r = handle_live side (λ (h : HandleEntry). record h { poll_state = s }) handle r (λ h. refl)
-
-  -- ---- wakes
-
-  pub woken_live : (side : Side) (names : List Waiter) (r : NameTable T) → live_on side (all_woken names r).handles ≡ live_on side r.handles
-  woken_live side [] r = refl
-  woken_live side (Op op ∷ names) r = woken_live side names (with_one_woken (Op op) r)
-  woken_live side (Stream handle ∷ names) r =
-      woken_live side names (with_one_woken (Stream handle) r) ∙ handle_live side _ handle r (λ h. refl)
 
   -- ---- the end of a call
 

@@ -98,9 +98,9 @@ module _ {T : Type 0} where
       let idle = idle_and_free p c b fine in left_facts.none_at_work (status b.name_table) p.0 b.agents s.under_way k.owned.together idle.0
 
   -- what a moment shows, it owes
-  pub owed_at : (b : NameState T) (s : Configuration T Waiter) → WorldInvariant b s → Owed (observation_at b.name_table s)
-  owed_at b s k = observation_facts.owed_at b s k.owned k.sound
+  pub owed_at : (b : NameState T) (s : Configuration T Waiter) → WorldInvariant b s → Owed (observation_at b s)
+  owed_at b s k = observation_facts.owed_at b s k.owned k.woken k.sound
 
   -- also where polls ask their listeners first
-  pub names_owed_at : (b : NameState T) (s : Configuration T Waiter) → NamesKept b s → Owed (observation_at b.name_table s)
-  names_owed_at b s k = observation_facts.owed_at b s k.owned k.sound
+  pub names_owed_at : (b : NameState T) (s : Configuration T Waiter) → NamesKept b s → Owed (observation_at b s)
+  names_owed_at b s k = observation_facts.owed_at b s k.owned k.woken k.sound

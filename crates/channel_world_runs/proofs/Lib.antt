@@ -1,4 +1,5 @@
 pub mod LruLemmas
+pub mod NoLonger
 pub mod RefusalLemmas
 pub mod WokenFacts
 mod ReachesFacts
@@ -22,7 +23,6 @@ pub mod OwnerRuns
 pub mod OwnerWokenLists
 pub mod OwnerWokenMoves
 pub mod OwnerWoken
-pub mod OwnerWokenRuns
 pub mod OwnerPolled
 pub mod AccountFacts
 pub mod WorldInvariant
@@ -46,12 +46,7 @@ pub mod CountClosings
 pub mod CountFacts
 pub mod PositionFacts
 pub mod PlaceFacts
-pub mod OwnerOrderWithin
-pub mod OwnerOrderLists
 pub mod OwnerOrderNames
-pub mod OwnerOrderWakes
-pub mod OwnerOrder
-pub mod OwnerOrderRuns
 pub mod LeftFacts
 pub mod WorldStateFacts
 pub mod PendingFacts

@@ -23,7 +23,7 @@ use Rattle.channel_world_runs.specs.Positions.{brings, accepted_by, is_one_place
 use Rattle.channel_world_runs.specs.Refusal.{begin_refusal}
 use Rattle.channel_world_runs.specs.Run.{NameState}
 use Rattle.channel_world_runs.specs.Reaches.{Reaches, reply_of}
-use Rattle.channel_world_runs.specs.Order.{order_begun}
+use Rattle.channel_world_runs.specs.Order.{WakeOrder, order_begun}
 use Rattle.channel_world_runs.specs.declared.beginning.Begun.{Begun}
 use Rattle.channel_world_runs.specs.declared.name_table.NameTable.{NameTable}
 use Rattle.channel_world_runs.specs.declared.world_state.WorldState.{WorldState}
@@ -96,10 +96,10 @@ module _ {T : Type 0} where
     by false e = none sh.positions
 
   -- a call that begins where no other is under way, and is made to its end, is made alone
-  pub is_called : (c : Call T) (old new : WorldState T) (names : NameTable T) (order : List Waiter) (begun : Begun T) (b : Bool) (before : Vec Waiter)
+  pub is_called : (c : Call T) (old new : WorldState T) (names : NameTable T) (order : WakeOrder) (begun : Begun T) (b : Bool) (before : Vec Waiter)
       (d : Answered T) (room : ℕ)
       → FinishesAlone begun b before (record old { name_table = names; order = order }) d new → BeginsByName old.name_table c begun names
-      → order ≡ order_begun c old.order → b ≡ brings old.name_table c → IsQuiet old → BringsWithin c old
+      → ((s : Configuration T Waiter) → WorldInvariant (name_state_of old) s → order ≡ order_begun c old.order) → b ≡ brings old.name_table c → IsQuiet old → BringsWithin c old
       → length before.items + room ≤ vec_capacity before → WakesAtMost room c old
       → CallsAlone c old d.reply (drop (length before.items) d.woken.items) new
   is_called c old new names order begun b before d room made by_name placed may quiet place_left enough few s sh all =
@@ -138,7 +138,7 @@ module _ {T : Type 0} where
           activities = rw (still, run.over) refl;
           few = subst (λ (us : List (ActiveCall T Waiter)). All (TookFew r.after.now.queue.removed) us) (sym run.over) tt;
         };
-        name_state = rw (made.name_table, made.order, by_name.on_return, by_name.names, placed, still, r.reply, r.kept, heard) refl;
+        name_state = rw (made.name_table, made.order, by_name.on_return, by_name.names, placed s all, still, r.reply, r.kept, heard) refl;
       }
 
   -- a call made alone leads from a configuration in which the channel stood to one in which it stands

@@ -31,8 +31,7 @@ use Rattle.channel_steps.specs.Configuration.{Configuration, all_seats}
 use Rattle.channel_world_runs.specs.Bookkeeping.{asks}
 use Rattle.channel_world_runs.specs.WorldState.{parts_in, name_state_of, Shown, Stands}
 use Rattle.channel_world_runs.specs.WorldInvariant.{WorldInvariant}
-use Rattle.channel_world_runs.specs.OwnerOrder.{was_woken}
-use Rattle.channel_world_runs.specs.OwnerWoken.{IsTold}
+use Rattle.channel_world_runs.specs.OwnerWoken.{IsTold, IsMarked}
 use Rattle.channel_world_runs.specs.Owners.{IsAmong, free, retired, invalid, rests, waits, polled, no_stream_status, stream_status, operation_status, status_by, status}
 use Rattle.channel_world_runs.specs.NameTable.{key_of, names_of, held_of}
 use Rattle.channel_world_runs.specs.Settle.{IsWoken}
@@ -44,7 +43,7 @@ use Rattle.channel_world_runs.specs.declared.names.PollState.TheVariants.{Rests,
 use Rattle.channel_world_runs.specs.declared.name_table.NameTable.{NameTable}
 use Rattle.channel_world_runs.proofs.OwnerLists.{same_self}
 use Rattle.channel_world_runs.proofs.RefusalLemmas.{operation_at}
-use Rattle.channel_world_runs.proofs.WokenPolls.{among_filter, woken_waits}
+use Rattle.channel_world_runs.proofs.OwnerOrderNames.{among_is}
 
 -- one that was told is listed
 told_there : (key : Key) (xs : List (Key × Notice Unit)) → IsAmong key (keys_of xs) → is_some (lookup (same_key key) xs) ≡ true
@@ -68,14 +67,14 @@ told_listed h a i =
     by false waiting e = cc e
 
 -- what is no receiver is pending as no stream
-no_stream : (s : PollState) (h : ListenerRef) → no_stream_status s ≡ waits h true → ⊥
-no_stream Rests h e = let no : rests Streams ≡ waits h true = e in cc
-no_stream x h e = let no : invalid ≡ waits h true = e in cc
+no_stream : (s : PollState) (h : ListenerRef) → no_stream_status s ≡ waits h → ⊥
+no_stream Rests h e = let no : rests Streams ≡ waits h = e in cc
+no_stream x h e = let no : invalid ≡ waits h = e in cc
 
 -- who waits with this listener holds it, on its own line
-same_held : (line : WaitList) (key : Key) (z : Bool) (h : ListenerRef) → waits (record { line = line; key = key }) z ≡ waits h true
+same_held : (line : WaitList) (key : Key) (h : ListenerRef) → waits (record { line = line; key = key }) ≡ waits h
     → (let mine : ListenerRef = record { line = line; key = key } in mine) ≡ h
-same_held line key z h e = cc e
+same_held line key h e = cc e
 
 module _ {T : Type 0} where
   -- a send that may be woken is on a channel with a bound
@@ -83,29 +82,29 @@ module _ {T : Type 0} where
   MayWait h p = h.line ≡ Sends → is_some (capacity_of p.cells.form) ≡ true
 
   module _ (p : Parts T Waiter) (h : ListenerRef) (there : IsThere h p.wait_lists) (bound : MayWait h p) where
-    by_operation : (key : Option Key) (op : OpId) (x : Operation T) (s : PollState) → key ≡ key_of s → operation_status x s ≡ waits h true
+    by_operation : (key : Option Key) (op : OpId) (x : Operation T) (s : PollState) → key ≡ key_of s → operation_status x s ≡ waits h
         → HasNode (poll_asked key op (Some x)) p
-    by_operation key op (live.Send g None) Rests e f = absurd (let no : rests Sends ≡ waits h true = f in cc)
-    by_operation key op (live.Send g None) (Waits own z) e f = absurd (let no : invalid ≡ waits h true = f in cc)
-    by_operation key op (live.Send g None) (IsPolled z) e f = absurd (let no : polled Sends ≡ waits h true = f in cc)
-    by_operation key op (live.Send g (Some m)) Rests e f = absurd (let no : rests Sends ≡ waits h true = f in cc)
-    by_operation key op (live.Send g (Some m)) (IsPolled z) e f = absurd (let no : polled Sends ≡ waits h true = f in cc)
-    by_operation key op (live.Send g (Some m)) (Waits own z) e f =
-        let same = same_held Sends own z h f in
+    by_operation key op (live.Send g None) Rests e f = absurd (let no : rests Sends ≡ waits h = f in cc)
+    by_operation key op (live.Send g None) (Waits own) e f = absurd (let no : invalid ≡ waits h = f in cc)
+    by_operation key op (live.Send g None) (IsPolled z) e f = absurd (let no : polled Sends ≡ waits h = f in cc)
+    by_operation key op (live.Send g (Some m)) Rests e f = absurd (let no : rests Sends ≡ waits h = f in cc)
+    by_operation key op (live.Send g (Some m)) (IsPolled z) e f = absurd (let no : polled Sends ≡ waits h = f in cc)
+    by_operation key op (live.Send g (Some m)) (Waits own) e f =
+        let same = same_held Sends own h f in
         (rw e (subst (λ (x : ListenerRef). IsThere x p.wait_lists) (sym same) there), bound (ap (λ (x : ListenerRef). x.line) (sym same)))
-    by_operation key op (live.Receive g) Rests e f = absurd (let no : rests Receives ≡ waits h true = f in cc)
-    by_operation key op (live.Receive g) (IsPolled z) e f = absurd (let no : polled Receives ≡ waits h true = f in cc)
-    by_operation key op (live.Receive g) (Waits own z) e f =
-        rw e (subst (λ (x : ListenerRef). IsThere x p.wait_lists) (sym (same_held Receives own z h f)) there)
-    by_operation key op (live.Closing g) Rests e f = absurd (let no : rests Closings ≡ waits h true = f in cc)
-    by_operation key op (live.Closing g) (IsPolled z) e f = absurd (let no : polled Closings ≡ waits h true = f in cc)
-    by_operation key op (live.Closing g) (Waits own z) e f =
-        rw e (subst (λ (x : ListenerRef). IsThere x p.wait_lists) (sym (same_held Closings own z h f)) there)
+    by_operation key op (live.Receive g) Rests e f = absurd (let no : rests Receives ≡ waits h = f in cc)
+    by_operation key op (live.Receive g) (IsPolled z) e f = absurd (let no : polled Receives ≡ waits h = f in cc)
+    by_operation key op (live.Receive g) (Waits own) e f =
+        rw e (subst (λ (x : ListenerRef). IsThere x p.wait_lists) (sym (same_held Receives own h f)) there)
+    by_operation key op (live.Closing g) Rests e f = absurd (let no : rests Closings ≡ waits h = f in cc)
+    by_operation key op (live.Closing g) (IsPolled z) e f = absurd (let no : polled Closings ≡ waits h = f in cc)
+    by_operation key op (live.Closing g) (Waits own) e f =
+        rw e (subst (λ (x : ListenerRef). IsThere x p.wait_lists) (sym (same_held Closings own h f)) there)
 
     operation_node : (r : NameTable T) (op : OpId) (o : Option (Option (OperationEntry T))) → lookup (nat_eq op.0) r.operations ≡ o
-        → status_by (λ (x : OperationEntry T). operation_status x.operation x.poll_state) o ≡ waits h true → HasNode (asks r (call.Poll op)) p
-    operation_node r op None e f = absurd (let no : free ≡ waits h true = f in cc)
-    operation_node r op (Some None) e f = absurd (let no : retired ≡ waits h true = f in cc)
+        → status_by (λ (x : OperationEntry T). operation_status x.operation x.poll_state) o ≡ waits h → HasNode (asks r (call.Poll op)) p
+    operation_node r op None e f = absurd (let no : free ≡ waits h = f in cc)
+    operation_node r op (Some None) e f = absurd (let no : retired ≡ waits h = f in cc)
     operation_node r op (Some (Some x)) e f =
         let there : at op.0 r.operations ≡ Some x = ap (λ (o : Option (Option (OperationEntry T))). option_map_or (λ (y : Option (OperationEntry T)). y) o None) e in
         let seen : at op.0 (names_of r).operations ≡ Some x.operation = operation_at r op.0 ∙ ap (option_map (λ (y : OperationEntry T). y.operation)) there in
@@ -114,24 +113,24 @@ module _ {T : Type 0} where
         (ap (λ (o : Option (OperationEntry T)). option_map_or (λ (y : OperationEntry T). key_of y.poll_state) o None) there) f)
 
     -- a receiver that is pending as a stream
-    by_stream : (k : HandleKind) (s : PollState) (key : Option Key) → key ≡ key_of s → stream_status k s ≡ waits h true
+    by_stream : (k : HandleKind) (s : PollState) (key : Option Key) → key ≡ key_of s → stream_status k s ≡ waits h
         → IsOnList Streams key p.wait_lists
-    by_stream handle_kind.Receiver Rests key e f = absurd (let no : rests Streams ≡ waits h true = f in cc)
-    by_stream handle_kind.Receiver (IsPolled z) key e f = absurd (let no : polled Streams ≡ waits h true = f in cc)
-    by_stream handle_kind.Receiver (Waits own z) key e f =
-        rw e (subst (λ (x : ListenerRef). IsThere x p.wait_lists) (sym (same_held Streams own z h f)) there)
+    by_stream handle_kind.Receiver Rests key e f = absurd (let no : rests Streams ≡ waits h = f in cc)
+    by_stream handle_kind.Receiver (IsPolled z) key e f = absurd (let no : polled Streams ≡ waits h = f in cc)
+    by_stream handle_kind.Receiver (Waits own) key e f =
+        rw e (subst (λ (x : ListenerRef). IsThere x p.wait_lists) (sym (same_held Streams own h f)) there)
     by_stream x s key e f = absurd (no_stream s h f)
 
     stream_node : (r : NameTable T) (receiver : HandleId) (o : Option (Option HandleEntry)) → lookup (nat_eq receiver.0) r.handles ≡ o
-        → status_by (λ (x : HandleEntry). stream_status x.handle.kind x.poll_state) o ≡ waits h true → HasNode (asks r (call.PollNext receiver)) p
-    stream_node r receiver None e f = absurd (let no : free ≡ waits h true = f in cc)
-    stream_node r receiver (Some None) e f = absurd (let no : retired ≡ waits h true = f in cc)
+        → status_by (λ (x : HandleEntry). stream_status x.handle.kind x.poll_state) o ≡ waits h → HasNode (asks r (call.PollNext receiver)) p
+    stream_node r receiver None e f = absurd (let no : free ≡ waits h = f in cc)
+    stream_node r receiver (Some None) e f = absurd (let no : retired ≡ waits h = f in cc)
     stream_node r receiver (Some (Some x)) e f =
         by_stream x.handle.kind x.poll_state (held_of r (Stream receiver))
         (ap (λ (o : Option (Option HandleEntry)). option_map_or (λ (y : HandleEntry). key_of y.poll_state)
         (option_map_or (λ (y : Option HandleEntry). y) o None) None) e) f
 
-    woken_node : (r : NameTable T) (w : Waiter) → status r w ≡ waits h true → HasNode (asks r (poll_of w)) p
+    woken_node : (r : NameTable T) (w : Waiter) → status r w ≡ waits h → HasNode (asks r (poll_of w)) p
     woken_node r (Op op) f = operation_node r op (lookup (nat_eq op.0) r.operations) refl f
     woken_node r (Stream receiver) f = stream_node r receiver (lookup (nat_eq receiver.0) r.handles) refl f
 
@@ -150,12 +149,17 @@ module _ {T : Type 0} where
           subst (λ (l : WaitList). IsAmong h.key (keys_of (listeners l s.now.wait_lists).told)) line told in
           absurd (subst (λ (l : Listeners Waiter). IsAmong h.key (keys_of l.told)) (unlisted e) sent)
 
+  marked_told : (w : Waiter) (woken : List Waiter) (h : ListenerRef) (c : Channel T Waiter) → IsAmong w woken → IsMarked w woken h c → IsTold h c
+  marked_told w woken h c i (inl m) = m.1
+  marked_told w woken h c i (inr m) = absurd (m.0 i)
+
   -- what is pending and was woken
   pub has_node : (f : WorldState T) (s : Configuration T Waiter) (w : Waiter) → Shown f s → WorldInvariant (name_state_of f) s → IsWoken w f
       → HasNode (asks f.name_table (poll_of w)) (parts_in f)
   has_node f s w sh kept woken =
-      let h = woken_waits (status f.name_table w) (among_filter (λ v. was_woken (status f.name_table v)) w f.order woken).0 in
-      let told : IsTold h.0 s.now = kept.woken.told w h.0 h.1 in
+      let among = among_is w f.order.woken woken in
+      let h = kept.woken.pending w among in
+      let told : IsTold h.0 s.now = marked_told w f.order.woken h.0 s.now among (kept.woken.stands w h.0 h.1) in
       let lists : s.now.wait_lists ≡ (parts_in f).wait_lists = ap (λ (c : Channel T Waiter). c.wait_lists) sh.shows.now in
       woken_node (parts_in f) h.0
       (told_listed h.0 (parts_in f).wait_lists

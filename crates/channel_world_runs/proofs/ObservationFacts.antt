@@ -27,7 +27,9 @@ use Rattle.channel_steps.specs.declared.party.Party.{Party}
 use Rattle.channel_world_runs.specs.Activity.{is_close, any_close, activity_of}
 use Rattle.channel_world_runs.specs.WorldState.{parties_of, activities_of, name_state_of, parts_in, observation_of, AreCounted, HasOnePlace, Shown, IsSame}
 use Rattle.channel_world_runs.specs.Owed.{Observation, Owed, is_sending, is_receiving, unannounced, all_unannounced, woken_on}
+use Rattle.channel_world_runs.specs.Order.{WakeOrder}
 use Rattle.channel_world_runs.specs.Owners.{All, AnyOf, Owned}
+use Rattle.channel_world_runs.specs.OwnerWoken.{WokenSound}
 use Rattle.channel_world_runs.specs.Run.{NameState}
 use Rattle.channel_world_runs.specs.ObservationAt.{unless_told, freed_by, all_freed, observation_at}
 use Rattle.channel_world_runs.specs.declared.activity.Activity.{Activity}
@@ -190,15 +192,15 @@ module _ {T : Type 0} where
     pub observation_owed : OwedIn (name_state_of f) s → Owed (observation_of f)
     observation_owed o = record {
       receives = λ name i.
-          let h = o.receives name i.0 i.1 in
+          let h = o.receives name i in
           omega (arith, h, sh.messages, by_role (λ (d : Activity). is_sending d.role), by_role (λ (d : Activity). is_receiving d.role));
       sends = λ name i is_open.
-          let h = o.sends name i.0 i.1 (closed_is_so ∙ is_open) in
-          subst (λ (c : Option ℕ). HasPlaces c ((observation_of f).messages + (woken_on Sends f.name_table + ((observation_of f).sending + (observation_of f).freed)))) (capacity_is f s sh)
+          let h = o.sends name i (closed_is_so ∙ is_open) in
+          subst (λ (c : Option ℕ). HasPlaces c ((observation_of f).messages + (woken_on Sends f.name_table f.order.woken + ((observation_of f).sending + (observation_of f).freed)))) (capacity_is f s sh)
           (places_noted _ _ _ _ _ sh.messages (by_role (λ (d : Activity). is_sending d.role)) h);
-      streams = λ name i some. stream (o.streams name i.0 i.1) some;
+      streams = λ name i some. stream (o.streams name i) some;
       closing = λ line name i shut.
-          let h = o.closing name (record { line = line; key = i.0 }) i.1 (closed_is_so ∙ shut) in
+          let h = o.closing line name i (closed_is_so ∙ shut) in
           let one = some_counts (λ (u : ActiveCall T Waiter). HasClosed u.marks) (λ (u : ActiveCall T Waiter). any_close u.marks) (λ u k. closed_is u.marks k) s.under_way h in
           omega (arith, one, by_role (λ (d : Activity). d.has_closed));
     } where
@@ -216,23 +218,24 @@ module _ {T : Type 0} where
   some_send s (inr i) some =
       some_counts (λ (u : ActiveCall T Waiter). configurations.is_sending u.ask ≡ true) (λ (u : ActiveCall T Waiter). configurations.is_sending u.ask) (λ u k. k) s.under_way i
 
-  pub owed_at : (b : NameState T) (s : Configuration T Waiter) → Owned b s → WakeInvariant s → Owed (observation_at b.name_table s)
-  owed_at b s owned sound =
-      let o : OwedIn b s = owed b s owned sound in
+  pub owed_at : (b : NameState T) (s : Configuration T Waiter) → Owned b s → WokenSound b s → WakeInvariant s → Owed (observation_at b s)
+  owed_at b s owned woken sound =
+      let o : OwedIn b s = owed b s owned woken sound in
       record {
-        receives = λ name i. o.receives name i.0 i.1;
-        sends = λ name i is_open. o.sends name i.0 i.1 is_open;
-        streams = λ name i some. some_send s (o.streams name i.0 i.1) some;
+        receives = o.receives;
+        sends = o.sends;
+        streams = λ name i some. some_send s (o.streams name i) some;
         closing = λ line name i shut.
             some_counts (λ (u : ActiveCall T Waiter). HasClosed u.marks) (λ (u : ActiveCall T Waiter). any_close u.marks) (λ u c. closed_is u.marks c) s.under_way
-            (o.closing name (record { line = line; key = i.0 }) i.1 shut);
+            (o.closing line name i shut);
       }
 
   -- ---- room that was taken changes nothing
 
-  abbrev observation_with : NameTable T → ℕ → PlainChannel T Waiter → List (CallUnderWay T) → Observation T
-  observation_with r n c calls = record {
+  abbrev observation_with : NameTable T → List Waiter → ℕ → PlainChannel T Waiter → List (CallUnderWay T) → Observation T
+  observation_with r woken n c calls = record {
     name_table = r;
+    woken = woken;
     messages = n;
     capacity = capacity_of (parts_of c).cells.form;
     closed = closed_in (parts_of c).cells;
@@ -244,7 +247,8 @@ module _ {T : Type 0} where
 
   pub observation_same : (g h : WorldState T) → IsSame g h → observation_of h ≡ observation_of g
   observation_same g h same =
-      ap (λ (r : NameTable T). observation_with r h.messages h.channel h.calls.items) same.name_table
-      ∙ (ap (λ (n : ℕ). observation_with g.name_table n h.channel h.calls.items) same.messages
-      ∙ (ap (λ (c : PlainChannel T Waiter). observation_with g.name_table g.messages c h.calls.items) same.channel
-      ∙ ap (λ (cs : List (CallUnderWay T)). observation_with g.name_table g.messages g.channel cs) same.calls))
+      ap (λ (r : NameTable T). observation_with r h.order.woken h.messages h.channel h.calls.items) same.name_table
+      ∙ (ap (λ (o : WakeOrder). observation_with g.name_table o.woken h.messages h.channel h.calls.items) same.order
+      ∙ (ap (λ (n : ℕ). observation_with g.name_table g.order.woken n h.channel h.calls.items) same.messages
+      ∙ (ap (λ (c : PlainChannel T Waiter). observation_with g.name_table g.order.woken g.messages c h.calls.items) same.channel
+      ∙ ap (λ (cs : List (CallUnderWay T)). observation_with g.name_table g.order.woken g.messages g.channel cs) same.calls)))

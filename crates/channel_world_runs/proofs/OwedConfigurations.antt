@@ -1,9 +1,8 @@
 -- What is owed, said of a configuration: that is proved first, and of the world by it.
 use Rattle.std.specs.Prelude.{◌≡◌, ℕ, ◌+◌, ◌≤◌, Bool, true, false, [], length, ◌⊎◌}
 use Rattle.std.specs.List.{count_by}
-use Rattle.event_listener.specs.declared.key.Key.{Key}
 use Rattle.channel_calls.specs.declared.ask.ChannelAsk.{ChannelAsk}
-use Rattle.channel_calls.specs.declared.stage.ListenerRef.{ListenerRef}
+use Rattle.channel_calls.specs.declared.stage.WaitList.{WaitList}
 use Rattle.channel_calls.specs.declared.stage.WaitList.TheVariants.{Sends, Receives, Streams}
 use Rattle.channel_world_model.specs.declared.name.Waiter.{Waiter}
 use Rattle.channel_steps.specs.Moments.{Open, Shut}
@@ -11,9 +10,9 @@ use Rattle.channel_steps.specs.Configuration.{ActiveCall, Configuration}
 use Rattle.channel_steps.specs.every_run.Closings.{HasClosed}
 use Rattle.channel_steps.specs.every_run.Sends.{HasPlaces}
 use Rattle.channel_world_runs.specs.Activity.{role_of}
-use Rattle.channel_world_runs.specs.Owed.{woken_on}
+use Rattle.channel_world_runs.specs.Owed.{IsUnwoken, woken_on}
 use Rattle.channel_world_runs.specs.Owed as world
-use Rattle.channel_world_runs.specs.Owners.{waits, status, AnyOf}
+use Rattle.channel_world_runs.specs.Owners.{AnyOf}
 use Rattle.channel_world_runs.specs.Run.{NameState}
 use Rattle.channel_world_runs.specs.ObservationAt.{all_freed}
 
@@ -36,11 +35,14 @@ module _ {T : Type 0} where
 
   -- the four lines
   pub record OwedIn (b : NameState T) (s : Configuration T Waiter) : Type 0 where
-    pub receives : (w : Waiter) (key : Key) → status b.name_table w ≡ waits (record { line = Receives; key = key }) false → length s.now.queue.items ≤ woken_on Receives b.name_table + at_it s
+    pub receives :
+        (w : Waiter) → IsUnwoken Receives w b.name_table b.order.woken
+        → length s.now.queue.items ≤ woken_on Receives b.name_table b.order.woken + at_it s
     pub sends :
-        (w : Waiter) (key : Key) → status b.name_table w ≡ waits (record { line = Sends; key = key }) false → Open s.now
-        → HasPlaces s.now.queue.capacity (length s.now.queue.items + (woken_on Sends b.name_table + to_send s))
+        (w : Waiter) → IsUnwoken Sends w b.name_table b.order.woken → Open s.now
+        → HasPlaces s.now.queue.capacity (length s.now.queue.items + (woken_on Sends b.name_table b.order.woken + to_send s))
     pub streams :
-        (w : Waiter) (key : Key) → status b.name_table w ≡ waits (record { line = Streams; key = key }) false
+        (w : Waiter) → IsUnwoken Streams w b.name_table b.order.woken
         → (s.now.queue.items ≡ []) ⊎ AnyOf (λ u. is_sending u.ask ≡ true) s.under_way
-    pub closing : (w : Waiter) (h : ListenerRef) → status b.name_table w ≡ waits h false → Shut s.now → AnyOf (λ u. HasClosed u.marks) s.under_way
+    pub closing :
+        (line : WaitList) (w : Waiter) → IsUnwoken line w b.name_table b.order.woken → Shut s.now → AnyOf (λ u. HasClosed u.marks) s.under_way

@@ -1,9 +1,8 @@
 -- How many are told: no more than those whose names are pending and woken, and the calls that have a listener in hand.
 use Rattle.std.proofs.Common.{zero, arith, ◌≡◌, ℕ, suc, nat_eq, ◌+◌, ◌≤◌, Bool, true, false, cond, if◌then◌else◌, List, [], ◌∷◌, ◌++◌, map, length, length-append, Option, None, Some, inl, inr, refl, sym, ap, ◌∙◌, subst}
-use Rattle.std.proofs.lemmas.Bool.Decides.{nat_tests}
 use Rattle.std.proofs.lemmas.List.Sums.{sum_by-cons}
 use Rattle.std.specs.List.{count_by}
-use Rattle.std.specs.Map.{lookup, keys_of}
+use Rattle.std.specs.Map.{keys_of}
 use Rattle.concurrent_queue.specs.Queue.{Phase, Stage, trying, displaced, appended, taken}
 use Rattle.concurrent_queue.specs.declared.call.QueueAsk.{QueueAsk}
 use Rattle.concurrent_queue.specs.declared.call.QueueAsk.TheVariants as queue
@@ -11,7 +10,7 @@ use Rattle.event_listener.specs.declared.key.Key.{Key}
 use Rattle.channel_calls.specs.Moves.{Channel}
 use Rattle.channel_calls.specs.declared.mark.Mark.{Mark}
 use Rattle.channel_calls.specs.declared.mark.Mark.TheVariants.{Append, Replace, Close}
-use Rattle.channel_calls.specs.Parts.{listeners}
+use Rattle.channel_calls.specs.Parts.{Listeners, listeners}
 use Rattle.channel_calls.specs.declared.ask.ChannelAsk.{ChannelAsk}
 use Rattle.channel_calls.specs.declared.ask.ChannelAsk.TheVariants as ask
 use Rattle.channel_calls.specs.declared.stage.Purpose.TheVariants as purpose
@@ -22,10 +21,8 @@ use Rattle.channel_calls.specs.declared.stage.Stage as stage
 use Rattle.channel_calls.specs.declared.stage.Stage.TheVariants.{Trying, Working}
 use Rattle.channel_calls.specs.declared.stage.ListStep.TheVariants.{TellReceive, TellSend, TellSends}
 use Rattle.channel_world_model.proofs.Awake.{line_sound, line_refl}
-use Rattle.channel_world_model.specs.Laws.{same_line}
-use Rattle.channel_world_model.specs.Names.{Directory}
+use Rattle.channel_world_model.specs.Laws.{is_line, line_at, same_line}
 use Rattle.channel_world_model.specs.declared.name.Waiter.{Waiter}
-use Rattle.channel_world_model.specs.declared.name.Waiter.TheVariants.{Op, Stream}
 use Rattle.channel_steps.specs.Known.{TryAt, HasTaken, StageAt, ToldAt}
 use Rattle.channel_steps.specs.Moments.{MarkedMoment, TookAll}
 use Rattle.channel_steps.specs.Configuration.{ActiveCall, Configuration, AllKnown}
@@ -33,9 +30,10 @@ use Rattle.channel_steps.specs.Tellings.{Telling, one_of, more_of, all_of, owed_
 use Rattle.channel_steps.specs.every_run.Amounts.{is_trying, is_trying_anew, total}
 use Rattle.channel_steps.specs.every_run.Receives.{has_appended, is_to_tell_receive, counts_for_receives}
 use Rattle.channel_steps.specs.every_run.Sends.{has_taken, has_displaced, is_to_tell_send, is_on_its_way, counts_for_sends}
-use Rattle.channel_world_runs.specs.Owed.{is_woken_on, all_names, woken_on}
-use Rattle.channel_world_runs.specs.Owners.{IsAmong, NoneTwice, AnyOf, NameStatus, free, waits, status_by, status, holding, line_asked, Together, HoldsIn, Holder, named, calling, Owned}
-use Rattle.channel_world_runs.specs.OwnerOrder.{woken_key, woken_keys}
+use Rattle.channel_world_runs.specs.NameTable.{names_of}
+use Rattle.channel_world_runs.specs.Owed.{woken_on}
+use Rattle.channel_world_runs.specs.OwnerWoken.{IsMarked, WokenSound}
+use Rattle.channel_world_runs.specs.Owners.{IsAmong, NoneTwice, AnyOf, NameStatus, waits, status, holding, line_asked, Together, HoldsIn, Holder, named, calling, Owned}
 use Rattle.channel_world_runs.specs.Run.{NameState}
 use Rattle.channel_world_runs.specs.Calls.{Agent}
 use Rattle.channel_world_runs.specs.declared.name_table.NameTable.{NameTable}
@@ -43,6 +41,8 @@ use Rattle.channel_world_runs.specs.ObservationAt.{unless_told, all_freed}
 use Rattle.channel_world_runs.proofs.OwedConfigurations.{is_sending, is_receiving, at_it, to_send}
 use Rattle.channel_world_runs.proofs.OwnerLists.{among_left, among_right, among_of, none_parts}
 use Rattle.channel_world_runs.proofs.OwnerTogether.{HasIt}
+use Rattle.channel_world_runs.proofs.OwnerWokenLists.{key_of_entry}
+use Rattle.channel_world_runs.proofs.rest.Names.{line_is}
 
 -- ---- keys without repeats that are among others are no more than these
 
@@ -84,7 +84,12 @@ one_if b = cond b 1 0
 pub count_first : {A : Type 0} (test : A → Bool) (x : A) (xs : List A) → count_by test (x ∷ xs) ≡ one_if (test x) + count_by test xs
 count_first test x xs = sum_by-cons (λ y. one_if (test y)) x xs
 
--- ---- the keys of those who are woken, and of calls
+-- ---- the keys of those who are pending, and of calls
+
+-- its listener, if it is one of this line
+abbrev key_on : WaitList → NameStatus → List Key
+key_on line (waits h) = if same_line line h.line then h.key ∷ [] else []
+key_on line p = []
 
 abbrev hand_key : WaitList → Option ListenerRef → List Key
 hand_key line None = []
@@ -98,10 +103,6 @@ one_key : (b : Bool) (k : Key) → length (if b then k ∷ [] else []) ≡ one_i
 one_key true k = refl
 one_key false k = refl
 
-woken_key_length : (line : WaitList) (x : NameStatus) → length (woken_key line x) ≡ one_if (is_woken_on line x)
-woken_key_length line (waits h true) = one_key (same_line line h.line) h.key
-woken_key_length line x = refl
-
 hand_key_length : (line : WaitList) (o : Option ListenerRef) → length (hand_key line o) ≡ in_hand line o
 hand_key_length line None = refl
 hand_key_length line (Some h) = one_key (same_line line h.line) h.key
@@ -109,25 +110,6 @@ hand_key_length line (Some h) = one_key (same_line line h.line) h.key
 there_if : (b : Bool) (k : Key) → b ≡ true → IsAmong k (if b then k ∷ [] else [])
 there_if true k e = inl refl
 there_if false k e = absurd (let no : false ≡ true = e in cc)
-
--- ---- names
-
-is_named : {X : Type 0} (p : X → NameStatus) (n : ℕ) (d : Directory X) (h : ListenerRef) (b : Bool) → status_by p (lookup (nat_eq n) d) ≡ waits h b → IsAmong n (keys_of d)
-is_named p n [] h b e = absurd (let no : free ≡ waits h b = e in cc)
-is_named p n (f ∷ d) h b e = at p n (nat_eq n f.0) f d h b refl (is_named p n d h b) e
-  where
-    at : {X : Type 0} (p : X → NameStatus) (n : ℕ) (t : Bool) (f : ℕ × Option X) (d : Directory X) (h : ListenerRef) (b : Bool) → nat_eq n f.0 ≡ t → (status_by p (lookup (nat_eq n) d) ≡ waits h b → IsAmong n (keys_of d))
-        → status_by p (cond t (Some f.1) (lookup (nat_eq n) d)) ≡ waits h b → IsAmong n (keys_of (f ∷ d))
-    at p n true f d h b same on e = inl (sym (same_number n f.0 same))
-      where
-        same_number : (a c : ℕ) → nat_eq a c ≡ true → a ≡ c
-        same_number a c e = grind (arith, nat_tests, e)
-    at p n false f d h b same on e = inr (on e)
-
-among_map : {A B : Type 0} (f : A → B) (x : A) (xs : List A) → IsAmong x xs → IsAmong (f x) (map f xs)
-among_map f x [] h = h
-among_map f x (y ∷ xs) (inl e) = inl (ap f e)
-among_map f x (y ∷ xs) (inr h) = inr (among_map f x xs h)
 
 one_most : (b : Bool) → one_if b ≤ 1
 one_most true = omega arith
@@ -195,70 +177,75 @@ module _ {T : Type 0} where
 
   -- ---- names that are woken
 
-  named_there : (r : NameTable T) (w : Waiter) (h : ListenerRef) (b : Bool) → status r w ≡ waits h b → IsAmong w (all_names r)
-  named_there r (Op op) h b e =
-      among_left (Op op) (map (λ n. Op (record { 0 = n })) (keys_of r.operations)) (map (λ n. Stream (record { 0 = n })) (keys_of r.handles)) (among_map (λ n. Op (record { 0 = n })) op.0 (keys_of r.operations) (is_named _ op.0 r.operations h b e))
-  named_there r (Stream handle) h b e =
-      among_right (Stream handle) (map (λ n. Op (record { 0 = n })) (keys_of r.operations)) (map (λ n. Stream (record { 0 = n })) (keys_of r.handles)) (among_map (λ n. Stream (record { 0 = n })) handle.0 (keys_of r.handles) (is_named _ handle.0 r.handles h b e))
+  -- the listeners of those of these names who are pending on this line
+  abbrev keys_on : WaitList → NameTable T → List Waiter → List Key
+  keys_on line r [] = []
+  keys_on line r (w ∷ ws) = key_on line (status r w) ++ keys_on line r ws
 
-  -- they are as many as those of these names who are pending on this line and were woken
-  woken_length : (line : WaitList) (r : NameTable T) (ws : List Waiter)
-      → length (woken_keys line r ws) ≡ count_by (λ w. is_woken_on line (status r w)) ws
-  woken_length line r [] = refl
-  woken_length line r (w ∷ ws) =
-      let both = length-append (woken_key line (status r w)) (woken_keys line r ws) in
-      let one = woken_key_length line (status r w) in
-      let rest = woken_length line r ws in
-      let first = count_first (λ v. is_woken_on line (status r v)) w ws in
-      omega (arith, both, one, rest, first)
+  -- where all of them are pending, they are as many as those of them who belong to the line
+  keys_many : (line : WaitList) (r : NameTable T) (ws : List Waiter) → ((w : Waiter) → IsAmong w ws → (h : ListenerRef) × (status r w ≡ waits h))
+      → length (keys_on line r ws) ≡ woken_on line r ws
+  keys_many line r [] all = refl
+  keys_many line r (w ∷ ws) all =
+      let h = all w (inl refl) in
+      let both = length-append (key_on line (status r w)) (keys_on line r ws) in
+      let here : length (key_on line (status r w)) ≡ one_if (same_line line h.0.line) =
+      ap (λ (p : NameStatus). length (key_on line p)) h.1 ∙ one_key (same_line line h.0.line) h.0.key in
+      let its : one_if (is_line line (line_at (names_of r) w)) ≡ one_if (same_line line h.0.line) =
+      ap (λ (o : Option WaitList). one_if (is_line line o)) (line_is r w h.0 h.1) in
+      let rest = keys_many line r ws (λ v i. all v (inr i)) in
+      let first = count_first (λ v. is_line line (line_at (names_of r) v)) w ws in
+      omega (arith, both, here, its, rest, first)
 
-  -- the listener of one who is pending and was woken is among those of its line
-  pub in_woken : (line : WaitList) (k : Key) (r : NameTable T) (w : Waiter) (ws : List Waiter) → IsAmong w ws
-      → status r w ≡ waits (record { line = line; key = k }) true → IsAmong k (woken_keys line r ws)
-  in_woken line k r w [] i e = absurd i
-  in_woken line k r w (v ∷ ws) (inl same) e =
-      among_left k (woken_key line (status r v)) (woken_keys line r ws)
-      (subst (λ (x : NameStatus). IsAmong k (woken_key line x)) (sym (ap (status r) same ∙ e))
+  -- the listener of one who is pending is among those of its line
+  in_keys : (line : WaitList) (k : Key) (r : NameTable T) (w : Waiter) (ws : List Waiter) → IsAmong w ws
+      → status r w ≡ waits (record { line = line; key = k }) → IsAmong k (keys_on line r ws)
+  in_keys line k r w [] i e = absurd i
+  in_keys line k r w (v ∷ ws) (inl same) e =
+      among_left k (key_on line (status r v)) (keys_on line r ws)
+      (subst (λ (x : NameStatus). IsAmong k (key_on line x)) (sym (ap (status r) same ∙ e))
       (there_if (same_line line line) k (line_refl line)))
-  in_woken line k r w (v ∷ ws) (inr i) e =
-      among_right k (woken_key line (status r v)) (woken_keys line r ws) (in_woken line k r w ws i e)
+  in_keys line k r w (v ∷ ws) (inr i) e =
+      among_right k (key_on line (status r v)) (keys_on line r ws) (in_keys line k r w ws i e)
 
   -- the told listeners of a list are no more than its woken pending names and the calls that have one of it in hand
-  pub told_few : (b : NameState T) (s : Configuration T Waiter) (line : WaitList) → Owned b s → length (listeners line s.now.wait_lists).told ≤ woken_on line b.name_table + hands line s.under_way
-  told_few b s line o =
-      let l = listeners line s.now.wait_lists in
+  pub told_few : (b : NameState T) (s : Configuration T Waiter) (line : WaitList) → Owned b s → WokenSound b s
+      → length (listeners line s.now.wait_lists).told ≤ woken_on line b.name_table b.order.woken + hands line s.under_way
+  told_few b s line o w =
       let parts = none_parts (keys_of l.told) (keys_of l.waiting) (o.once line) in
-      let most = no_more (keys_of l.told) (woken_keys line b.name_table (all_names b.name_table) ++ hand_keys line s.under_way) parts.left (λ k i. held_so k i) in
-      let both = length-append (woken_keys line b.name_table (all_names b.name_table)) (hand_keys line s.under_way) in
-      let woken = woken_length line b.name_table (all_names b.name_table) in
+      let most = no_more (keys_of l.told) (keys_on line b.name_table b.order.woken ++ hand_keys line s.under_way) parts.left held_so in
+      let both = length-append (keys_on line b.name_table b.order.woken) (hand_keys line s.under_way) in
+      let woken = keys_many line b.name_table b.order.woken w.pending in
       let hand = hands_length line s.under_way in
       let same = map_length l.told in
       omega (arith, most, both, woken, hand, same)
     where
+      l : Listeners Waiter
+      l = listeners line s.now.wait_lists
+
       map_length : {X : Type 0} (es : List (Key × X)) → length (keys_of es) ≡ length es
       map_length [] = refl
       map_length (e ∷ es) = ap (λ n. suc n) (map_length es)
 
-      entry_key : {X : Type 0} (k : Key) (x : X) (es : List (Key × X)) → IsAmong (k, x) es → IsAmong k (keys_of es)
-      entry_key k x [] i = i
-      entry_key k x (e ∷ es) (inl f) = inl (ap (λ (y : Key × _). y.0) f)
-      entry_key k x (e ∷ es) (inr i) = inr (entry_key k x es i)
-
-      held_so : (k : Key) → IsAmong k (keys_of (listeners line s.now.wait_lists).told) → IsAmong k (woken_keys line b.name_table (all_names b.name_table) ++ hand_keys line s.under_way)
-      held_so k i = by (o.held h (among_left k (keys_of (listeners line s.now.wait_lists).told) (keys_of (listeners line s.now.wait_lists).waiting) i))
+      held_so : (k : Key) → IsAmong k (keys_of l.told) → IsAmong k (keys_on line b.name_table b.order.woken ++ hand_keys line s.under_way)
+      held_so k i = by (o.held h (among_left k (keys_of l.told) (keys_of l.waiting) i))
         where
           h : ListenerRef
           h = record { line = line; key = k }
 
-          at_name : (w : Waiter) (x : Bool) → status b.name_table w ≡ waits (record { line = line; key = k }) x → IsAmong k (woken_keys line b.name_table (all_names b.name_table) ++ hand_keys line s.under_way)
-          at_name w true e = among_left k (woken_keys line b.name_table (all_names b.name_table)) (hand_keys line s.under_way) (in_woken line k b.name_table w (all_names b.name_table) (named_there b.name_table w (record { line = line; key = k }) true e) e)
-          at_name w false e =
-              let parts = none_parts (keys_of (listeners line s.now.wait_lists).told) (keys_of (listeners line s.now.wait_lists).waiting) (o.once line) in
-              absurd (parts.apart k i (entry_key k (Some w) (listeners line s.now.wait_lists).waiting (o.unwoken w (record { line = line; key = k }) e)))
+          marked : (v : Waiter) → IsMarked v b.order.woken h s.now → IsAmong v b.order.woken
+          marked v (inl m) = m.0
+          marked v (inr m) =
+              let parts = none_parts (keys_of l.told) (keys_of l.waiting) (o.once line) in
+              absurd (parts.apart k i (key_of_entry (k, Some v) l.waiting m.1))
 
-          by : (x : Holder) × HoldsIn (status b.name_table) s.under_way x (record { line = line; key = k }) → IsAmong k (woken_keys line b.name_table (all_names b.name_table) ++ hand_keys line s.under_way)
-          by (named w, e) = at_name w e.0 e.1
-          by (calling q, e) = among_right k (woken_keys line b.name_table (all_names b.name_table)) (hand_keys line s.under_way) (in_hands line k q s.under_way e)
+          by : (x : Holder) × HoldsIn (status b.name_table) s.under_way x h
+              → IsAmong k (keys_on line b.name_table b.order.woken ++ hand_keys line s.under_way)
+          by (named v, e) =
+              among_left k (keys_on line b.name_table b.order.woken) (hand_keys line s.under_way)
+              (in_keys line k b.name_table v b.order.woken (marked v (w.stands v h e)) e)
+          by (calling q, e) =
+              among_right k (keys_on line b.name_table b.order.woken) (hand_keys line s.under_way) (in_hands line k q s.under_way e)
 
   -- ---- what a call counts for
 

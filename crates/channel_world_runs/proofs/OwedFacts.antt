@@ -22,8 +22,9 @@ use Rattle.channel_steps.specs.every_run.Sends.{HasPlaces, counts_for_sends, Pla
 use Rattle.channel_steps.specs.every_run.Sound.{WakeInvariant}
 use Rattle.channel_steps.specs.every_run.Streams.{IsSending, HasInHand, AnswersFor}
 use Rattle.channel_steps.specs.every_run.Waits.{IsIn, Waits, Any}
-use Rattle.channel_world_runs.specs.Owed.{woken_on}
-use Rattle.channel_world_runs.specs.Owners.{IsAmong, AnyOf, waits, status, holding, named, calling, Owned}
+use Rattle.channel_world_runs.specs.Owed.{IsUnwoken, woken_on}
+use Rattle.channel_world_runs.specs.OwnerWoken.{IsMarked, WokenSound}
+use Rattle.channel_world_runs.specs.Owners.{IsAmong, AnyOf, holding, named, calling, Owned}
 use Rattle.channel_world_runs.specs.Run.{NameState}
 use Rattle.channel_world_runs.proofs.OwedConfigurations.{is_sending, at_it, to_send, OwedIn}
 use Rattle.channel_world_runs.proofs.OwedCounts.{told_few, receives_weigh, sends_weigh}
@@ -93,62 +94,77 @@ module _ {T : Type 0} where
   sending_is (ask.PollSend m key task) h = refl
   sending_is a h = absurd h
 
-  module _ (b : NameState T) (s : Configuration T Waiter) (o : Owned b s) (sound : WakeInvariant s) where
-    -- the listener of one that is pending waits, and no call has it in hand
-    waiting : (line : WaitList) (w : Waiter) (key : Key) → status b.name_table w ≡ waits (this line key) false → Waits line key s.now
-    waiting line w key e = is_in key w (listeners line s.now.wait_lists).waiting (o.unwoken w (this line key) e)
+  module _ (b : NameState T) (s : Configuration T Waiter) (o : Owned b s) (k : WokenSound b s) (sound : WakeInvariant s) where
+    abbrev Unwoken : WaitList → Waiter → Type 0
+    Unwoken line w = IsUnwoken line w b.name_table b.order.woken
 
-    in_no_hand : (P : ActiveCall T Waiter → Type 0) (line : WaitList) (w : Waiter) (key : Key) → status b.name_table w ≡ waits (this line key) false → ((u : ActiveCall T Waiter) → P u → holding u.at ≡ Some (this line key)) → Any P s.under_way → ⊥
-    in_no_hand P line w key e f i =
-        let one = one_holds P (this line key) f s.under_way i in
-        apart w one.0 (o.alone (named w) (calling one.0) (this line key) (false, e) one.1)
-
-    receives : (w : Waiter) (key : Key) → status b.name_table w ≡ waits (this Receives key) false → length s.now.queue.items ≤ woken_on Receives b.name_table + at_it s
-    receives w key e = by (let r = sound.receives in r.owed key (waiting Receives w key e))
+    -- the listener of one that is pending and was not woken waits, and no call has it in hand
+    waiting : (line : WaitList) (w : Waiter) (u : Unwoken line w) → Waits line u.0 s.now
+    waiting line w u = by (k.stands w (this line u.0) u.1)
       where
-        by : MessagesAreFew s.now (total counts_for_receives s.under_way) ⊎ Any (λ u. HoldsListener Receives key u.at) s.under_way → length s.now.queue.items ≤ woken_on Receives b.name_table + at_it s
+        by : IsMarked w b.order.woken (this line u.0) s.now → Waits line u.0 s.now
+        by (inl m) = absurd (u.2 m.0)
+        by (inr m) = is_in u.0 w (listeners line s.now.wait_lists).waiting m.1
+
+    in_no_hand : (P : ActiveCall T Waiter → Type 0) (line : WaitList) (w : Waiter) (u : Unwoken line w)
+        → ((x : ActiveCall T Waiter) → P x → holding x.at ≡ Some (this line u.0)) → Any P s.under_way → ⊥
+    in_no_hand P line w u f i =
+        let one = one_holds P (this line u.0) f s.under_way i in
+        apart w one.0 (o.alone (named w) (calling one.0) (this line u.0) u.1 one.1)
+
+    receives : (w : Waiter) → Unwoken Receives w → length s.now.queue.items ≤ woken_on Receives b.name_table b.order.woken + at_it s
+    receives w u = by (let r = sound.receives in r.owed u.0 (waiting Receives w u))
+      where
+        by : MessagesAreFew s.now (total counts_for_receives s.under_way) ⊎ Any (λ x. HoldsListener Receives u.0 x.at) s.under_way
+            → length s.now.queue.items ≤ woken_on Receives b.name_table b.order.woken + at_it s
         by (inl few) =
-            let told = told_few b s Receives o in
+            let told = told_few b s Receives o k in
             let weigh = receives_weigh b s o in
             omega (arith, few, told, weigh)
-        by (inr i) = absurd (in_no_hand (λ u. HoldsListener Receives key u.at) Receives w key e (λ u h. listener_held Receives key u.at h) i)
+        by (inr i) = absurd (in_no_hand (λ x. HoldsListener Receives u.0 x.at) Receives w u (λ x h. listener_held Receives u.0 x.at h) i)
 
-    sends : (w : Waiter) (key : Key) → status b.name_table w ≡ waits (this Sends key) false → Open s.now → HasPlaces s.now.queue.capacity (length s.now.queue.items + (woken_on Sends b.name_table + to_send s))
-    sends w key e open_now = by (let r = sound.sends in r.owed key (waiting Sends w key e))
+    sends : (w : Waiter) → Unwoken Sends w → Open s.now
+        → HasPlaces s.now.queue.capacity (length s.now.queue.items + (woken_on Sends b.name_table b.order.woken + to_send s))
+    sends w u open_now = by (let r = sound.sends in r.owed u.0 (waiting Sends w u))
       where
-        by : PlacesAreFew s.now (total counts_for_sends s.under_way) ⊎ Any (λ u. HoldsListener Sends key u.at) s.under_way → HasPlaces s.now.queue.capacity (length s.now.queue.items + (woken_on Sends b.name_table + to_send s))
+        by : PlacesAreFew s.now (total counts_for_sends s.under_way) ⊎ Any (λ x. HoldsListener Sends u.0 x.at) s.under_way
+            → HasPlaces s.now.queue.capacity (length s.now.queue.items + (woken_on Sends b.name_table b.order.woken + to_send s))
         by (inl (inl shut)) = absurd (let never : true ≡ false = sym shut ∙ open_now in cc)
         by (inl (inr few)) =
-            let told = told_few b s Sends o in
+            let told = told_few b s Sends o k in
             let weigh = sends_weigh b s o (let r = sound.sends in let t = r.tellings in t.known) in
-            places s.now.queue.capacity _ (length s.now.queue.items + (woken_on Sends b.name_table + to_send s)) (omega (arith, told, weigh)) few
-        by (inr i) = absurd (in_no_hand (λ u. HoldsListener Sends key u.at) Sends w key e (λ u h. listener_held Sends key u.at h) i)
+            places s.now.queue.capacity _ (length s.now.queue.items + (woken_on Sends b.name_table b.order.woken + to_send s)) (omega (arith, told, weigh)) few
+        by (inr i) = absurd (in_no_hand (λ x. HoldsListener Sends u.0 x.at) Sends w u (λ x h. listener_held Sends u.0 x.at h) i)
 
-    streams : (w : Waiter) (key : Key) → status b.name_table w ≡ waits (this Streams key) false → (s.now.queue.items ≡ []) ⊎ AnyOf (λ u. is_sending u.ask ≡ true) s.under_way
-    streams w key e = by (let r = sound.streams in r.owed key (waiting Streams w key e))
+    streams : (w : Waiter) → Unwoken Streams w → (s.now.queue.items ≡ []) ⊎ AnyOf (λ x. is_sending x.ask ≡ true) s.under_way
+    streams w u = by (let r = sound.streams in r.owed u.0 (waiting Streams w u))
       where
-        pick : (u : ActiveCall T Waiter) → AnswersFor key u → (is_sending u.ask ≡ true) ⊎ HasInHand key u.at
-        pick u (inl h) = inl (sending_is u.ask h.0)
-        pick u (inr h) = inr h
+        pick : (x : ActiveCall T Waiter) → AnswersFor u.0 x → (is_sending x.ask ≡ true) ⊎ HasInHand u.0 x.at
+        pick x (inl h) = inl (sending_is x.ask h.0)
+        pick x (inr h) = inr h
 
-        last : AnyOf (λ u. is_sending u.ask ≡ true) s.under_way ⊎ Any (λ u. HasInHand key u.at) s.under_way → (s.now.queue.items ≡ []) ⊎ AnyOf (λ u. is_sending u.ask ≡ true) s.under_way
+        last : AnyOf (λ x. is_sending x.ask ≡ true) s.under_way ⊎ Any (λ x. HasInHand u.0 x.at) s.under_way
+            → (s.now.queue.items ≡ []) ⊎ AnyOf (λ x. is_sending x.ask ≡ true) s.under_way
         last (inl i) = inr i
-        last (inr i) = absurd (in_no_hand (λ u. HasInHand key u.at) Streams w key e (λ u h. stream_held key u.at h) i)
+        last (inr i) = absurd (in_no_hand (λ x. HasInHand u.0 x.at) Streams w u (λ x h. stream_held u.0 x.at h) i)
 
-        by : (s.now.queue.items ≡ []) ⊎ Any (AnswersFor key) s.under_way → (s.now.queue.items ≡ []) ⊎ AnyOf (λ u. is_sending u.ask ≡ true) s.under_way
+        by : (s.now.queue.items ≡ []) ⊎ Any (AnswersFor u.0) s.under_way
+            → (s.now.queue.items ≡ []) ⊎ AnyOf (λ x. is_sending x.ask ≡ true) s.under_way
         by (inl none) = inl none
-        by (inr i) = last (either (AnswersFor key) (λ u. is_sending u.ask ≡ true) (λ u. HasInHand key u.at) pick s.under_way i)
+        by (inr i) = last (either (AnswersFor u.0) (λ x. is_sending x.ask ≡ true) (λ x. HasInHand u.0 x.at) pick s.under_way i)
 
-    closing : (w : Waiter) (h : ListenerRef) → status b.name_table w ≡ waits h false → Shut s.now → AnyOf (λ u. HasClosed u.marks) s.under_way
-    closing w h e shut = last (either (AnswersClosed h.line h.key) (λ u. HasClosed u.marks) (λ u. LooksAgain h.line h.key u.at) pick s.under_way (let r = sound.closing in r.owed h.line h.key shut (waiting h.line w h.key e)))
+    closing : (line : WaitList) (w : Waiter) → Unwoken line w → Shut s.now → AnyOf (λ x. HasClosed x.marks) s.under_way
+    closing line w u shut =
+        last (either (AnswersClosed line u.0) (λ x. HasClosed x.marks) (λ x. LooksAgain line u.0 x.at) pick s.under_way
+        (let r = sound.closing in r.owed line u.0 shut (waiting line w u)))
       where
-        pick : (u : ActiveCall T Waiter) → AnswersClosed h.line h.key u → HasClosed u.marks ⊎ LooksAgain h.line h.key u.at
-        pick u (inl k) = inl k.0
-        pick u (inr k) = inr k
+        pick : (x : ActiveCall T Waiter) → AnswersClosed line u.0 x → HasClosed x.marks ⊎ LooksAgain line u.0 x.at
+        pick x (inl h) = inl h.0
+        pick x (inr h) = inr h
 
-        last : AnyOf (λ u. HasClosed u.marks) s.under_way ⊎ Any (λ u. LooksAgain h.line h.key u.at) s.under_way → AnyOf (λ u. HasClosed u.marks) s.under_way
+        last : AnyOf (λ x. HasClosed x.marks) s.under_way ⊎ Any (λ x. LooksAgain line u.0 x.at) s.under_way → AnyOf (λ x. HasClosed x.marks) s.under_way
         last (inl i) = i
-        last (inr i) = absurd (in_no_hand (λ u. LooksAgain h.line h.key u.at) h.line w h.key e (λ u k. looks_held h.line h.key u.at k) i)
+        last (inr i) = absurd (in_no_hand (λ x. LooksAgain line u.0 x.at) line w u (λ x h. looks_held line u.0 x.at h) i)
 
     pub owed : OwedIn b s
     owed = record { receives = receives; sends = sends; streams = streams; closing = closing }

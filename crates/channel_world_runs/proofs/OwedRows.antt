@@ -1,5 +1,5 @@
 -- What wrong bodies would do, step by step from the opening of a channel of five places, and the owed lines say no of.
-use Rattle.std.proofs.Common.{arith, ◌≤◌, ◌<◌, ◌||◌, ℕ, Bool, true, false, List, [], ◌∷◌, ◌++◌, slice_set, slice_index_or, Option, None, Some, Ok, Err, refl}
+use Rattle.std.proofs.Common.{arith, ◌≤◌, ◌<◌, ◌||◌, ℕ, Bool, true, false, List, [], ◌∷◌, ◌++◌, slice_set, slice_index_or, Option, None, Some, Ok, Err, inl, inr, ◌≡◌, ap, refl}
 use Rattle.std.specs.List.{count_by, remove, sum_by}
 use Rattle.event_listener.specs.declared.key.Key.{Key}
 use Rattle.futures.specs.declared.task.Poll.TheVariants.{Pending, Ready}
@@ -22,6 +22,8 @@ use Rattle.channel_world_runs.specs.Bookkeeping.{asks}
 use Rattle.channel_world_runs.specs.Activity.{is_close, activity_begun, activity_after}
 use Rattle.channel_world_runs.specs.Owed.{Observation, Owed, is_sending, is_receiving}
 use Rattle.channel_world_runs.specs.NameTable.{first_name_table}
+use Rattle.channel_world_runs.specs.Order.{no_places}
+use Rattle.channel_world_runs.specs.Owners.{IsAmong}
 use Rattle.channel_world_runs.specs.Run.{NameState, name_state_begun, name_state_ended, with_woken}
 use Rattle.channel_world_runs.specs.declared.activity.Activity.{Activity}
 use Rattle.channel_world_runs.specs.declared.activity.Role.TheVariants.{Other}
@@ -46,7 +48,7 @@ record Played : Type 0 where
   closed : Bool
 
 abbrev opened : Played
-opened = record { name_state = record { name_table = first_name_table; order = []; agents = [] }; activities = []; messages = 0; closed = false }
+opened = record { name_state = record { name_table = first_name_table; order = no_places; agents = [] }; activities = []; messages = 0; closed = false }
 
 abbrev nobody : Agent ℕ
 nobody = record { party = 0; on_return = on_return.Nothing }
@@ -87,6 +89,7 @@ play (x ∷ xs) w = play xs (after x w)
 abbrev shown : Played → Observation ℕ
 shown w = record {
   name_table = w.name_state.name_table;
+  woken = w.name_state.order.woken;
   messages = w.messages;
   capacity = Some 5;
   closed = w.closed;
@@ -119,20 +122,25 @@ sends m names =
 
 -- ---- what they lead to
 
+-- the second is not the first
+not_first : IsAmong (Op (op 1)) (Op (op 0) ∷ []) → ⊥
+not_first (inl e) = let same : 0 ≡ 1 = ap (λ (w : Waiter). elim w [ Op x ↦ x.0 | Stream x ↦ x.0 ]) e in absurd (omega (arith, same))
+not_first (inr i) = i
+
 -- A send that tells before it pushes: the receive that it woke is polled, finds nothing and pends again, and then the message comes.
 tells_before_it_pushes : (a b : Key)
     → Owed (shown (play
     (made 0 ++ (pends 0 a ++ (begins 0 (call.TrySend (handle 0) 7) ∷ steps 0 Nothing (Op (op 0) ∷ []) ∷
     begins 1 (call.Poll (op 0)) ∷ steps 1 Nothing [] ∷ ends 1 (reply.RecvPoll Pending) (Some b) ∷
     steps 0 Append [] ∷ ends 0 (reply.TrySend (Ok tt)) None ∷ []))) opened)) → ⊥
-tells_before_it_pushes a b owed = let few : 1 ≤ 0 = owed.receives (Op (op 0)) (b, refl) in omega (arith, few)
+tells_before_it_pushes a b owed = let few : 1 ≤ 0 = owed.receives (Op (op 0)) (b, refl, λ i. i) in omega (arith, few)
 
 -- A send that tells by the default, which counts those already told: three pend, and two messages woke one.
 tells_by_the_default : (a b c : Key)
     → Owed (shown (play
     (made 0 ++ (pends 0 a ++ (made 1 ++ (pends 1 b ++ (made 2 ++ (pends 2 c ++
     (sends 7 (Op (op 0) ∷ []) ++ sends 8 []))))))) opened)) → ⊥
-tells_by_the_default a b c owed = let few : 2 ≤ 1 = owed.receives (Op (op 1)) (b, refl) in omega (arith, few)
+tells_by_the_default a b c owed = let few : 2 ≤ 1 = owed.receives (Op (op 1)) (b, refl, not_first) in omega (arith, few)
 
 -- A receive that listens and pends without a second try: the message and its notice came before the listening.
 pends_without_a_second_try : (a : Key)
@@ -140,14 +148,14 @@ pends_without_a_second_try : (a : Key)
     (made 0 ++ (begins 0 (call.Poll (op 0)) ∷ steps 0 Nothing [] ∷
     begins 1 (call.TrySend (handle 0) 7) ∷ steps 1 Append [] ∷ steps 1 Nothing [] ∷ ends 1 (reply.TrySend (Ok tt)) None ∷
     steps 0 Nothing [] ∷ ends 0 (reply.RecvPoll Pending) (Some a) ∷ [])) opened)) → ⊥
-pends_without_a_second_try a owed = let few : 1 ≤ 0 = owed.receives (Op (op 0)) (a, refl) in omega (arith, few)
+pends_without_a_second_try a owed = let few : 1 ≤ 0 = owed.receives (Op (op 0)) (a, refl, λ i. i) in omega (arith, few)
 
 -- A woken receive that is given up and drops its notice: the other one still waits beside the message.
 drops_its_notice : (a b : Key)
     → Owed (shown (play
     (made 0 ++ (pends 0 a ++ (made 1 ++ (pends 1 b ++ (sends 7 (Op (op 0) ∷ []) ++
     (begins 0 (call.GiveUp (op 0)) ∷ steps 0 Nothing [] ∷ ends 0 (reply.GivenUp None) None ∷ [])))))) opened)) → ⊥
-drops_its_notice a b owed = let few : 1 ≤ 0 = owed.receives (Op (op 1)) (b, refl) in omega (arith, few)
+drops_its_notice a b owed = let few : 1 ≤ 0 = owed.receives (Op (op 1)) (b, refl, λ i. i) in omega (arith, few)
 
 -- A close that tells first and marks afterwards: a receive that begins to pend in between is told by nobody.
 closes_after_it_told : (a : Key)
@@ -155,21 +163,21 @@ closes_after_it_told : (a : Key)
     (made 0 ++ (begins 0 (call.Close (handle 0)) ∷ steps 0 Nothing [] ∷
     begins 1 (call.Poll (op 0)) ∷ steps 1 Nothing [] ∷ ends 1 (reply.RecvPoll Pending) (Some a) ∷
     steps 0 Close [] ∷ ends 0 (reply.Closed true) None ∷ [])) opened)) → ⊥
-closes_after_it_told a owed = let some : 0 < 0 = owed.closing Receives (Op (op 0)) (a, refl) refl in omega (arith, some)
+closes_after_it_told a owed = let some : 0 < 0 = owed.closing Receives (Op (op 0)) (a, refl, λ i. i) refl in omega (arith, some)
 
 -- A refused poll that leaves its told listener on the list: it is pending no more, and the other one still waits beside the message.
 keeps_its_told_listener : (a b : Key)
     → Owed (shown (play
     (made 0 ++ (pends 0 a ++ (made 1 ++ (pends 1 b ++ (sends 7 (Op (op 0) ∷ []) ++
     (begins 0 (call.PollRefused (op 0)) ∷ ends 0 (reply.RecvPoll (Ready (Err (refused.NoMemory tt)))) None ∷ [])))))) opened)) → ⊥
-keeps_its_told_listener a b owed = let few : 1 ≤ 0 = owed.receives (Op (op 1)) (b, refl) in omega (arith, few)
+keeps_its_told_listener a b owed = let few : 1 ≤ 0 = owed.receives (Op (op 1)) (b, refl, λ i. i) in omega (arith, few)
 
 -- A stream that is always pending: the message that woke it is still there once it was polled again.
 stays_pending : (a b : Key)
     → Owed (shown (play
     (begins 0 (call.PollNext (handle 1)) ∷ ends 0 (reply.Next Pending) (Some a) ∷ (sends 7 (Stream (handle 1) ∷ []) ++
     (begins 0 (call.PollNext (handle 1)) ∷ steps 0 Nothing [] ∷ ends 0 (reply.Next Pending) (Some b) ∷ []))) opened)) → ⊥
-stays_pending a b owed = let some : 0 < 0 = owed.streams (Stream (handle 1)) (b, refl) (omega (arith)) in omega (arith, some)
+stays_pending a b owed = let some : 0 < 0 = owed.streams (Stream (handle 1)) (b, refl, λ i. i) (omega (arith)) in omega (arith, some)
 
 -- A receive that takes a message and tells no send: the one that pends for a place still waits beside the place that is free now.
 tells_no_send : (a : Key)
@@ -178,4 +186,4 @@ tells_no_send : (a : Key)
     (begins 0 (call.NewSend (op 0) (handle 0) 6) ∷ ends 0 reply.Made None ∷
     begins 0 (call.Poll (op 0)) ∷ steps 0 Nothing [] ∷ keeps 0 a 6 ∷
     begins 0 (call.TryRecv (handle 1)) ∷ steps 0 Take [] ∷ ends 0 (reply.TryRecv (Ok 1)) None ∷ [])))))) opened)) → ⊥
-tells_no_send a owed = let few : 5 ≤ 4 = owed.sends (Op (op 0)) (a, refl) refl in omega (arith, few)
+tells_no_send a owed = let few : 5 ≤ 4 = owed.sends (Op (op 0)) (a, refl, λ i. i) refl in omega (arith, few)

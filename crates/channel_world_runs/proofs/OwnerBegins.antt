@@ -1,5 +1,5 @@
 -- What a call that begins takes over from the names.
-use Rattle.std.proofs.Common.{◌≡◌, ℕ, nat_eq, List, Bool, true, false, not, if◌then◌else◌, Option, None, Some, is_some, ◌⊎◌, inl, inr, refl, sym, ap, ◌∙◌, subst}
+use Rattle.std.proofs.Common.{◌≡◌, ℕ, nat_eq, Bool, true, false, not, if◌then◌else◌, Option, None, Some, is_some, ◌⊎◌, inl, inr, refl, sym, ap, ◌∙◌, subst}
 use Rattle.std.specs.Bool.{then_some}
 use Rattle.std.specs.Map.{lookup}
 use Rattle.std.specs.Option.{option_map, option_map_or, option_or}
@@ -10,7 +10,6 @@ use Rattle.channel_calls.specs.declared.stage.ListenerRef.{ListenerRef}
 use Rattle.channel_calls.specs.declared.stage.WaitList.{WaitList}
 use Rattle.channel_calls.specs.declared.stage.WaitList.TheVariants.{Sends, Receives, Closings}
 use Rattle.channel_world_model.specs.Asked.{poll_asked}
-use Rattle.channel_world_model.specs.Lines.{without_waiter}
 use Rattle.channel_world_model.specs.Names.{Directory, at, is_taken, own_message, with_message, waits_in}
 use Rattle.channel_world_model.proofs.LawSteps.{second_reason}
 use Rattle.channel_world_model.specs.Plan.{plan_of}
@@ -30,7 +29,7 @@ use Rattle.channel_world_model.specs.declared.plan.Wanted.TheVariants.{Receiver,
 use Rattle.channel_world_model.specs.declared.refusal.WorldRefusal.{WorldRefusal}
 use Rattle.channel_world_model.specs.declared.refusal.WorldRefusal.TheVariants.{WrongKind, OpUnderWay, NameTaken}
 use Rattle.channel_world_runs.specs.Bookkeeping.{asks, names_begun, lent_to_poll, with_operation}
-use Rattle.channel_world_runs.specs.Order.{placed}
+use Rattle.channel_world_runs.specs.Order.{WakeOrder, placed, without_place}
 use Rattle.channel_world_runs.specs.Owners.{NameStatus, free, retired, invalid, rests, waits, polled, status_on, status_by, operation_status, status, wait_of, subject, Suits}
 use Rattle.channel_world_runs.specs.Refusal.{under_way_in, begin_refusal, again_planned, takes_again}
 use Rattle.channel_world_runs.specs.NameTable.{key_of, is_polled, names_of, held_of}
@@ -55,18 +54,22 @@ IsBusy p = ⊥
 abbrev pub IsLoose : NameStatus → Type 0
 IsLoose free = Unit {0}
 IsLoose (rests line) = Unit {0}
-IsLoose (waits h is_woken) = Unit {0}
+IsLoose (waits h) = Unit {0}
 IsLoose p = ⊥
 
 abbrev pub held_in : NameStatus → Option ListenerRef
-held_in (waits h is_woken) = Some h
+held_in (waits h) = Some h
 held_in p = None
 
 -- in the order of waking a new name has no place, who is polled has one, and who is given up or dropped loses it
-abbrev pub Ordered : Waiter → NameStatus → (List Waiter → List Waiter) → Type 0
-Ordered w x f =
-    ((x ≡ retired) × ((ws : List Waiter) → f ws ≡ ws))
-    ⊎ (((ws : List Waiter) → f ws ≡ placed w ws) ⊎ ((x ≡ retired) × ((ws : List Waiter) → f ws ≡ without_waiter w ws)))
+abbrev pub Ordered : Waiter → NameStatus → NameStatus → (WakeOrder → WakeOrder) → Type 0
+Ordered w before x f =
+    ((before ≡ free) × (x ≡ retired) × ((o : WakeOrder) → f o ≡ o))
+    ⊎ (((o : WakeOrder) → f o ≡ placed w o) ⊎ ((x ≡ retired) × ((o : WakeOrder) → f o ≡ without_place w o)))
+
+-- the name whose listener the call keeps is this one; or it keeps none, and this one isn't pending
+abbrev pub Keeps : Option Waiter → Waiter → NameStatus → Type 0
+Keeps keeper w before = (keeper ≡ Some w) ⊎ ((keeper ≡ None) × (held_in before ≡ None))
 
 -- the first of two reasons is not there where none is
 first_none : (first other : Option WorldRefusal) → option_or first other ≡ None → first ≡ None
@@ -105,15 +108,16 @@ module _ {T : Type 0} where
   -- ---- what a call touches
 
   -- the names stand as before, in the same order, and the call has no listener and waits for nobody
-  pub record Quiet (p p' : Waiter → NameStatus) (e : OnReturn T) (a : ChannelAsk T Waiter) (f : List Waiter → List Waiter) : Type 0 where
+  pub record Quiet (p p' : Waiter → NameStatus) (keeper : Option Waiter) (e : OnReturn T) (a : ChannelAsk T Waiter) (f : WakeOrder → WakeOrder) : Type 0 where
     pub same : Same p p'
+    pub keeps : keeper ≡ None
     pub nobody : subject e ≡ None
     pub patient : wait_of a ≡ None
     pub empty : ask_holds a ≡ None
-    pub order : (ws : List Waiter) → f ws ≡ ws
+    pub order : (o : WakeOrder) → f o ≡ o
 
   -- one name, at which no call works, is vacant or polled from now on, and the call has the listener that was held under it
-  pub record Touches (p p' : Waiter → NameStatus) (e : OnReturn T) (a : ChannelAsk T Waiter) (f : List Waiter → List Waiter) : Type 0 where
+  pub record Touches (p p' : Waiter → NameStatus) (keeper : Option Waiter) (e : OnReturn T) (a : ChannelAsk T Waiter) (f : WakeOrder → WakeOrder) : Type 0 where
     pub name : Waiter
     pub now : NameStatus
     pub sets : Sets p p' name now
@@ -123,7 +127,8 @@ module _ {T : Type 0} where
     pub suits : Suits p' e (wait_of a)
     pub whose : (subject e ≡ None) ⊎ (subject e ≡ Some name)
     pub works : (line : WaitList) → now ≡ polled line → subject e ≡ Some name
-    pub order : Ordered name now f
+    pub keeps : Keeps keeper name (p name)
+    pub order : Ordered name (p name) now f
 
   -- ---- what a call finds
 
@@ -180,7 +185,7 @@ module _ {T : Type 0} where
   pub op_held : (x : Operation T) (s : PollState) → Free x s
       → (held_on (waits_in x) (key_of s) ≡ held_in (operation_status x s)) × IsLoose (operation_status x s)
   op_held (live.Send h None) Rests f = (refl, tt)
-  op_held (live.Send h None) (Waits key is_woken) f = absurd (f.1 refl)
+  op_held (live.Send h None) (Waits key) f = absurd (f.1 refl)
   op_held (live.Send h None) (IsPolled b) f = absurd (let no : true ≡ false = f.0 in cc)
   op_held (live.Send h (Some m)) s f = on_line Sends s f.0
   op_held (live.Receive h) s f = on_line Receives s f.0
@@ -189,7 +194,7 @@ module _ {T : Type 0} where
   poll_holds : (op : OpId) (x : Operation T) (s : PollState) → Free x s
       → ask_holds (poll_asked (key_of s) op (Some x)) ≡ held_on (waits_in x) (key_of s)
   poll_holds op (live.Send h None) Rests f = refl
-  poll_holds op (live.Send h None) (Waits key is_woken) f = absurd (f.1 refl)
+  poll_holds op (live.Send h None) (Waits key) f = absurd (f.1 refl)
   poll_holds op (live.Send h None) (IsPolled b) f = absurd (let no : true ≡ false = f.0 in cc)
   poll_holds op (live.Send h (Some m)) s f = refl
   poll_holds op (live.Receive h) s f = refl
@@ -239,7 +244,7 @@ module _ {T : Type 0} where
   pub polls_with : (r : NameTable T) (op : OpId) (f : Found r op) (a : ChannelAsk T Waiter)
       → ask_holds a ≡ held_on (waits_in f.operation.operation) (key_of f.operation.poll_state)
       → (wait_of a ≡ None) ⊎ (wait_of a ≡ Some (waits_in f.operation.operation, Op op))
-      → Touches (status r) (status (with_operation lent_to_poll op r)) (on_return.Poll op) a (placed (Op op))
+      → Touches (status r) (status (with_operation lent_to_poll op r)) (Some (Op op)) (on_return.Poll op) a (placed (Op op))
   polls_with r op f a holds for_it =
       let s = now_polled r op f in
       record {
@@ -252,6 +257,7 @@ module _ {T : Type 0} where
         suits = (waits_in f.operation.operation, s.there, for_it);
         whose = inr refl;
         works = λ line i. refl;
+        keeps = inl refl;
         order = inr (inl (λ ws. refl));
       }
 
@@ -260,7 +266,7 @@ module _ {T : Type 0} where
   seen_is r op f = seen.operation_at r op.0 ∙ ap (option_map (λ (x : OperationEntry T). x.operation)) f.is
 
   pub polls : (r : NameTable T) (op : OpId) → Found r op
-      → Touches (status r) (status (names_begun r (call.Poll op))) (on_return.Poll op) (asks r (call.Poll op)) (placed (Op op))
+      → Touches (status r) (status (names_begun r (call.Poll op))) (Some (Op op)) (on_return.Poll op) (asks r (call.Poll op)) (placed (Op op))
   polls r op f =
       let o = f.operation in
       let same : asks r (call.Poll op) ≡ poll_asked (key_of o.poll_state) op (Some o.operation) =

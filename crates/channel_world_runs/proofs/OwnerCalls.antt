@@ -10,8 +10,7 @@ use Rattle.channel_calls.specs.declared.stage.ListenerRef.{ListenerRef}
 use Rattle.channel_calls.specs.declared.stage.WaitList.{WaitList}
 use Rattle.channel_calls.specs.declared.stage.WaitList.TheVariants.{Streams}
 use Rattle.channel_world_model.specs.Answer.{weak_of, strong_of}
-use Rattle.channel_world_model.specs.Asked.{refusal_asked, giving_up_asked, drop_asked}
-use Rattle.channel_world_model.specs.Lines.{without_waiter}
+use Rattle.channel_world_model.specs.Asked.{refusal_asked, giving_up_asked, drop_asked, keeper_in, stream_of}
 use Rattle.channel_world_model.specs.Names.{at, borrowed_by, is_taken, own_message, waits_in, without_name}
 use Rattle.channel_world_model.specs.Refusal.{handle_fits}
 use Rattle.channel_world_model.specs.declared.call.Call.{Call}
@@ -27,7 +26,7 @@ use Rattle.channel_world_model.specs.declared.name.Waiter.TheVariants.{Op, Strea
 use Rattle.channel_world_model.specs.declared.plan.Wanted.{Wanted}
 use Rattle.channel_world_model.specs.declared.plan.Wanted.TheVariants.{Receiver, Any}
 use Rattle.channel_world_runs.specs.Bookkeeping.{asks, on_return_of, names_begun, lent_by, handed_over_by, leave_handle_of, new_from, operation_named, handle_named}
-use Rattle.channel_world_runs.specs.Order.{placed, order_begun}
+use Rattle.channel_world_runs.specs.Order.{placed, without_place, order_begun}
 use Rattle.channel_world_model.specs.Plan.{plan_of}
 use Rattle.channel_world_runs.specs.Owners.{NameStatus, free, retired, invalid, polled, status_on, no_stream_status, stream_status, status_by, status, wait_of, subject, Suits}
 use Rattle.channel_world_runs.specs.NameTable.{key_of, is_polled, names_of, held_of, with_lent, with_borrowed, with_poll_state}
@@ -40,7 +39,7 @@ use Rattle.channel_world_runs.specs.declared.names.PollState.TheVariants.{Rests,
 use Rattle.channel_world_runs.specs.declared.name_table.NameTable.{NameTable}
 use Rattle.channel_world_runs.proofs.AskFacts.{of_cloned, of_upgraded}
 use Rattle.channel_world_runs.proofs.AskStarts.{ask_holds}
-use Rattle.channel_world_runs.proofs.OwnerBegins.{IsLoose, held_in, Quiet, Touches, Admitted, IsFitting, untaken, on_line, Sane, Found, find, seen_is, key_is, held_is, loose_is, polls_with, polls}
+use Rattle.channel_world_runs.proofs.OwnerBegins.{IsLoose, held_in, Keeps, Quiet, Touches, Admitted, IsFitting, untaken, on_line, Sane, Found, find, seen_is, key_is, held_is, loose_is, polls_with, polls}
 use Rattle.channel_world_runs.proofs.OwnerNames.{Sets, Same, same_both, sets_same, op_status, handle_entry_status, found, op_set, op_spent, handle_set, handle_spent, handle_changed, lent_same, borrowed_same, handed_over_same}
 use Rattle.channel_world_runs.proofs.RefusalLemmas.{handle_through}
 use Rattle.channel_world_runs.proofs.RefusalLemmas as seen
@@ -70,6 +69,17 @@ module _ (T : Type 0) where
       × IsLoose (stream_status k s)
   drop_held handle_kind.Receiver s f = on_line Streams s f.0
   drop_held k s f = no_stream_held s f.1
+
+  -- it keeps the listener of a receiver, and of no other handle, which isn't pending
+  drop_keeps : (handle : HandleId) (h : Handle) (s : PollState) → Idle h.kind s
+      → Keeps (stream_of handle (Some h)) (Stream handle) (stream_status h.kind s)
+  drop_keeps handle h s f = by h.kind f
+    where
+      by : (k : HandleKind) → Idle k s → Keeps (stream_of handle (Some (record h { kind = k }))) (Stream handle) (stream_status k s)
+      by handle_kind.Receiver f = inl refl
+      by handle_kind.Sender f = inr (refl, sym (no_stream_held s f.1).0)
+      by handle_kind.WeakSender f = inr (refl, sym (no_stream_held s f.1).0)
+      by handle_kind.WeakReceiver f = inr (refl, sym (no_stream_held s f.1).0)
 
   drop_waits : (k : HandleKind) (key : Option Key) → wait_of (drop_is k key) ≡ None
   drop_waits handle_kind.Sender key = refl
@@ -102,7 +112,7 @@ module _ {T : Type 0} where
   -- ---- operations
 
   refuses : (r : NameTable T) (op : OpId) → Found r op
-      → Touches (status r) (status (names_begun r (call.PollRefused op))) (on_return.Poll op) (asks r (call.PollRefused op)) (placed (Op op))
+      → Touches (status r) (status (names_begun r (call.PollRefused op))) (Some (Op op)) (on_return.Poll op) (asks r (call.PollRefused op)) (placed (Op op))
   refuses r op f =
       let o = f.operation in
       let same : asks r (call.PollRefused op) ≡ ask.RefusePoll (waits_in o.operation) (own_message o.operation) (key_of o.poll_state) =
@@ -111,7 +121,7 @@ module _ {T : Type 0} where
       polls_with r op f (asks r (call.PollRefused op)) (ap ask_holds same) (inl (ap wait_of same))
 
   gives_up : (r : NameTable T) (op : OpId) → Found r op
-      → Touches (status r) (status (names_begun r (call.GiveUp op))) (on_return_of r (call.GiveUp op)) (asks r (call.GiveUp op)) (without_waiter (Op op))
+      → Touches (status r) (status (names_begun r (call.GiveUp op))) (Some (Op op)) (on_return_of r (call.GiveUp op)) (asks r (call.GiveUp op)) (without_place (Op op))
   gives_up r op f =
       let o = f.operation in
       let same : asks r (call.GiveUp op) ≡ ask.GiveUp (waits_in o.operation) (own_message o.operation) (key_of o.poll_state) =
@@ -131,12 +141,13 @@ module _ {T : Type 0} where
             (ap wait_of same);
         whose = inl (leaves_nobody (at op.0 r.operations));
         works = λ line i. absurd (let no : retired ≡ polled line = i in cc);
+        keeps = inl refl;
         order = inr (inr (refl, λ ws. refl));
       }
 
   -- a new name, under which nothing lives yet
   names_new : (p p' : Waiter → NameStatus) (w : Waiter) (e : OnReturn T) (a : ChannelAsk T Waiter) → Sets p p' w retired → p w ≡ free
-      → ask_holds a ≡ None → Suits p' e (wait_of a) → (subject e ≡ None) ⊎ (subject e ≡ Some w) → Touches p p' e a (λ ws. ws)
+      → ask_holds a ≡ None → Suits p' e (wait_of a) → (subject e ≡ None) ⊎ (subject e ≡ Some w) → Touches p p' None e a (λ ws. ws)
   names_new p p' w e a sets is_free empty suits whose = record {
     name = w;
     now = retired;
@@ -147,12 +158,13 @@ module _ {T : Type 0} where
     suits = suits;
     whose = whose;
     works = λ line i. absurd (let no : retired ≡ polled line = i in cc);
-    order = inl (refl, λ ws. refl);
+    keeps = inr (refl, ap held_in is_free);
+    order = inl (is_free, refl, λ ws. refl);
   }
 
   names_operation : (r : NameTable T) (op : OpId) (handle : HandleId) (o : OperationEntry T) → o.poll_state ≡ Rests
       → is_taken op.0 r.operations ≡ false
-      → Touches (status r) (status (with_borrowed handle (operation_named op r))) (on_return.Make op o) ask.Make (λ ws. ws)
+      → Touches (status r) (status (with_borrowed handle (operation_named op r))) None (on_return.Make op o) ask.Make (λ ws. ws)
   names_operation r op handle o new untook =
       let s = sets_same (status r) (status (operation_named op r)) (status (with_borrowed handle (operation_named op r))) (Op op) retired
       (op_spent r op) (borrowed_same (operation_named op r) handle) in
@@ -184,13 +196,16 @@ module _ {T : Type 0} where
   stream_key r handle h e = ap (λ x. option_map_or (λ (h : HandleEntry). key_of h.poll_state) x None) e
 
   drops : (r : NameTable T) (handle : HandleId) → Seen r handle
-      → Touches (status r) (status (names_begun r (call.Drop handle))) on_return.Nothing (asks r (call.Drop handle)) (without_waiter (Stream handle))
+      → Touches (status r) (status (names_begun r (call.Drop handle))) (keeper_in (names_of r) (call.Drop handle)) on_return.Nothing
+      (asks r (call.Drop handle)) (without_place (Stream handle))
   drops r handle f =
       let h = f.handle_entry in
       let same : asks r (call.Drop handle) ≡ drop_is T h.handle.kind (key_of h.poll_state) =
       ap (λ (x : Option Handle). drop_asked (held_of r (Stream handle)) x) (seen.handle_at r handle.0 ∙ ap (option_map (λ (h : HandleEntry). h.handle)) f.is)
       ∙ ap (λ (key : Option Key). drop_is T h.handle.kind key) (stream_key r handle h f.is) in
       let held = drop_held T h.handle.kind h.poll_state f.idle in
+      let kept : keeper_in (names_of r) (call.Drop handle) ≡ stream_of handle (Some h.handle) =
+      ap (stream_of handle) (seen.handle_at r handle.0 ∙ ap (option_map (λ (h : HandleEntry). h.handle)) f.is) in
       let looked : is_some (lookup (nat_eq handle.0) r.handles) ≡ true = ap (λ x. is_some x) (found handle.0 r.handles h f.is) in
       record {
         name = Stream handle;
@@ -202,11 +217,14 @@ module _ {T : Type 0} where
         suits = ap wait_of same ∙ drop_waits T h.handle.kind (key_of h.poll_state);
         whose = inl refl;
         works = λ line i. absurd (let no : retired ≡ polled line = i in cc);
+        keeps = subst (λ (x : Option Waiter). Keeps x (Stream handle) (status r (Stream handle))) (sym kept)
+            (subst (λ (p : NameStatus). Keeps (stream_of handle (Some h.handle)) (Stream handle) p) (sym (hold_is r handle h f.is))
+            (drop_keeps T handle h.handle h.poll_state f.idle));
         order = inr (inr (refl, λ ws. refl));
       }
 
   streams : (r : NameTable T) (handle : HandleId) (f : Seen r handle) → f.handle_entry.handle.kind ≡ handle_kind.Receiver
-      → Touches (status r) (status (names_begun r (call.PollNext handle))) (on_return.PollNext handle) (asks r (call.PollNext handle)) (placed (Stream handle))
+      → Touches (status r) (status (names_begun r (call.PollNext handle))) (Some (Stream handle)) (on_return.PollNext handle) (asks r (call.PollNext handle)) (placed (Stream handle))
   streams r handle f receiver =
       let h = f.handle_entry in
       let lent = with_poll_state (IsPolled false) handle r in
@@ -230,12 +248,13 @@ module _ {T : Type 0} where
         suits = (Streams, all.there, inr refl);
         whose = inr refl;
         works = λ line i. refl;
+        keeps = inl refl;
         order = inr (inl (λ ws. refl));
       }
 
   names_handle : (r : NameTable T) (from new : HandleId) (k : HandleKind → HandleKind) (o : Option Handle) (a : ChannelAsk T Waiter)
       → is_taken new.0 r.handles ≡ false → wait_of a ≡ None → ask_holds a ≡ None
-      → Touches (status r) (status (with_lent from (handle_named new r))) (new_from from new k o) a (λ ws. ws)
+      → Touches (status r) (status (with_lent from (handle_named new r))) None (new_from from new k o) a (λ ws. ws)
   names_handle r from new k o a untook patient empty =
       let begun = with_lent from (handle_named new r) in
       let s = sets_same (status r) (status (handle_named new r)) (status begun) (Stream new) retired
@@ -247,14 +266,14 @@ module _ {T : Type 0} where
 
   abbrev pub BeginsSo : NameTable T → Call T → Type 0
   BeginsSo r c =
-      Quiet (status r) (status (names_begun r c)) (on_return_of r c) (asks r c) (order_begun c)
-      ⊎ Touches (status r) (status (names_begun r c)) (on_return_of r c) (asks r c) (order_begun c)
+      Quiet (status r) (status (names_begun r c)) (keeper_in (names_of r) c) (on_return_of r c) (asks r c) (order_begun c)
+      ⊎ Touches (status r) (status (names_begun r c)) (keeper_in (names_of r) c) (on_return_of r c) (asks r c) (order_begun c)
 
   -- a call that goes through handles alone, or through none
   passes : (r new : NameTable T) (e : OnReturn T) (a : ChannelAsk T Waiter) → Same (status r) (status new) → subject e ≡ None → Plain T a
-      → Quiet (status r) (status new) e a (λ ws. ws)
+      → Quiet (status r) (status new) None e a (λ ws. ws)
   passes r new e a same nobody plain =
-      record { same = same; nobody = nobody; patient = plain.0; empty = plain.1; order = λ ws. refl }
+      record { same = same; keeps = refl; nobody = nobody; patient = plain.0; empty = plain.1; order = λ ws. refl }
 
   pub begins_so : (r : NameTable T) (c : Call T) → Sane r → Admitted r c → BeginsSo r c
   begins_so r (call.NewSend op sender msg) sane a = inr (names_operation r op sender _ refl a.new)

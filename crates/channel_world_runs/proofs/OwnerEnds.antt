@@ -38,7 +38,7 @@ use Rattle.channel_world_runs.proofs.OwnerNames.{Sets, Same, same_both, sets_sam
 -- neither pending nor amiss
 abbrev pub IsCalm : NameStatus → Type 0
 IsCalm invalid = ⊥
-IsCalm (waits h is_woken) = ⊥
+IsCalm (waits h) = ⊥
 IsCalm (polled line) = ⊥
 IsCalm x = Unit {0}
 
@@ -46,7 +46,7 @@ some_is : {X : Type 0} (x y : X) → Some x ≡ Some y → x ≡ y
 some_is x y e = ap (λ (o : Option _). elim o [ None ↦ x | Some z ↦ z ]) e
 
 polled_is : (a b : WaitList) → polled a ≡ polled b → a ≡ b
-polled_is a b e = ap (λ (x : NameStatus). elim x [ polled l ↦ l | free ↦ a | retired ↦ a | invalid ↦ a | rests l ↦ a | waits h w ↦ a ]) e
+polled_is a b e = ap (λ (x : NameStatus). elim x [ polled l ↦ l | free ↦ a | retired ↦ a | invalid ↦ a | rests l ↦ a | waits h ↦ a ]) e
 
 abbrev IsPolledNow : NameStatus → Type 0
 IsPolledNow (polled line) = Unit {0}
@@ -72,7 +72,7 @@ polled_there {X} p n d line e = by (lookup (nat_eq n) d) refl e
 
 on_line : (line l : WaitList) (s : PollState) → status_on line s ≡ polled l → line ≡ l
 on_line line l Rests e = absurd (no_busy (rests line) l e)
-on_line line l (Waits key w) e = absurd (no_busy (waits (record { line = line; key = key }) w) l e)
+on_line line l (Waits key) e = absurd (no_busy (waits (record { line = line; key = key })) l e)
 on_line line l (IsPolled b) e = polled_is line l e
 
 no_stream : (l : WaitList) (s : PollState) → no_stream_status s ≡ polled l → ⊥
@@ -101,7 +101,7 @@ own_wait wait line l w task (inr some) e =
 module _ {T : Type 0} where
   op_line : (x : Operation T) (l : WaitList) (s : PollState) → operation_status x s ≡ polled l → waits_in x ≡ l
   op_line (live.Send h None) l Rests e = absurd (no_busy (rests Sends) l e)
-  op_line (live.Send h None) l (Waits key w) e = absurd (no_busy invalid l e)
+  op_line (live.Send h None) l (Waits key) e = absurd (no_busy invalid l e)
   op_line (live.Send h None) l (IsPolled b) e = polled_is Sends l e
   op_line (live.Send h (Some m)) l s e = on_line Sends l s e
   op_line (live.Receive h) l s e = on_line Receives l s e
@@ -118,7 +118,7 @@ module _ {T : Type 0} where
   Carries line m = line ≡ Sends → (v : T) × (m ≡ Some v)
 
   waiting_op : (x : Operation T) (m : Option T) (key : Key) → Carries (waits_in x) m
-      → operation_status (with_message m x) (Waits key false) ≡ waits (record { line = waits_in x; key = key }) false
+      → operation_status (with_message m x) (Waits key) ≡ waits (record { line = waits_in x; key = key })
   waiting_op (live.Send h n) None key c = absurd (let f = c refl in let no : None ≡ Some f.0 = f.1 in cc)
   waiting_op (live.Send h n) (Some m) key c = refl
   waiting_op (live.Receive h) m key c = refl
@@ -137,7 +137,7 @@ module _ {T : Type 0} where
   Comes p e kept wait =
       ((kept.key ≡ None) × ((v : Waiter) → subject e ≡ Some v → IsCalm (p v)))
       ⊎ ((line : WaitList) × (key : Key) × (task : Waiter) × (kept.key ≡ Some key) × (wait ≡ Some (line, task))
-      × (subject e ≡ Some task) × (p task ≡ waits (record { line = line; key = key }) false))
+      × (subject e ≡ Some task) × (p task ≡ waits (record { line = line; key = key })))
 
   pub record Settles (p p' : Waiter → NameStatus) (e : OnReturn T) (kept : Returned T) (wait : Option (WaitList × Waiter)) : Type 0 where
     pub others : (v : Waiter) → (subject e ≡ Some v → ⊥) → p' v ≡ p v
@@ -182,7 +182,7 @@ module _ {T : Type 0} where
   -- the end of a poll: the name stands by the listener that is left
   comes : (after : Waiter → NameStatus) (e : OnReturn T) (w : Waiter) (x : Option Key → NameStatus) (line : WaitList) (kept : Returned T)
       (wait : Option (WaitList × Waiter)) → subject e ≡ Some w → after w ≡ x kept.key → IsCalm (x None)
-      → ((key : Key) → Carries line kept.message → x (Some key) ≡ waits (record { line = line; key = key }) false) → IsFor wait line w
+      → ((key : Key) → Carries line kept.message → x (Some key) ≡ waits (record { line = line; key = key })) → IsFor wait line w
       → IsLeft kept wait → Comes after e kept wait
   comes after e w x line kept wait whose is calm pends whom (inl none) =
       inl (none, calm_at after e w (x None) whose (is ∙ ap x none) calm)
@@ -196,7 +196,7 @@ module _ {T : Type 0} where
         wt,
         whose ∙ ap (λ (v : Waiter). Some v) (sym own.1),
         ap after own.1 ∙ (is ∙ (ap x k ∙ (pends key (λ sends. m (own.0 ∙ sends))
-            ∙ ap (λ (i : WaitList). waits (record { line = i; key = key }) false) (sym own.0)))),
+            ∙ ap (λ (i : WaitList). waits (record { line = i; key = key })) (sym own.0)))),
       )
 
   polls : (r : NameTable T) (op : OpId) (y : Reply T) (kept : Returned T) (wait : Option (WaitList × Waiter)) → IsLeft kept wait
@@ -211,7 +211,7 @@ module _ {T : Type 0} where
       (comes (status (written_back (on_return.Poll op) y kept r)) (on_return.Poll op) (Op op)
       (λ k. operation_status (with_message kept.message o.operation) (poll_state_with k)) f.0 kept wait refl s.there (calm_op (with_message kept.message o.operation))
       (λ key c. waiting_op o.operation kept.message key (λ sends. c (sym line ∙ sends))
-      ∙ ap (λ (x : WaitList). waits (record { line = x; key = key }) false) line) f.2 l)
+      ∙ ap (λ (x : WaitList). waits (record { line = x; key = key })) line) f.2 l)
 
   nexts : (r : NameTable T) (receiver : HandleId) (y : Reply T) (kept : Returned T) (wait : Option (WaitList × Waiter)) → IsLeft kept wait
       → Suits {T = T} (status r) (on_return.PollNext receiver) wait
@@ -227,7 +227,7 @@ module _ {T : Type 0} where
       set (status r) (status (written_back (on_return.PollNext receiver) y kept r)) (on_return.PollNext receiver) kept wait (Stream receiver) _ refl all
       (comes (status (written_back (on_return.PollNext receiver) y kept r)) (on_return.PollNext receiver) (Stream receiver)
       (λ k. status_on Streams (poll_state_with k)) f.0 kept wait refl (all.there ∙ ap (λ k. stream_status k (poll_state_with kept.key)) is.0) tt
-      (λ key c. ap (λ (x : WaitList). waits (record { line = x; key = key }) false) is.1) f.2 l)
+      (λ key c. ap (λ (x : WaitList). waits (record { line = x; key = key })) is.1) f.2 l)
 
   -- a new handle lives, or doesn't
   installs : (r : NameTable T) (new : HandleId) (k : HandleKind) (y : Reply T) → status r (Stream new) ≡ retired

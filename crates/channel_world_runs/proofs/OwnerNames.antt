@@ -3,24 +3,16 @@ use Rattle.std.proofs.Common.{arith, ◌≡◌, ℕ, nat_eq, Bool, true, false, 
 use Rattle.std.proofs.lemmas.Bool.Decides.{nat_tests}
 use Rattle.std.specs.Map.{lookup, set_value}
 use Rattle.std.specs.Option.{option_map_or}
-use Rattle.channel_calls.specs.declared.stage.WaitList.{WaitList}
-use Rattle.channel_calls.specs.declared.stage.WaitList.TheVariants.{Sends, Receives, Streams, Closings}
 use Rattle.channel_world_model.specs.Names.{Directory, at, borrowed_by, with_spent, with_changed}
 use Rattle.channel_world_model.specs.declared.name.HandleId.{HandleId}
-use Rattle.channel_world_model.specs.declared.name.HandleKind.{HandleKind}
-use Rattle.channel_world_model.specs.declared.name.HandleKind.TheVariants as handle_kind
 use Rattle.channel_world_model.specs.declared.name.OpId.{OpId}
-use Rattle.channel_world_model.specs.declared.name.Operation.{Operation}
-use Rattle.channel_world_model.specs.declared.name.Operation.TheVariants as live
 use Rattle.channel_world_model.specs.declared.name.Waiter.{Waiter}
 use Rattle.channel_world_model.specs.declared.name.Waiter.TheVariants.{Op, Stream}
-use Rattle.channel_world_runs.specs.Bookkeeping.{with_operation, handed_over_by, operation_named, handle_named, with_one_woken, all_woken}
-use Rattle.channel_world_runs.specs.Owners.{IsAmong, NameStatus, free, retired, invalid, rests, waits, polled, status_on, no_stream_status, stream_status, status_by, send_status, operation_status, status}
-use Rattle.channel_world_runs.specs.NameTable.{told, used_more, used_less, borrowed_more, handed_over, with_handle, with_lent, with_given_back, with_borrowed}
+use Rattle.channel_world_runs.specs.Bookkeeping.{with_operation, handed_over_by, operation_named, handle_named}
+use Rattle.channel_world_runs.specs.Owners.{NameStatus, retired, stream_status, status_by, operation_status, status}
+use Rattle.channel_world_runs.specs.NameTable.{used_more, used_less, borrowed_more, handed_over, with_handle, with_lent, with_given_back, with_borrowed}
 use Rattle.channel_world_runs.specs.declared.names.HandleEntry.{HandleEntry}
 use Rattle.channel_world_runs.specs.declared.names.OperationEntry.{OperationEntry}
-use Rattle.channel_world_runs.specs.declared.names.PollState.{PollState}
-use Rattle.channel_world_runs.specs.declared.names.PollState.TheVariants.{Rests, Waits, IsPolled}
 use Rattle.channel_world_runs.specs.declared.name_table.NameTable.{NameTable}
 
 pub same_number : (a b : ℕ) → nat_eq a b ≡ true → a ≡ b
@@ -136,48 +128,6 @@ same_sets p q r w x f h = record { there = h.there; others = λ v other. h.other
 abbrev pub handle_entry_status : HandleEntry → NameStatus
 handle_entry_status h = stream_status h.handle.kind h.poll_state
 
--- one that is pending is woken, any other stays
-abbrev pub told_status : NameStatus → NameStatus
-told_status (waits h is_woken) = waits h true
-told_status free = free
-told_status retired = retired
-told_status invalid = invalid
-told_status (rests line) = rests line
-told_status (polled line) = polled line
-
--- a waking makes nobody polled
-pub told_polled : (x : NameStatus) (line : WaitList) → told_status x ≡ polled line → x ≡ polled line
-told_polled (waits h b) line e = absurd (let no : waits h true ≡ polled line = e in cc)
-told_polled x line e = e
-
-told_on : (line : WaitList) (s : PollState) → status_on line (told s) ≡ told_status (status_on line s)
-told_on line Rests = refl
-told_on line x = refl
-
-told_no_stream : (s : PollState) → no_stream_status (told s) ≡ told_status (no_stream_status s)
-told_no_stream Rests = refl
-told_no_stream x = refl
-
-told_stream : (k : HandleKind) (s : PollState) → stream_status k (told s) ≡ told_status (stream_status k s)
-told_stream handle_kind.Receiver s = told_on Streams s
-told_stream x s = told_no_stream s
-
-twice : (x : NameStatus) → told_status (told_status x) ≡ told_status x
-twice (waits h is_woken) = refl
-twice x = refl
-
-not_there : {X : Type 0} (p : X → NameStatus) (n : ℕ) (d : Directory X) → at n d ≡ None → told_status (status_by p (lookup (nat_eq n) d)) ≡ status_by p (lookup (nat_eq n) d)
-not_there {X} p n d e = by (lookup (nat_eq n) d) e
-  where
-    by : (o : Option (Option X)) → option_map_or (λ (y : Option X). y) o None ≡ None → told_status (status_by p o) ≡ status_by p o
-    by None h = refl
-    by (Some None) h = refl
-    by (Some (Some y)) h = absurd (let no : Some y ≡ None = h in cc)
-
--- woken or not
-abbrev pub MayBeTold : (Waiter → NameStatus) → (Waiter → NameStatus) → Waiter → Type 0
-MayBeTold p p' v = (p' v ≡ p v) ⊎ (p' v ≡ told_status (p v))
-
 module _ {T : Type 0} where
   abbrev pub op_status : OperationEntry T → NameStatus
   op_status o = operation_status o.operation o.poll_state
@@ -268,73 +218,3 @@ module _ {T : Type 0} where
   pub handed_over_same : (r : NameTable T) (o : Option (OperationEntry T)) → Same (status r) (status (handed_over_by o r))
   handed_over_same r None v = refl
   handed_over_same r (Some o) v = handle_kept r (borrowed_by o.operation) handed_over (λ h. refl) v
-
-  -- ---- wakes
-
-  told_send : (m : Option T) (s : PollState) → send_status m (told s) ≡ told_status (send_status m s)
-  told_send None Rests = refl
-  told_send None (Waits key is_woken) = refl
-  told_send None (IsPolled brings) = refl
-  told_send (Some m) s = told_on Sends s
-
-  told_operation : (x : Operation T) (s : PollState) → operation_status x (told s) ≡ told_status (operation_status x s)
-  told_operation (live.Send h m) s = told_send m s
-  told_operation (live.Receive h) s = told_on Receives s
-  told_operation (live.Closing h) s = told_on Closings s
-
-  op_none : (r : NameTable T) (op : OpId) (change : OperationEntry T → OperationEntry T) → at op.0 r.operations ≡ None → with_operation change op r ≡ r
-  op_none r op change e =
-      ap (λ (d : Directory (OperationEntry T)). record r { operations = d }) (ap (λ (x : Option (OperationEntry T)). option_map_or (λ (y : OperationEntry T). with_changed op.0 (change y) r.operations) x r.operations) e)
-
-  pub one_woken : (w : Waiter) (r : NameTable T) → Sets (status r) (status (with_one_woken w r)) w (told_status (status r w))
-  one_woken (Op op) r = by (at op.0 r.operations) refl
-    where
-      change : OperationEntry T → OperationEntry T
-      change o = record o { poll_state = told o.poll_state }
-
-      by : (o : Option (OperationEntry T)) → at op.0 r.operations ≡ o → Sets (status r) (status (with_one_woken (Op op) r)) (Op op) (told_status (status r (Op op)))
-      by None e =
-          subst (λ (x : NameTable T). Sets (status r) (status x) (Op op) (told_status (status r (Op op)))) (sym (op_none r op change e))
-          (record { there = sym (not_there op_status op.0 r.operations e); others = λ v other. refl })
-      by (Some o) e =
-          let s = op_changed r op change o e in
-          record { there = s.there ∙ (told_operation o.operation o.poll_state ∙ sym (ap (λ x. told_status (status_by op_status x)) (found op.0 r.operations o e))); others = s.others }
-  one_woken (Stream handle) r = by (at handle.0 r.handles) refl
-    where
-      change : HandleEntry → HandleEntry
-      change h = record h { poll_state = told h.poll_state }
-
-      by : (o : Option HandleEntry) → at handle.0 r.handles ≡ o → Sets (status r) (status (with_one_woken (Stream handle) r)) (Stream handle) (told_status (status r (Stream handle)))
-      by None e =
-          subst (λ (x : NameTable T). Sets (status r) (status x) (Stream handle) (told_status (status r (Stream handle)))) (sym (handle_none r handle change e))
-          (record { there = sym (not_there handle_entry_status handle.0 r.handles e); others = λ v other. refl })
-      by (Some h) e =
-          let s = handle_changed r handle change h e in
-          record { there = s.there ∙ (told_stream h.handle.kind h.poll_state ∙ sym (ap (λ x. told_status (status_by handle_entry_status x)) (found handle.0 r.handles h e))); others = s.others }
-
-  pub all_told : (ws : List Waiter) (r : NameTable T) (v : Waiter) → MayBeTold (status r) (status (all_woken ws r)) v
-  all_told [] r v = inl refl
-  all_told (w ∷ ws) r v = by (waiter_or v w) (all_told ws (with_one_woken w r) v)
-    where
-      s : Sets (status r) (status (with_one_woken w r)) w (told_status (status r w))
-      s = one_woken w r
-
-      by : (v ≡ w) ⊎ (v ≡ w → ⊥) → MayBeTold (status (with_one_woken w r)) (status (all_woken ws (with_one_woken w r))) v → MayBeTold (status r) (status (all_woken ws (with_one_woken w r))) v
-      by (inl same) (inl e) = inr (e ∙ (ap (λ x. status (with_one_woken w r) x) same ∙ (s.there ∙ ap (λ x. told_status (status r x)) (sym same))))
-      by (inl same) (inr e) = inr (e ∙ (ap (λ x. told_status (status (with_one_woken w r) x)) same ∙ (ap told_status s.there ∙ (twice (status r w) ∙ ap (λ x. told_status (status r x)) (sym same)))))
-      by (inr other) (inl e) = inl (e ∙ s.others v other)
-      by (inr other) (inr e) = inr (e ∙ ap told_status (s.others v other))
-
-  -- those who are named
-  pub named_told : (ws : List Waiter) (r : NameTable T) (v : Waiter) → IsAmong v ws → status (all_woken ws r) v ≡ told_status (status r v)
-  named_told [] r v h = absurd h
-  named_told (w ∷ ws) r v (inl same) = by (all_told ws (with_one_woken w r) v) (one_woken w r)
-    where
-      by : MayBeTold (status (with_one_woken w r)) (status (all_woken ws (with_one_woken w r))) v → Sets (status r) (status (with_one_woken w r)) w (told_status (status r w)) → status (all_woken ws (with_one_woken w r)) v ≡ told_status (status r v)
-      by (inl e) s = e ∙ (ap (λ x. status (with_one_woken w r) x) (sym same) ∙ (s.there ∙ ap (λ x. told_status (status r x)) same))
-      by (inr e) s = e ∙ (ap (λ x. told_status (status (with_one_woken w r) x)) (sym same) ∙ (ap told_status s.there ∙ (twice (status r w) ∙ ap (λ x. told_status (status r x)) same)))
-  named_told (w ∷ ws) r v (inr h) = by (waiter_or v w) (one_woken w r) (named_told ws (with_one_woken w r) v h)
-    where
-      by : (v ≡ w) ⊎ (v ≡ w → ⊥) → Sets (status r) (status (with_one_woken w r)) w (told_status (status r w)) → status (all_woken ws (with_one_woken w r)) v ≡ told_status (status (with_one_woken w r) v) → status (all_woken ws (with_one_woken w r)) v ≡ told_status (status r v)
-      by (inl same) s e = e ∙ (ap (λ x. told_status (status (with_one_woken w r) x)) same ∙ (ap told_status s.there ∙ (twice (status r w) ∙ ap (λ x. told_status (status r x)) (sym same))))
-      by (inr other) s e = e ∙ ap told_status (s.others v other)

@@ -7,7 +7,7 @@ use Rattle.channel_calls.specs.declared.stage.WaitList.{WaitList}
 use Rattle.channel_world_model.specs.declared.call.Call.{Call}
 use Rattle.channel_world_model.specs.declared.name.Waiter.{Waiter}
 use Rattle.channel_steps.specs.Configuration.{Configuration, Steps, AllKnown}
-use Rattle.channel_world_runs.specs.Bookkeeping.{names_begun, on_return_of, written_back, all_woken}
+use Rattle.channel_world_runs.specs.Bookkeeping.{names_begun, on_return_of, written_back}
 use Rattle.channel_world_runs.specs.OwnerPolled.{IsWorkedAt, PolledAtWork}
 use Rattle.channel_world_runs.specs.Owners.{IsAmong, NameStatus, waits, polled, status, subject, Owned}
 use Rattle.channel_world_runs.specs.NameTable.{first_name_table}
@@ -18,7 +18,7 @@ use Rattle.channel_world_runs.proofs.OwnerBegins.{Admitted}
 use Rattle.channel_world_runs.proofs.OwnerCalls.{BeginsSo, begins_so}
 use Rattle.channel_world_runs.proofs.OwnerEnds.{IsCalm, Comes}
 use Rattle.channel_world_runs.proofs.OwnerLists.{among_left, among_right, among_of}
-use Rattle.channel_world_runs.proofs.OwnerNames.{told_polled, waiter_or, MayBeTold, all_told}
+use Rattle.channel_world_runs.proofs.OwnerNames.{waiter_or}
 use Rattle.channel_world_runs.proofs.OwnerRuns.{IsAfter, ended_as, parts, set, inner}
 use Rattle.channel_world_runs.proofs.OwnerSteps.{first_calm}
 
@@ -56,14 +56,6 @@ module _ {T : Type 0} where
 
   -- ---- a call makes a step
 
-  mid_polled : (names : List Waiter) (b : NameState T) (w : Waiter) (line : WaitList) → status (all_woken names b.name_table) w ≡ polled line
-      → status b.name_table w ≡ polled line
-  mid_polled names b w line e = by (all_told names b.name_table w)
-    where
-      by : MayBeTold (status b.name_table) (status (all_woken names b.name_table)) w → status b.name_table w ≡ polled line
-      by (inl same) = sym same ∙ e
-      by (inr told) = told_polled (status b.name_table w) line (sym told ∙ e)
-
   -- an agent other than the one that leaves
   still : (front : List (Agent T)) (a : Agent T) (back : List (Agent T)) (x : Agent T) (w : Waiter) → subject x.on_return ≡ Some w
       → (subject a.on_return ≡ Some w → ⊥) → IsAmong x (front ++ (a ∷ back)) → IsAmong x (front ++ back)
@@ -79,22 +71,21 @@ module _ {T : Type 0} where
       → Steps s q.0 (record { mark = m; reply = r; kept = kp }) names t
       → IsAfter b q r kp names c → PolledAtWork b → PolledAtWork c
   polled_step b c s t q m None kp names o known st after at w line e =
-      let f : status (all_woken names b.name_table) w ≡ polled line = ap (λ (d : NameState T). status d.name_table w) (sym after.4) ∙ e in
-      let h = at w line (mid_polled names b w line f) in
+      let h = at w line (ap (λ (d : NameState T). status d.name_table w) (sym after.4) ∙ e) in
       subst (λ (d : NameState T). IsWorkedAt w d) (sym after.4) (h.0, h.1, h.2)
   polled_step b c s t q m (Some y) kp names o known st after at w line e =
       let pt = parts b s t q.0 m (Some y) kp names o known st in
       let f = st.finishes in
       let same = ended_as b c s t q m y kp names o known st after in
-      let name_table : c.name_table ≡ written_back pt.agent.on_return y f.kept (all_woken names b.name_table) =
+      let name_table : c.name_table ≡ written_back pt.agent.on_return y f.kept b.name_table =
       ap (λ (d : NameState T). d.name_table) same in
       let agents : c.agents ≡ pt.front ++ pt.back = ap (λ (d : NameState T). d.agents) same in
       let settle = set b s t q.0 m y kp names o known st in
-      let now : status (written_back pt.agent.on_return y f.kept (all_woken names b.name_table)) w ≡ polled line =
+      let now : status (written_back pt.agent.on_return y f.kept b.name_table) w ≡ polled line =
       ap (λ x. status x w) (sym name_table) ∙ e in
       let other : (subject pt.agent.on_return ≡ Some w → ⊥) =
-      own_not pt.agent (status (written_back pt.agent.on_return y f.kept (all_woken names b.name_table))) f.kept _ settle.own now in
-      let h = at w line (mid_polled names b w line (sym (settle.others w other) ∙ now)) in (
+      own_not pt.agent (status (written_back pt.agent.on_return y f.kept b.name_table)) f.kept _ settle.own now in
+      let h = at w line (sym (settle.others w other) ∙ now) in (
         h.0,
         subst (λ (l : List (Agent T)). IsAmong h.0 l) (sym agents)
             (still pt.front pt.agent pt.back h.0 w h.2 other (subst (λ (l : List (Agent T)). IsAmong h.0 l) pt.are h.1)),
@@ -106,5 +97,5 @@ module _ {T : Type 0} where
       own_not x p kept wait (inl calm) g his = calm_polled (p w) line (calm.1 w his) g
       own_not x p kept wait (inr (l, key, task, i, j, his', is)) g own =
           let same : task ≡ w = inner task w (sym his' ∙ own) in
-          let no : waits (record { line = l; key = key }) _ ≡ polled line = sym is ∙ (ap p same ∙ g) in
+          let no : waits (record { line = l; key = key }) ≡ polled line = sym is ∙ (ap p same ∙ g) in
           cc

@@ -15,9 +15,9 @@ use Rattle.channel_world_model.specs.declared.name.Waiter.{Waiter}
 use Rattle.channel_world_model.specs.declared.refusal.WorldRefusal.TheVariants.{Busy}
 use Rattle.event_listener.specs.declared.key.Key.{Key}
 use Rattle.channel_steps.specs.Configuration.{ActiveCall, Configuration, Steps, Known, AllKnown, sees, does, unless_ended}
-use Rattle.channel_world_runs.specs.Bookkeeping.{written_back, all_woken}
-use Rattle.channel_world_runs.specs.Order.{all_moved_last, order_settled}
-use Rattle.channel_world_runs.specs.Owners.{IsAmong, All, AnyOf, NameStatus, free, retired, invalid, rests, waits, polled, status, holding, task_at, wait_of, line_asked, Bears, subject, Suits, AgentFits, Together, Differ, AllDiffer, WaitsToWake, Holder, named, calling, HoldsIn, Owned}
+use Rattle.channel_world_runs.specs.Bookkeeping.{written_back}
+use Rattle.channel_world_runs.specs.Order.{all_woken, order_settled}
+use Rattle.channel_world_runs.specs.Owners.{All, AnyOf, NameStatus, free, retired, invalid, rests, waits, polled, status, holding, task_at, wait_of, line_asked, Bears, subject, AgentFits, Together, Differ, AllDiffer, Holder, named, calling, HoldsIn, Owned}
 use Rattle.channel_world_runs.specs.Refusal.{begin_refusal, step_refusal}
 use Rattle.channel_world_runs.specs.NameTable.{is_at_work}
 use Rattle.channel_world_runs.specs.Run.{NameState, name_state_ended, with_woken}
@@ -30,9 +30,9 @@ use Rattle.channel_world_runs.proofs.OwnerBegins.{IsBusy}
 use Rattle.channel_world_runs.proofs.OwnerEnds.{IsCalm, IsLeft, Comes, Settles, settles, carries}
 use Rattle.channel_world_runs.proofs.OwnerHolders.{Accounted, Passes, accounted}
 use Rattle.channel_world_runs.proofs.OwnerMoves.{LeavesIt, Turnout, turnout}
-use Rattle.channel_world_runs.proofs.OwnerNames.{waiter_or, told_status, MayBeTold, all_told, named_told}
-use Rattle.channel_world_runs.proofs.OwnerSteps.{calm_waits, calm_amiss, busy_waits, told_was, told_amiss, told_busy, never_unwoken, calling_is, apart, all_keep}
-use Rattle.channel_world_runs.proofs.OwnerTogether.{HasIt, any_left, any_right, any_of, has_seen, had_seen, busy, Keeps, together_on, together_sees, together_join, suits_on, Parted, parted, Beside, beside, is_agent, other_party}
+use Rattle.channel_world_runs.proofs.OwnerNames.{waiter_or}
+use Rattle.channel_world_runs.proofs.OwnerSteps.{calm_waits, calm_amiss, busy_waits, calling_is, apart}
+use Rattle.channel_world_runs.proofs.OwnerTogether.{HasIt, any_left, any_right, any_of, has_seen, had_seen, busy, Keeps, together_on, together_sees, together_join, Parted, parted, Beside, beside, is_agent, other_party}
 
 module _ {T : Type 0} where
   known_of : (now : Channel T Waiter) (us : List (ActiveCall T Waiter)) (u : ActiveCall T Waiter) (vs : List (ActiveCall T Waiter))
@@ -79,50 +79,6 @@ module _ {T : Type 0} where
   now_after d q h before now behind j =
       any_right (HasIt q h) (map (sees d) before) (now ++ map (sees d) behind) (any_left (HasIt q h) now (map (sees d) behind) j)
 
-  -- ---- wakes
-
-  module _ (names : List Waiter) (r : NameTable T) where
-    abbrev Q : Waiter → NameStatus
-    Q = status r
-
-    abbrev Q1 : Waiter → NameStatus
-    Q1 = status (all_woken names r)
-
-    pub mid_back : (v : Waiter) (h : ListenerRef) (b : Bool) → Q1 v ≡ waits h b → (c : Bool) × (Q v ≡ waits h c)
-    mid_back v h b e = by (all_told names r v)
-      where
-        by : MayBeTold Q Q1 v → (c : Bool) × (Q v ≡ waits h c)
-        by (inl same) = (b, sym same ∙ e)
-        by (inr told) = told_was (Q v) h b (sym told ∙ e)
-
-    pub mid_forth : (v : Waiter) (h : ListenerRef) (b : Bool) → Q v ≡ waits h b → (c : Bool) × (Q1 v ≡ waits h c)
-    mid_forth v h b e = by (all_told names r v)
-      where
-        by : MayBeTold Q Q1 v → (c : Bool) × (Q1 v ≡ waits h c)
-        by (inl same) = (b, same ∙ e)
-        by (inr told) = (true, told ∙ ap told_status e)
-
-    pub mid_busy : (v : Waiter) → IsBusy (Q v) → Q1 v ≡ Q v
-    mid_busy v i = by (all_told names r v)
-      where
-        by : MayBeTold Q Q1 v → Q1 v ≡ Q v
-        by (inl same) = same
-        by (inr told) = told ∙ told_busy (Q v) i
-
-    pub mid_amiss : (v : Waiter) → Q1 v ≡ invalid → Q v ≡ invalid
-    mid_amiss v e = by (all_told names r v)
-      where
-        by : MayBeTold Q Q1 v → Q v ≡ invalid
-        by (inl same) = sym same ∙ e
-        by (inr told) = told_amiss (Q v) (sym told ∙ e)
-
-    pub mid_unwoken : (v : Waiter) (h : ListenerRef) → Q1 v ≡ waits h false → (Q v ≡ waits h false) × (IsAmong v names → ⊥)
-    mid_unwoken v h e = (by (all_told names r v), λ i. never_unwoken (Q v) h (sym (named_told names r v i) ∙ e))
-      where
-        by : MayBeTold Q Q1 v → Q v ≡ waits h false
-        by (inl same) = sym same ∙ e
-        by (inr told) = absurd (never_unwoken (Q v) h (sym told ∙ e))
-
   -- ---- a call makes a step
 
   module _ (b : NameState T) (s t : Configuration T Waiter) (p : ℕ) (m : Mark) (r : Option (Reply T)) (kp : Option (Returned T))
@@ -130,9 +86,6 @@ module _ {T : Type 0} where
       (st : Steps s p (record { mark = m; reply = r; kept = kp }) names t) where
     abbrev P : Waiter → NameStatus
     P = status b.name_table
-
-    abbrev P1 : Waiter → NameStatus
-    P1 = status (all_woken names b.name_table)
 
     abbrev effect : Effect T Waiter
     effect = record { channel = t.now; mark = m; woken = names }
@@ -194,17 +147,6 @@ module _ {T : Type 0} where
         by (inl j) = inl (beyond_after t.now q h st.before Now st.behind j)
         by (inr j) = inr (ap calling (sym j.0 ∙ st.whose), j.1)
 
-    -- who isn't woken waits for its name still
-    waits_still : (v : Waiter) (h : ListenerRef) → P1 v ≡ waits h false → WaitsToWake h v t.now
-    waits_still v h e =
-        let before = mid_unwoken names b.name_table v h e in
-        by before.1 ((out.lists h.line).waiting h.key v
-        (λ had. apart v p (o.alone (named v) (calling p) h (false, before.0) (was_mine h had))) (o.unwoken v h before.0))
-      where
-        by : (IsAmong v names → ⊥) → WaitsToWake h v t.now ⊎ IsAmong v names → WaitsToWake h v t.now
-        by f (inl i) = i
-        by f (inr i) = absurd (f i)
-
   -- it goes on
   module _ (b : NameState T) (s t : Configuration T Waiter) (p : ℕ) (m : Mark) (kp : Option (Returned T)) (names : List Waiter) (o : Owned b s)
       (known : AllKnown s.now s.under_way)
@@ -216,10 +158,7 @@ module _ {T : Type 0} where
     abbrev on_after : List (ActiveCall T Waiter)
     on_after = map (sees t.now) st.before ++ ((does st.mine st.at_now m s.now t.now ∷ []) ++ map (sees t.now) st.behind)
 
-    abbrev on_statuses : Waiter → NameStatus
-    on_statuses = status (all_woken names b.name_table)
-
-    goes_pass : Passes (HoldsIn (status b.name_table) s.under_way) (HoldsIn on_statuses on_after) (holding st.mine.at) on_out.has
+    goes_pass : Passes (HoldsIn (status b.name_table) s.under_way) (HoldsIn (status b.name_table) on_after) (holding st.mine.at) on_out.has
         (calling p) (calling p)
     goes_pass =
         record {
@@ -230,9 +169,9 @@ module _ {T : Type 0} where
               (inl (st.whose, on_out.next.0 ∙ e));
         }
       where
-        back : (x : Holder) (h : ListenerRef) → HoldsIn on_statuses on_after x h
+        back : (x : Holder) (h : ListenerRef) → HoldsIn (status b.name_table) on_after x h
             → (HoldsIn (status b.name_table) s.under_way x h × (x ≡ calling p → ⊥)) ⊎ ((x ≡ calling p) × (on_out.has ≡ Some h))
-        back (named v) h (w, e) = inl (mid_back names b.name_table v h w e, apart v p)
+        back (named v) h e = inl (e, apart v p)
         back (calling q) h i = by (split_after t.now q h st.before (does st.mine st.at_now m s.now t.now ∷ []) st.behind i)
           where
             by : Beyond q h st.before st.behind ⊎ AnyOf (HasIt q h) (does st.mine st.at_now m s.now t.now ∷ [])
@@ -247,8 +186,8 @@ module _ {T : Type 0} where
             by (inr (inr j)) = absurd j
 
         forth : (x : Holder) (h : ListenerRef) → HoldsIn (status b.name_table) s.under_way x h
-            → HoldsIn on_statuses on_after x h ⊎ ((x ≡ calling p) × (holding st.mine.at ≡ Some h))
-        forth (named v) h (w, e) = inl (mid_forth names b.name_table v h w e)
+            → HoldsIn (status b.name_table) on_after x h ⊎ ((x ≡ calling p) × (holding st.mine.at ≡ Some h))
+        forth (named v) h e = inl e
         forth (calling q) h i = forth_calling b s t p m None kp names o known st q h i
 
     bears_on : (a c : Option Waiter) (wait : Option (WaitList × Waiter)) → (a ≡ None) ⊎ (a ≡ c) → Bears c wait → Bears a wait
@@ -263,35 +202,28 @@ module _ {T : Type 0} where
     goes_owned : Owned (with_woken names b) t
     goes_owned =
         let pt = parts b s t p m None kp names o known st in
-        let keep : (v : Waiter) → IsBusy (status b.name_table v) → on_statuses v ≡ status b.name_table v = mid_busy names b.name_table in
         let a = accounted s.now t.now names (holding st.mine.at) on_out.has (HoldsIn (status b.name_table) s.under_way)
-        (HoldsIn on_statuses on_after) (calling p) (calling p) on_out.lists on_out.how goes_pass
+        (HoldsIn (status b.name_table) on_after) (calling p) (calling p) on_out.lists on_out.how goes_pass
         (accounts b s t p m None kp names o known st) in
-        let own : AgentFits on_statuses pt.agent (does st.mine st.at_now m s.now t.now) =
+        let own : AgentFits (status b.name_table) pt.agent (does st.mine st.at_now m s.now t.now) =
         record {
           party = pt.own.party;
-          suits = suits_on (status b.name_table) on_statuses pt.agent.on_return _
-              (λ v e. keep v (busy (status b.name_table) pt.agent.on_return _ v pt.own.suits e)) pt.own.suits;
+          suits = pt.own.suits;
           bears = bears_on (task_at st.at_now) (task_at st.mine.at) (wait_of st.mine.ask) on_out.next.1 pt.own.bears;
           lines = λ h i. own_line pt h (on_out.own h (sym on_out.next.0 ∙ i));
         } in
-        let front = together_sees t.now on_statuses pt.front st.before
-        (together_on (status b.name_table) on_statuses pt.front st.before
-        (all_keep (status b.name_table) on_statuses pt.front st.before pt.first keep) pt.first) in
-        let back = together_sees t.now on_statuses pt.back st.behind
-        (together_on (status b.name_table) on_statuses pt.back st.behind (all_keep (status b.name_table) on_statuses pt.back st.behind pt.last keep)
-        pt.last) in
-        let all : Together on_statuses (pt.front ++ pt.agent ∷ pt.back) on_after = together_join on_statuses pt.front
+        let front = together_sees t.now (status b.name_table) pt.front st.before pt.first in
+        let back = together_sees t.now (status b.name_table) pt.back st.behind pt.last in
+        let all : Together (status b.name_table) (pt.front ++ pt.agent ∷ pt.back) on_after = together_join (status b.name_table) pt.front
         (pt.agent ∷ pt.back) (map (sees t.now) st.before) (does st.mine st.at_now m s.now t.now ∷ map (sees t.now) st.behind)
         front (own, back) in
         subst (λ (us : List (ActiveCall T Waiter)). Owned (with_woken names b)
         (record { now = t.now; blocks = t.blocks; under_way = us; gone = t.gone; came = t.came })) (sym st.left) (
         record {
-          together = subst (λ (l : List (Agent T)). Together on_statuses l on_after) (sym pt.are) all;
+          together = subst (λ (l : List (Agent T)). Together (status b.name_table) l on_after) (sym pt.are) all;
           differ = o.differ;
-          none_amiss = λ v e. o.none_amiss v (mid_amiss names b.name_table v e);
+          none_amiss = o.none_amiss;
           once = a.once;
-          unwoken = λ v h e. waits_still b s t p m None kp names o known st v h e;
           listed = a.listed;
           held = a.held;
           alone = a.alone;
@@ -309,12 +241,12 @@ subject_or (Some w) v = by (waiter_or w v)
     by (inl e) = inl (ap (λ (x : Waiter). let o : Option Waiter = Some x in o) e)
     by (inr f) = inr (λ e. f (inner w v e))
 
-pub waits_is : (h k : ListenerRef) (b c : Bool) → waits h b ≡ waits k c → h ≡ k
-waits_is h k b c e =
-    ap (λ (x : NameStatus). elim x [ waits z d ↦ z | free ↦ h | retired ↦ h | invalid ↦ h | rests l ↦ h | polled l ↦ h ]) e
+pub waits_is : (h k : ListenerRef) → waits h ≡ waits k → h ≡ k
+waits_is h k e =
+    ap (λ (x : NameStatus). elim x [ waits z ↦ z | free ↦ h | retired ↦ h | invalid ↦ h | rests l ↦ h | polled l ↦ h ]) e
 
-no_waits_amiss : (h : ListenerRef) (b : Bool) → waits h b ≡ invalid → ⊥
-no_waits_amiss h b e = absurd (cc e)
+no_waits_amiss : (h : ListenerRef) → waits h ≡ invalid → ⊥
+no_waits_amiss h e = absurd (cc e)
 
 module _ {T : Type 0} where
   finished_is : (x y : Returned T) (at : Stage (Phase T) T Waiter) → at ≡ Finished x → at ≡ Finished y → x ≡ y
@@ -331,9 +263,6 @@ module _ {T : Type 0} where
   module _ (b : NameState T) (s t : Configuration T Waiter) (p : ℕ) (m : Mark) (y : Reply T) (kp : Option (Returned T)) (names : List Waiter)
       (o : Owned b s) (known : AllKnown s.now s.under_way)
       (st : Steps s p (record { mark = m; reply = Some y; kept = kp }) names t) where
-    abbrev E1 : Waiter → NameStatus
-    E1 = status (all_woken names b.name_table)
-
     abbrev pt : Parted (status b.name_table) b.agents st.before st.mine st.behind
     pt = parts b s t p m (Some y) kp names o known st
 
@@ -349,7 +278,7 @@ module _ {T : Type 0} where
     kept = let f = st.finishes in f.kept
 
     abbrev E2 : Waiter → NameStatus
-    E2 = status (written_back pt.agent.on_return y kept (all_woken names b.name_table))
+    E2 = status (written_back pt.agent.on_return y kept b.name_table)
 
     pub leaves : LeavesIt T Waiter st.mine.ask kept end_out.has t.now
     leaves = let f = st.finishes in
@@ -364,25 +293,19 @@ module _ {T : Type 0} where
         by (inr (line, key, task, h, k, w, there)) = let f = st.finishes in
             inr (line, key, task, k, w, carries st.mine.ask y kept key line task f.keeps k w)
 
-    keep1 : (v : Waiter) → IsBusy (status b.name_table v) → E1 v ≡ status b.name_table v
-    keep1 v i = mid_busy names b.name_table v i
-
     pub busy_own : (v : Waiter) → subject pt.agent.on_return ≡ Some v → IsBusy (status b.name_table v)
     busy_own v e = busy (status b.name_table) pt.agent.on_return wait v pt.own.suits e
 
-    own_suits : Suits E1 pt.agent.on_return wait
-    own_suits = suits_on (status b.name_table) E1 pt.agent.on_return wait (λ v e. keep1 v (busy_own v e)) pt.own.suits
-
-    pub set : Settles E1 E2 pt.agent.on_return kept wait
-    set = settles (all_woken names b.name_table) pt.agent.on_return y kept wait is_left own_suits
+    pub set : Settles (status b.name_table) E2 pt.agent.on_return kept wait
+    set = settles b.name_table pt.agent.on_return y kept wait is_left pt.own.suits
 
     abbrev end_calls : List (ActiveCall T Waiter)
     end_calls = map (sees t.now) st.before ++ map (sees t.now) st.behind
 
     abbrev pub end_name_state : NameState T
     end_name_state = record {
-      name_table = written_back pt.agent.on_return y kept (all_woken names b.name_table);
-      order = order_settled pt.agent.on_return kept.key (all_moved_last names b.order);
+      name_table = written_back pt.agent.on_return y kept b.name_table;
+      order = order_settled pt.agent.on_return kept.key (all_woken b.name_table names b.order);
       agents = pt.front ++ pt.back;
     }
 
@@ -390,21 +313,16 @@ module _ {T : Type 0} where
     Pass taker = Passes (HoldsIn (status b.name_table) s.under_way) (HoldsIn E2 end_calls) (holding st.mine.at) end_out.has
         (calling p) taker
 
-    end_owned : (taker : Holder) → Pass taker → ((v : Waiter) → E2 v ≡ invalid → ⊥)
-        → ((v : Waiter) (h : ListenerRef) → E2 v ≡ waits h false → WaitsToWake h v t.now) → Owned end_name_state t
-    end_owned taker pass sane unwoken =
+    end_owned : (taker : Holder) → Pass taker → ((v : Waiter) → E2 v ≡ invalid → ⊥) → Owned end_name_state t
+    end_owned taker pass sane =
         let a = accounted s.now t.now names (holding st.mine.at) end_out.has (HoldsIn (status b.name_table) s.under_way)
         (HoldsIn E2 end_calls) (calling p) taker end_out.lists end_out.how pass
         (accounts b s t p m (Some y) kp names o known st) in
         let sd = sides b s t p m (Some y) kp names o known st in
-        let front1 = together_on (status b.name_table) E1 pt.front st.before (all_keep (status b.name_table) E1 pt.front st.before pt.first keep1)
-        pt.first in
-        let back1 = together_on (status b.name_table) E1 pt.back st.behind (all_keep (status b.name_table) E1 pt.back st.behind pt.last keep1)
-        pt.last in
         let front = together_sees t.now E2 pt.front st.before
-        (together_on E1 E2 pt.front st.before (differ_keep E1 E2 pt.agent pt.front sd.first set.others) front1) in
+        (together_on (status b.name_table) E2 pt.front st.before (differ_keep (status b.name_table) E2 pt.agent pt.front sd.first set.others) pt.first) in
         let back = together_sees t.now E2 pt.back st.behind
-        (together_on E1 E2 pt.back st.behind (differ_keep E1 E2 pt.agent pt.back sd.last set.others) back1) in
+        (together_on (status b.name_table) E2 pt.back st.behind (differ_keep (status b.name_table) E2 pt.agent pt.back sd.last set.others) pt.last) in
         subst (λ (us : List (ActiveCall T Waiter)). Owned end_name_state
         (record { now = t.now; blocks = t.blocks; under_way = us; gone = t.gone; came = t.came })) (sym st.left) (
         record {
@@ -412,7 +330,6 @@ module _ {T : Type 0} where
           differ = sd.rest;
           none_amiss = sane;
           once = a.once;
-          unwoken = unwoken;
           listed = a.listed;
           held = a.held;
           alone = a.alone;
@@ -420,10 +337,10 @@ module _ {T : Type 0} where
         )
 
     -- a name at which it didn't work
-    back_named : (taker : Holder) (v : Waiter) (h : ListenerRef) (w : Bool) → (subject pt.agent.on_return ≡ Some v → ⊥) → E2 v ≡ waits h w
+    back_named : (taker : Holder) (v : Waiter) (h : ListenerRef) → (subject pt.agent.on_return ≡ Some v → ⊥) → E2 v ≡ waits h
         → (HoldsIn (status b.name_table) s.under_way (named v) h × (named v ≡ calling p → ⊥))
         ⊎ ((named v ≡ taker) × (end_out.has ≡ Some h))
-    back_named taker v h w other e = inl (mid_back names b.name_table v h w (sym (set.others v other) ∙ e), apart v p)
+    back_named taker v h other e = inl (sym (set.others v other) ∙ e, apart v p)
 
     pub back_calling : (taker : Holder) (q : ℕ) (h : ListenerRef) → AnyOf (HasIt q h) end_calls
         → (HoldsIn (status b.name_table) s.under_way (calling q) h × (calling q ≡ calling p → ⊥))
@@ -442,9 +359,7 @@ module _ {T : Type 0} where
 
     forth : (x : Holder) (h : ListenerRef) → HoldsIn (status b.name_table) s.under_way x h
         → HoldsIn E2 end_calls x h ⊎ ((x ≡ calling p) × (holding st.mine.at ≡ Some h))
-    forth (named v) h (w, e) =
-        let mid = mid_forth names b.name_table v h w e in
-        inl (mid.0, set.others v (λ own. busy_waits (status b.name_table v) h w (busy_own v own) e) ∙ mid.1)
+    forth (named v) h e = inl (set.others v (λ own. busy_waits (status b.name_table v) h (busy_own v own) e) ∙ e)
     forth (calling q) h i = forth_calling b s t p m (Some y) kp names o known st q h i
 
     -- it leaves no listener
@@ -455,11 +370,11 @@ module _ {T : Type 0} where
           forth = forth;
           old = λ h e. was_mine b s t p m (Some y) kp names o known st h e;
           new = λ h e. absurd (let no : None ≡ Some h = sym none ∙ e in cc);
-        }) sane unwoken
+        }) sane
       where
         back : (x : Holder) (h : ListenerRef) → HoldsIn E2 end_calls x h → (HoldsIn (status b.name_table) s.under_way x h × (x ≡ calling p → ⊥))
             ⊎ ((x ≡ calling p) × (end_out.has ≡ Some h))
-        back (named v) h (w, e) = back_named (calling p) v h w (λ own. calm_waits (E2 v) h w (calm v own) e) e
+        back (named v) h e = back_named (calling p) v h (λ own. calm_waits (E2 v) h (calm v own) e) e
         back (calling q) h i = back_calling (calling p) q h i
 
         sane : (v : Waiter) → E2 v ≡ invalid → ⊥
@@ -467,32 +382,27 @@ module _ {T : Type 0} where
           where
             by : (subject pt.agent.on_return ≡ Some v) ⊎ (subject pt.agent.on_return ≡ Some v → ⊥) → ⊥
             by (inl own) = calm_amiss (E2 v) (calm v own) e
-            by (inr other) = o.none_amiss v (mid_amiss names b.name_table v (sym (set.others v other) ∙ e))
-
-        unwoken : (v : Waiter) (h : ListenerRef) → E2 v ≡ waits h false → WaitsToWake h v t.now
-        unwoken v h e = waits_still b s t p m (Some y) kp names o known st v h
-            (sym (set.others v (λ own. calm_waits (E2 v) h false (calm v own) e)) ∙ e)
+            by (inr other) = o.none_amiss v (sym (set.others v other) ∙ e)
 
     -- it leaves one, and its name is pending
-    leaves_one : (h : ListenerRef) (task : Waiter) → end_out.has ≡ Some h → WaitsToWake h task t.now → subject pt.agent.on_return ≡ Some task
-        → E2 task ≡ waits h false → Owned end_name_state t
-    leaves_one h task has there whose is = end_owned (named task)
+    leaves_one : (h : ListenerRef) (task : Waiter) → end_out.has ≡ Some h → subject pt.agent.on_return ≡ Some task → E2 task ≡ waits h
+        → Owned end_name_state t
+    leaves_one h task has whose is = end_owned (named task)
         (record { back = back; forth = forth; old = λ k e. was_mine b s t p m (Some y) kp names o known st k e; new = new }) sane
-        unwoken
       where
         -- the name is this one
         same_name : (v : Waiter) → subject pt.agent.on_return ≡ Some v → v ≡ task
         same_name v own = inner v task (sym own ∙ whose)
 
-        same_held : (v : Waiter) (k : ListenerRef) (w : Bool) → subject pt.agent.on_return ≡ Some v → E2 v ≡ waits k w → k ≡ h
-        same_held v k w own e = waits_is k h w false (sym e ∙ (ap E2 (same_name v own) ∙ is))
+        same_held : (v : Waiter) (k : ListenerRef) → subject pt.agent.on_return ≡ Some v → E2 v ≡ waits k → k ≡ h
+        same_held v k own e = waits_is k h (sym e ∙ (ap E2 (same_name v own) ∙ is))
 
         new : (k : ListenerRef) → end_out.has ≡ Some k → HoldsIn E2 end_calls (named task) k
-        new k e = (false, is ∙ ap (λ (x : ListenerRef). waits x false) (inner h k (sym has ∙ e)))
+        new k e = is ∙ ap (λ (x : ListenerRef). waits x) (inner h k (sym has ∙ e))
 
         back : (x : Holder) (k : ListenerRef) → HoldsIn E2 end_calls x k → (HoldsIn (status b.name_table) s.under_way x k × (x ≡ calling p → ⊥))
             ⊎ ((x ≡ named task) × (end_out.has ≡ Some k))
-        back (named v) k (w, e) = by (subject_or (subject pt.agent.on_return) v)
+        back (named v) k e = by (subject_or (subject pt.agent.on_return) v)
           where
             by : (subject pt.agent.on_return ≡ Some v) ⊎ (subject pt.agent.on_return ≡ Some v → ⊥)
                 → (HoldsIn (status b.name_table) s.under_way (named v) k × (named v ≡ calling p → ⊥))
@@ -500,25 +410,17 @@ module _ {T : Type 0} where
             by (inl own) = inr (
               ap named (same_name v own),
               has ∙ ap (λ (x : ListenerRef). let z : Option ListenerRef = Some x in z)
-                  (sym (same_held v k w own e)),
+                  (sym (same_held v k own e)),
             )
-            by (inr other) = back_named (named task) v k w other e
+            by (inr other) = back_named (named task) v k other e
         back (calling q) k i = back_calling (named task) q k i
 
         sane : (v : Waiter) → E2 v ≡ invalid → ⊥
         sane v e = by (subject_or (subject pt.agent.on_return) v)
           where
             by : (subject pt.agent.on_return ≡ Some v) ⊎ (subject pt.agent.on_return ≡ Some v → ⊥) → ⊥
-            by (inl own) = no_waits_amiss h false (sym is ∙ (ap E2 (sym (same_name v own)) ∙ e))
-            by (inr other) = o.none_amiss v (mid_amiss names b.name_table v (sym (set.others v other) ∙ e))
-
-        unwoken : (v : Waiter) (k : ListenerRef) → E2 v ≡ waits k false → WaitsToWake k v t.now
-        unwoken v k e = by (subject_or (subject pt.agent.on_return) v)
-          where
-            by : (subject pt.agent.on_return ≡ Some v) ⊎ (subject pt.agent.on_return ≡ Some v → ⊥) → WaitsToWake k v t.now
-            by (inl own) = subst (λ (x : ListenerRef). WaitsToWake x v t.now) (sym (same_held v k false own e))
-                (subst (λ (x : Waiter). WaitsToWake h x t.now) (sym (same_name v own)) there)
-            by (inr other) = waits_still b s t p m (Some y) kp names o known st v k (sym (set.others v other) ∙ e)
+            by (inl own) = no_waits_amiss h (sym is ∙ (ap E2 (sym (same_name v own)) ∙ e))
+            by (inr other) = o.none_amiss v (sym (set.others v other) ∙ e)
 
     ends_owned : Owned end_name_state t
     ends_owned = by leaves set.own
@@ -532,10 +434,10 @@ module _ {T : Type 0} where
             let same : (let x : WaitList × Waiter = (line', task') in x) ≡ (line, task) = inner _ _ (sym w' ∙ w) in
             let task_is : task' ≡ task = ap (λ (x : WaitList × Waiter). x.1) same in
             let line_is : line' ≡ line = ap (λ (x : WaitList × Waiter). x.0) same in
-            leaves_one (record { line = line; key = key }) task h there (whose ∙ ap (λ (x : Waiter). Some x) task_is)
+            leaves_one (record { line = line; key = key }) task h (whose ∙ ap (λ (x : Waiter). Some x) task_is)
             (ap E2 (sym task_is)
-            ∙ (is ∙ (ap (λ (x : WaitList). waits (record { line = x; key = key' }) false) line_is
-            ∙ ap (λ (x : Key). waits (record { line = line; key = x }) false) same_key)))
+            ∙ (is ∙ (ap (λ (x : WaitList). waits (record { line = x; key = key' })) line_is
+            ∙ ap (λ (x : Key). waits (record { line = line; key = x })) same_key)))
 
   -- ---- any step
 

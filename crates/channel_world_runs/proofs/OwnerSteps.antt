@@ -7,6 +7,7 @@ use Rattle.channel_calls.specs.declared.ask.ChannelAsk.{ChannelAsk}
 use Rattle.channel_calls.specs.declared.stage.ListenerRef.{ListenerRef}
 use Rattle.channel_calls.specs.declared.stage.WaitList.{WaitList}
 use Rattle.channel_calls.specs.declared.stage.WaitList.TheVariants.{Sends, Receives, Streams, Closings}
+use Rattle.channel_world_model.specs.Asked.{keeper_in}
 use Rattle.channel_world_model.specs.declared.call.Call.{Call}
 use Rattle.channel_world_model.specs.declared.name.Waiter.{Waiter}
 use Rattle.channel_world_model.specs.declared.name.Waiter.TheVariants.{Op, Stream}
@@ -15,9 +16,9 @@ use Rattle.channel_steps.specs.Configuration.{ActiveCall, Configuration}
 use Rattle.channel_steps.specs.declared.party.Entry.{Entry as ChannelEntry}
 use Rattle.channel_world_runs.specs.AskedBy.{IsOrListens}
 use Rattle.channel_world_runs.specs.Bookkeeping.{asks, on_return_of, names_begun}
-use Rattle.channel_world_runs.specs.Order.{order_begun}
-use Rattle.channel_world_runs.specs.Owners.{All, AnyOf, NameStatus, free, retired, invalid, rests, waits, polled, status_by, status, holding, wait_of, subject, Suits, Together, Differ, AllDiffer, IsListed, NoneListedTwice, Holder, named, calling, HoldsIn, Owned}
-use Rattle.channel_world_runs.specs.NameTable.{first_name_table, unused, is_at_work}
+use Rattle.channel_world_runs.specs.Order.{no_places, order_begun}
+use Rattle.channel_world_runs.specs.Owners.{All, AnyOf, NameStatus, retired, invalid, waits, polled, status_by, status, holding, wait_of, subject, Suits, Together, Differ, AllDiffer, IsListed, NoneListedTwice, Holder, named, calling, HoldsIn, Owned}
+use Rattle.channel_world_runs.specs.NameTable.{first_name_table, names_of, unused, is_at_work}
 use Rattle.channel_world_runs.specs.Run.{NameState, name_state_begun}
 use Rattle.channel_world_runs.specs.Calls.{Agent}
 use Rattle.channel_world_runs.specs.declared.names.OnReturn.{OnReturn}
@@ -30,19 +31,19 @@ use Rattle.channel_world_runs.proofs.OwnerCalls.{BeginsSo, begins_so}
 use Rattle.channel_world_runs.proofs.OwnerEnds.{IsCalm}
 use Rattle.channel_world_runs.proofs.OwnerHolders.{Accounted, Passes, accounted}
 use Rattle.channel_world_runs.proofs.OwnerMoves.{still}
-use Rattle.channel_world_runs.proofs.OwnerNames.{handle_entry_status, waiter_or, told_status}
+use Rattle.channel_world_runs.proofs.OwnerNames.{handle_entry_status, waiter_or}
 use Rattle.channel_world_runs.proofs.OwnerTogether.{all_join, HasIt, any_left, any_right, any_of, busy, Keeps, together_on, together_join}
 
 -- ---- how names stand
 
-pub calm_waits : (x : NameStatus) (h : ListenerRef) (b : Bool) → IsCalm x → x ≡ waits h b → ⊥
-calm_waits x h b c e = subst IsCalm e c
+pub calm_waits : (x : NameStatus) (h : ListenerRef) → IsCalm x → x ≡ waits h → ⊥
+calm_waits x h c e = subst IsCalm e c
 
 pub calm_amiss : (x : NameStatus) → IsCalm x → x ≡ invalid → ⊥
 calm_amiss x c e = subst IsCalm e c
 
-pub busy_waits : (x : NameStatus) (h : ListenerRef) (b : Bool) → IsBusy x → x ≡ waits h b → ⊥
-busy_waits x h b c e = subst IsBusy e c
+pub busy_waits : (x : NameStatus) (h : ListenerRef) → IsBusy x → x ≡ waits h → ⊥
+busy_waits x h c e = subst IsBusy e c
 
 busy_amiss : (x : NameStatus) → IsBusy x → x ≡ invalid → ⊥
 busy_amiss x c e = subst IsBusy e c
@@ -52,41 +53,9 @@ busy_loose retired b l = l
 busy_loose (polled line) b l = l
 busy_loose x b l = b
 
-held_is : (x : NameStatus) (h : ListenerRef) → held_in x ≡ Some h → (b : Bool) × (x ≡ waits h b)
-held_is (waits k b) h e = (b, ap (λ (z : ListenerRef). waits z b) (ap (λ (o : Option ListenerRef). elim o [ None ↦ k | Some z ↦ z ]) e))
+held_is : (x : NameStatus) (h : ListenerRef) → held_in x ≡ Some h → x ≡ waits h
+held_is (waits k) h e = ap (λ (z : ListenerRef). waits z) (ap (λ (o : Option ListenerRef). elim o [ None ↦ k | Some z ↦ z ]) e)
 held_is x h e = absurd (let no : None ≡ Some h = e in cc)
-
-pub told_was : (x : NameStatus) (h : ListenerRef) (b : Bool) → told_status x ≡ waits h b → (c : Bool) × (x ≡ waits h c)
-told_was (waits k c) h b e = (
-  c,
-  ap (λ (z : ListenerRef). waits z c)
-      (ap (λ (y : NameStatus). elim y [ waits z d ↦ z | free ↦ k | retired ↦ k | invalid ↦ k | rests l ↦ k | polled l ↦ k ]) e),
-)
-told_was free h b e = (b, e)
-told_was retired h b e = (b, e)
-told_was invalid h b e = (b, e)
-told_was (rests line) h b e = (b, e)
-told_was (polled line) h b e = (b, e)
-
-pub told_amiss : (x : NameStatus) → told_status x ≡ invalid → x ≡ invalid
-told_amiss (waits k c) e = absurd (let no : waits k true ≡ invalid = e in cc)
-told_amiss x e = e
-
-pub told_busy : (x : NameStatus) → IsBusy x → told_status x ≡ x
-told_busy retired b = refl
-told_busy (polled line) b = refl
-told_busy x b = absurd b
-
-pub never_unwoken : (x : NameStatus) (h : ListenerRef) → told_status x ≡ waits h false → ⊥
-never_unwoken (waits k c) h e =
-    absurd (let no : true
-    ≡ false = ap (λ (y : NameStatus). elim y
-    [ waits z d ↦ d | free ↦ false | retired ↦ false | invalid ↦ false | rests l ↦ false | polled l ↦ false ]) e in cc)
-never_unwoken free h e = absurd (let no : free ≡ waits h false = e in cc)
-never_unwoken retired h e = absurd (let no : retired ≡ waits h false = e in cc)
-never_unwoken invalid h e = absurd (let no : invalid ≡ waits h false = e in cc)
-never_unwoken (rests line) h e = absurd (let no : rests line ≡ waits h false = e in cc)
-never_unwoken (polled line) h e = absurd (let no : polled line ≡ waits h false = e in cc)
 
 pub named_is : (v w : Waiter) → named v ≡ named w → v ≡ w
 named_is v w e = ap (λ (x : Holder). elim x [ named z ↦ z | calling p ↦ v ]) e
@@ -135,18 +104,17 @@ module _ (T : Type 0) where
       by Closings i = i
 
   nobody_holds : (x : Holder) (h : ListenerRef) → HoldsIn {T = T} (status {T = T} first_name_table) [] x h → ⊥
-  nobody_holds (named w) h (b, e) = calm_waits (status {T = T} first_name_table w) h b (first_calm T w) e
+  nobody_holds (named w) h e = calm_waits (status {T = T} first_name_table w) h (first_calm T w) e
   nobody_holds (calling p) h i = i
 
   -- a channel that was just opened
-  pub owned_first : (cap : Option ℕ) → Owned {T = T} (record { name_table = first_name_table; order = []; agents = [] }) (new_configuration cap)
+  pub owned_first : (cap : Option ℕ) → Owned {T = T} (record { name_table = first_name_table; order = no_places; agents = [] }) (new_configuration cap)
   owned_first cap =
       record {
         together = tt;
         differ = tt;
         none_amiss = λ w e. calm_amiss (status {T = T} first_name_table w) (first_calm T w) e;
         once = nobody_twice cap;
-        unwoken = λ w h e. absurd (calm_waits (status {T = T} first_name_table w) h false (first_calm T w) e);
         listed = λ x h i. absurd (nobody_holds x h i);
         held = λ h i. absurd (nobody_listed cap h i);
         alone = λ x y h i j. absurd (nobody_holds x h i);
@@ -219,9 +187,8 @@ module _ {T : Type 0} where
         → Passes (HoldsIn P s.under_way) (HoldsIn P' calls) had had giver taker
         → ((v : Waiter) → IsBusy (P v) → P' v ≡ P v) → ((v : Waiter) → IsBusy (P v) → subject (on_return_of b.name_table c) ≡ Some v → ⊥)
         → ((v : Waiter) → P' v ≡ invalid → ⊥)
-        → ((v : Waiter) (h : ListenerRef) → P' v ≡ waits h false → P v ≡ waits h false)
         → Suits P' (on_return_of b.name_table c) (wait_of (asks b.name_table c)) → Owned (name_state_begun q c b) t
-    begun_owned had giver taker pass keep own sane unwoken suits =
+    begun_owned had giver taker pass keep own sane suits =
         let whole = accounted s.now s.now [] had had (HoldsIn P s.under_way) (HoldsIn P' calls) giver taker
         (still s.now.wait_lists [] had) (inl refl) pass before in
         subst (λ (us : List (ActiveCall T Waiter)). Owned (name_state_begun q c b)
@@ -242,7 +209,6 @@ module _ {T : Type 0} where
           differ = all_differ P new_agent b.agents s.under_way o.together idle own o.differ;
           none_amiss = sane;
           once = whole.once;
-          unwoken = λ w h i. o.unwoken w h (unwoken w h i);
           listed = whole.listed;
           held = whole.held;
           alone = whole.alone;
@@ -250,10 +216,10 @@ module _ {T : Type 0} where
         )
         )
 
-    quietly : Quiet P P' (on_return_of b.name_table c) (asks b.name_table c) (order_begun c) → Owned (name_state_begun q c b) t
+    quietly : Quiet P P' (keeper_in (names_of b.name_table) c) (on_return_of b.name_table c) (asks b.name_table c) (order_begun c) → Owned (name_state_begun q c b) t
     quietly k = begun_owned None (calling q.0) (calling q.0) pass (λ v i. k.same v)
         (λ v i e. absurd (let no : None ≡ Some v = sym k.nobody ∙ e in cc)) (λ v e. o.none_amiss v (sym (k.same v) ∙ e))
-        (λ v h e. sym (k.same v) ∙ e) (plain_suits P' (on_return_of b.name_table c) (wait_of (asks b.name_table c)) k.nobody k.patient)
+        (plain_suits P' (on_return_of b.name_table c) (wait_of (asks b.name_table c)) k.nobody k.patient)
       where
         plain_suits : (p : Waiter → NameStatus) (e : OnReturn T) (wait : Option (WaitList × Waiter)) → subject e ≡ None → wait ≡ None
             → Suits p e wait
@@ -268,7 +234,7 @@ module _ {T : Type 0} where
 
         back : (x : Holder) (h : ListenerRef) → HoldsIn P' calls x h
             → (HoldsIn P s.under_way x h × (x ≡ calling q.0 → ⊥)) ⊎ ((x ≡ calling q.0) × (None ≡ Some h))
-        back (named v) h (w, e) = inl ((w, sym (k.same v) ∙ e), apart v q.0)
+        back (named v) h e = inl (sym (k.same v) ∙ e, apart v q.0)
         back (calling r) h i = by (any_of (HasIt r h) s.under_way (new_call ∷ []) i)
           where
             by : AnyOf (HasIt r h) s.under_way ⊎ AnyOf (HasIt r h) (new_call ∷ [])
@@ -279,7 +245,7 @@ module _ {T : Type 0} where
             by (inr (inr j)) = absurd j
 
         forth : (x : Holder) (h : ListenerRef) → HoldsIn P s.under_way x h → HoldsIn P' calls x h ⊎ ((x ≡ calling q.0) × (None ≡ Some h))
-        forth (named v) h (w, e) = inl (w, k.same v ∙ e)
+        forth (named v) h e = inl (k.same v ∙ e)
         forth (calling r) h i = inl (any_left (HasIt r h) s.under_way (new_call ∷ []) i)
 
         pass : Passes (HoldsIn P s.under_way) (HoldsIn P' calls) None None (calling q.0) (calling q.0)
@@ -290,9 +256,9 @@ module _ {T : Type 0} where
           new = λ h e. absurd (let no : None ≡ Some h = e in cc);
         }
 
-    touching : Touches P P' (on_return_of b.name_table c) (asks b.name_table c) (order_begun c) → Owned (name_state_begun q c b) t
+    touching : Touches P P' (keeper_in (names_of b.name_table) c) (on_return_of b.name_table c) (asks b.name_table c) (order_begun c) → Owned (name_state_begun q c b) t
     touching k = begun_owned (held_in (P k.name)) (named k.name) (calling q.0) pass (λ v i. k.sets.others v (idle_name v i)) own
-        sane unwoken k.suits
+        sane k.suits
       where
         idle_name : (v : Waiter) → IsBusy (P v) → v ≡ k.name → ⊥
         idle_name v i e = busy_loose (P k.name) (subst (λ (w : Waiter). IsBusy (P w)) e i) k.loose
@@ -314,16 +280,13 @@ module _ {T : Type 0} where
             by (inl same) = busy_amiss (P' k.name) busy_now (ap P' (sym same) ∙ e)
             by (inr other) = o.none_amiss v (sym (k.sets.others v other) ∙ e)
 
-        not_now : (v : Waiter) (h : ListenerRef) (w : Bool) → P' v ≡ waits h w → v ≡ k.name → ⊥
-        not_now v h w e same = busy_waits (P' k.name) h w busy_now (ap P' (sym same) ∙ e)
-
-        unwoken : (v : Waiter) (h : ListenerRef) → P' v ≡ waits h false → P v ≡ waits h false
-        unwoken v h e = sym (k.sets.others v (not_now v h false e)) ∙ e
+        not_now : (v : Waiter) (h : ListenerRef) → P' v ≡ waits h → v ≡ k.name → ⊥
+        not_now v h e same = busy_waits (P' k.name) h busy_now (ap P' (sym same) ∙ e)
 
         back : (x : Holder) (h : ListenerRef) → HoldsIn P' calls x h → (HoldsIn P s.under_way x h × (x ≡ named k.name → ⊥))
             ⊎ ((x ≡ calling q.0) × (held_in (P k.name) ≡ Some h))
-        back (named v) h (w, e) =
-            inl ((w, sym (k.sets.others v (not_now v h w e)) ∙ e), λ same. not_now v h w e (named_is v k.name same))
+        back (named v) h e =
+            inl (sym (k.sets.others v (not_now v h e)) ∙ e, λ same. not_now v h e (named_is v k.name same))
         back (calling r) h i = by (any_of (HasIt r h) s.under_way (new_call ∷ []) i)
           where
             by : AnyOf (HasIt r h) s.under_way ⊎ AnyOf (HasIt r h) (new_call ∷ [])
@@ -335,12 +298,12 @@ module _ {T : Type 0} where
 
         forth : (x : Holder) (h : ListenerRef) → HoldsIn P s.under_way x h
             → HoldsIn P' calls x h ⊎ ((x ≡ named k.name) × (held_in (P k.name) ≡ Some h))
-        forth (named v) h (w, e) = by (waiter_or v k.name)
+        forth (named v) h e = by (waiter_or v k.name)
           where
             by : (v ≡ k.name) ⊎ (v ≡ k.name → ⊥)
                 → HoldsIn P' calls (named v) h ⊎ ((named v ≡ named k.name) × (held_in (P k.name) ≡ Some h))
             by (inl same) = inr (ap named same, ap held_in (ap P (sym same) ∙ e))
-            by (inr other) = inl (w, k.sets.others v other ∙ e)
+            by (inr other) = inl (k.sets.others v other ∙ e)
         forth (calling r) h i = inl (any_left (HasIt r h) s.under_way (new_call ∷ []) i)
 
         pass : Passes (HoldsIn P s.under_way) (HoldsIn P' calls) (held_in (P k.name)) (held_in (P k.name))

@@ -1,47 +1,68 @@
--- Whoever is pending and was woken is told, over steps of calls.
-use Rattle.std.proofs.Common.{◌≡◌, ℕ, Bool, true, false, List, [], ◌∷◌, ◌++◌, map, Option, None, Some, ◌⊎◌, inl, inr, refl, sym, ap, ◌∙◌, subst}
+-- Who was woken is told, and who wasn't waits: in a channel that was just opened, and after every step.
+use Rattle.std.proofs.Common.{◌≡◌, ℕ, Bool, true, false, List, [], ◌∷◌, ◌++◌, map, Option, None, Some, is_some, ◌⊎◌, inl, inr, refl, sym, ap, ◌∙◌, subst}
 use Rattle.std.specs.Map.{keys_of}
 use Rattle.event_listener.specs.declared.key.Key.{Key}
 use Rattle.channel_calls.specs.Moves.{Channel}
 use Rattle.channel_calls.specs.Parts.{listeners}
+use Rattle.channel_calls.specs.declared.ask.ChannelAsk.{ChannelAsk}
 use Rattle.channel_calls.specs.declared.mark.Mark.{Mark}
 use Rattle.channel_calls.specs.declared.reply.Reply.{Reply}
 use Rattle.channel_calls.specs.declared.stage.ListenerRef.{ListenerRef}
 use Rattle.channel_calls.specs.declared.stage.Returned.{Returned}
 use Rattle.channel_calls.specs.declared.stage.WaitList.{WaitList}
+use Rattle.channel_calls.specs.declared.stage.WaitList.TheVariants.{Sends}
+use Rattle.channel_world_model.specs.Asked.{keeper_in}
+use Rattle.channel_world_model.specs.declared.call.Call.{Call}
 use Rattle.channel_world_model.specs.declared.name.Waiter.{Waiter}
 use Rattle.channel_world_model.specs.declared.name.Waiter.TheVariants.{Op, Stream}
+use Rattle.channel_steps.specs.Run.{Begins, new_configuration, call_begun as begun_active_call}
 use Rattle.channel_steps.specs.Configuration.{ActiveCall, Configuration, Steps, AllKnown, sees, does}
-use Rattle.channel_world_runs.specs.Bookkeeping.{written_back, with_one_woken, all_woken}
-use Rattle.channel_world_runs.specs.Order.{all_moved_last, order_settled}
-use Rattle.channel_world_runs.specs.Owners.{IsAmong, All, AnyOf, NameStatus, free, retired, invalid, rests, waits, polled, status, holding, task_at, wait_of, Bears, subject, Suits, Together, Differ, IsListed, WaitsToWake, named, calling, HoldsIn, Owned}
-use Rattle.channel_world_runs.specs.OwnerWoken.{IsAway, IsTold, NoneWorks, IsOwn, WokenSound}
-use Rattle.channel_world_runs.specs.Run.{NameState, with_woken}
+use Rattle.channel_steps.specs.declared.party.Entry.{Entry as ChannelEntry}
+use Rattle.channel_world_runs.specs.AskedBy.{IsOrListens}
+use Rattle.channel_world_runs.specs.Bookkeeping.{asks, on_return_of, names_begun, written_back}
+use Rattle.channel_world_runs.specs.NameTable.{first_name_table, names_of, held_of, is_name_pending}
+use Rattle.channel_world_runs.specs.Order.{WakeOrder, no_places, placed, without_place, all_woken, order_begun, order_settled}
+use Rattle.channel_world_runs.specs.Owners.{IsAmong, NoneTwice, All, AnyOf, NameStatus, free, retired, invalid, waits, polled, status, holding, task_at, wait_of, Bears, subject, Suits, Together, Differ, IsListed, WaitsToWake, named, calling, HoldsIn, Owned}
+use Rattle.channel_world_runs.specs.OwnerWoken.{IsAway, IsTold, IsMarked, NeedsPlace, NoneWorks, Works, IsOwn, WokenSound}
+use Rattle.channel_world_runs.specs.Run.{NameState, with_woken, name_state_begun}
 use Rattle.channel_world_runs.specs.Calls.{Agent}
 use Rattle.channel_world_runs.specs.declared.names.OnReturn.{OnReturn}
 use Rattle.channel_world_runs.specs.declared.names.OnReturn.TheVariants as on_return
 use Rattle.channel_world_runs.specs.declared.name_table.NameTable.{NameTable}
 use Rattle.channel_world_runs.specs.declared.step.PartyId.{PartyId}
-use Rattle.channel_world_runs.proofs.OwnerBegins.{IsBusy}
-use Rattle.channel_world_runs.proofs.OwnerEnds.{Comes}
+use Rattle.channel_world_runs.proofs.AskStarts.{holds_same, starts}
+use Rattle.channel_world_runs.proofs.OwnerBegins.{IsBusy, held_in, Ordered, Quiet, Touches, Admitted}
+use Rattle.channel_world_runs.proofs.OwnerCalls.{BeginsSo, begins_so}
+use Rattle.channel_world_runs.proofs.OwnerEnds.{IsCalm, Comes}
 use Rattle.channel_world_runs.proofs.OwnerKeys.{IsGone}
 use Rattle.channel_world_runs.proofs.OwnerLists.{among_left, among_right, among_of}
 use Rattle.channel_world_runs.proofs.OwnerMoves.{LeavesIt, Turnout}
-use Rattle.channel_world_runs.proofs.OwnerNames.{waiter_or, one_woken, named_told}
-use Rattle.channel_world_runs.proofs.OwnerRuns.{mid_forth, mid_busy, parts, sides, out, was_mine, now_after, forth_calling, inner, subject_or, waits_is, busy_own, set, leaves, back_calling, IsAfter, ended_as}
-use Rattle.channel_world_runs.proofs.OwnerSteps.{calm_waits, busy_waits, told_was, calling_is, apart}
-use Rattle.channel_world_runs.proofs.OwnerTogether.{HasIt, all_join, all_left, all_right, busy, Parted}
+use Rattle.channel_world_runs.proofs.OwnerNames.{waiter_or}
+use Rattle.channel_world_runs.proofs.OwnerOrderNames.{is_out, all_placed, all_stay, all_come, all_there, all_once, settled_places, settled_keeps, settled_woken, settled_back, settled_once, Begins as BeginsOrder, begins_same, begins_placed, begins_removed}
+use Rattle.channel_world_runs.proofs.OwnerRuns.{parts, sides, out, was_mine, now_after, forth_calling, inner, subject_or, waits_is, busy_own, set, leaves, back_calling, end_name_state, IsAfter, ended_as}
+use Rattle.channel_world_runs.proofs.OwnerSteps.{calm_waits, busy_waits, busy_loose, first_calm, calling_is, apart}
+use Rattle.channel_world_runs.proofs.OwnerTogether.{HasIt, any_left, any_right, all_join, all_left, all_right, busy, Parted}
 use Rattle.channel_world_runs.proofs.OwnerWokenLists.{key_of_entry}
 use Rattle.channel_world_runs.proofs.OwnerWokenMoves.{Follows, follows}
+use Rattle.channel_world_runs.proofs.rest.Names.{Pends, holds_it, pends}
 
 -- ---- names
 
 abbrev on : WaitList → Key → ListenerRef
 on line key = record { line = line; key = key }
 
-pub away_busy : (p : NameStatus) → IsAway p → IsBusy p
+away_busy : (p : NameStatus) → IsAway p → IsBusy p
 away_busy p (inl e) = subst IsBusy (sym e) tt
 away_busy p (inr e) = subst IsBusy (sym e.1) tt
+
+busy_away : (p : NameStatus) → IsBusy p → IsAway p
+busy_away retired h = inl refl
+busy_away (polled line) h = inr (line, refl)
+busy_away x h = absurd h
+
+calm_placeless : (x : NameStatus) → IsCalm x → NeedsPlace x → ⊥
+calm_placeless x k (inl (h, e)) = calm_waits x h k e
+calm_placeless x k (inr (line, e)) = subst IsCalm e k
 
 neither : {A B : Type 0} → (A → ⊥) → (B → ⊥) → A ⊎ B → ⊥
 neither f g (inl a) = f a
@@ -56,31 +77,45 @@ among_or v (w ∷ ws) = by (waiter_or w v) (among_or v ws)
     by (inr f) (inl i) = inl (inr i)
     by (inr f) (inr g) = inr (neither f g)
 
-woken_or : (h k : ListenerRef) → waits h true ≡ waits k false → ⊥
-woken_or h k e = absurd (let never : true ≡ false = ap
-    (λ (p : NameStatus). elim p [
-      | waits z d ↦ d
-      | free ↦ false
-      | retired ↦ false
-      | invalid ↦ false
-      | rests l ↦ false
-      | polled l ↦ false
-    ]) e in cc)
+-- one that was marked stays so, where it is told, or waits, still, and its name stays woken, or not
+still_marked : {T : Type 0} (v : Waiter) (woken woken' : List Waiter) (h : ListenerRef) (c d : Channel T Waiter)
+    → (IsAmong v woken → IsAmong v woken') → (IsAmong v woken' → IsAmong v woken) → (IsTold h c → IsTold h d) → (WaitsToWake h v c → WaitsToWake h v d)
+    → IsMarked v woken h c → IsMarked v woken' h d
+still_marked v woken woken' h c d there back told waiting (inl m) = inl (there m.0, told m.1)
+still_marked v woken woken' h c d there back told waiting (inr m) = inr (λ i. m.0 (back i), waiting m.1)
+
+module _ (T : Type 0) where
+  nobody_waits : (cap : Option ℕ) (line : WaitList) (key : Key) (v : Waiter) → WaitsToWake {T = T} {W = Waiter}
+      (record { line = line; key = key }) v (new_configuration cap).now → ⊥
+  nobody_waits cap Sends key v i = i
+  nobody_waits cap x key v i = i
+
+  -- a channel that was just opened
+  pub woken_first : (cap : Option ℕ) → WokenSound {T = T} (record { name_table = first_name_table; order = no_places; agents = [] }) (new_configuration cap)
+  woken_first cap =
+      record {
+        stands = λ v h e. absurd (calm_waits (status {T = T} first_name_table v) h (first_calm T v) e);
+        pending = λ v i. absurd i;
+        once = tt;
+        placed = λ v n. absurd (calm_placeless (status {T = T} first_name_table v) (first_calm T v) n);
+        tasks = λ v h i. absurd (nobody_waits cap h.line h.key v i);
+      }
 
 module _ {T : Type 0} where
-  unnamed : (ws : List Waiter) (r : NameTable T) (v : Waiter) → (IsAmong v ws → ⊥) → status (all_woken ws r) v ≡ status r v
-  unnamed [] r v f = refl
-  unnamed (w ∷ ws) r v f = unnamed ws (with_one_woken w r) v (λ i. f (inr i)) ∙ (one_woken w r).others v (λ e. f (inl (sym e)))
+  -- who is pending
+  pub waits_pending : (r : NameTable T) (v : Waiter) (h : ListenerRef) → status r v ≡ waits h → is_name_pending r v ≡ true
+  waits_pending r v h e = ap (λ (o : Option Key). is_some o) (holds_it r v h e)
 
-  -- one that is woken then was woken before, or is named
-  told_or_named : (ws : List Waiter) (r : NameTable T) (v : Waiter) (h : ListenerRef) → status (all_woken ws r) v ≡ waits h true
-      → (status r v ≡ waits h true) ⊎ ((c : Bool) × (status r v ≡ waits h c) × IsAmong v ws)
-  told_or_named ws r v h e = by (among_or v ws)
+  pub pending_waits : (r : NameTable T) (v : Waiter) → (status r v ≡ invalid → ⊥) → is_name_pending r v ≡ true → (h : ListenerRef) × (status r v ≡ waits h)
+  pending_waits r v sane e = by (held_of r v) refl e
     where
-      by : IsAmong v ws ⊎ (IsAmong v ws → ⊥)
-          → (status r v ≡ waits h true) ⊎ ((c : Bool) × (status r v ≡ waits h c) × IsAmong v ws)
-      by (inl i) = let was = told_was (status r v) h true (sym (named_told ws r v i) ∙ e) in inr (was.0, was.1, i)
-      by (inr out) = inl (sym (unnamed ws r v out) ∙ e)
+      at : (key : Key) → Pends (status r v) key → (h : ListenerRef) × (status r v ≡ waits h)
+      at key (inl bad) = absurd (sane bad)
+      at key (inr x) = (on x.0 key, x.1)
+
+      by : (o : Option Key) → held_of r v ≡ o → is_some o ≡ true → (h : ListenerRef) × (status r v ≡ waits h)
+      by None f g = absurd (let no : false ≡ true = g in cc)
+      by (Some key) f g = at key (pends r v key f)
 
   works_busy : (p : Waiter → NameStatus) (agents : List (Agent T)) (us : List (ActiveCall T Waiter)) (a : Agent T) (v : Waiter)
       → Together p agents us → IsAmong a agents → subject a.on_return ≡ Some v → IsBusy (p v)
@@ -90,13 +125,19 @@ module _ {T : Type 0} where
       busy p x.on_return _ v t.0.suits (ap (λ (y : Agent T). subject y.on_return) same ∙ e)
   works_busy p (x ∷ more) (u ∷ us) a v t (inr i) e = works_busy p more us a v t.1 i e
 
+  none_works : (p : Waiter → NameStatus) (agents : List (Agent T)) (us : List (ActiveCall T Waiter)) (v : Waiter) → Together p agents us
+      → (IsBusy (p v) → ⊥) → NoneWorks v agents
+  none_works p [] us v t f = tt
+  none_works p (a ∷ more) [] v t f = absurd t
+  none_works p (a ∷ more) (u ∷ us) v t f = (λ e. f (busy p a.on_return _ v t.0.suits e), none_works p more us v t.1 f)
+
   -- whoever is pending, and for whose name a listener waits, is pending with that one
-  pub own_held : (b : NameState T) (s : Configuration T Waiter) → Owned b s → (v : Waiter) (h k : ListenerRef) (c : Bool)
-      → IsOwn b s.under_way v h → status b.name_table v ≡ waits k c → h ≡ k
-  own_held b s o v h k c (inl x) e = waits_is h k x.0 c (sym x.1 ∙ e)
-  own_held b s o v h k c (inr (inl x)) e =
-      absurd (busy_waits (status b.name_table v) k c (works_busy (status b.name_table) b.agents s.under_way x.0 v o.together x.1 x.2) e)
-  own_held b s o v h k c (inr (inr x)) e = absurd (busy_waits (status b.name_table v) k c (away_busy (status b.name_table v) x.0) e)
+  own_held : (b : NameState T) (s : Configuration T Waiter) → Owned b s → (v : Waiter) (h k : ListenerRef)
+      → IsOwn b s.under_way v h → status b.name_table v ≡ waits k → h ≡ k
+  own_held b s o v h k (inl x) e = waits_is h k (sym x ∙ e)
+  own_held b s o v h k (inr (inl x)) e =
+      absurd (busy_waits (status b.name_table v) k (works_busy (status b.name_table) b.agents s.under_way x.0 v o.together x.1 x.2) e)
+  own_held b s o v h k (inr (inr x)) e = absurd (busy_waits (status b.name_table v) k (away_busy (status b.name_table v) x.0) e)
 
   suits_name : (p : Waiter → NameStatus) (e : OnReturn T) (line : WaitList) (v : Waiter) (wait : Option (WaitList × Waiter)) → Suits p e wait
       → wait ≡ Some (line, v) → subject e ≡ Some v
@@ -118,6 +159,181 @@ module _ {T : Type 0} where
   listed_of h w c i = among_right h.key (keys_of (listeners h.line c.wait_lists).told)
       (keys_of (listeners h.line c.wait_lists).waiting) (key_of_entry (h.key, Some w) (listeners h.line c.wait_lists).waiting i)
 
+  -- what waits is polled
+  suits_polled : (p : Waiter → NameStatus) (e : OnReturn T) (wait : Option (WaitList × Waiter)) (line : WaitList) (task v : Waiter)
+      → Suits p e wait → wait ≡ Some (line, task) → subject e ≡ Some v → (l : WaitList) × (p v ≡ polled l)
+  suits_polled p (on_return.Poll op) wait line task v s w e = (s.0, ap p (sym (inner (Op op) v e)) ∙ s.1)
+  suits_polled p (on_return.PollNext receiver) wait line task v s w e = (s.0, ap p (sym (inner (Stream receiver) v e)) ∙ s.1)
+  suits_polled p (on_return.Make op operation) wait line task v s w e =
+      absurd (let no : None ≡ Some (line, task) = sym s.2 ∙ w in cc)
+  suits_polled p (on_return.New from new kind) wait line task v s w e =
+      absurd (let no : None ≡ Some (line, task) = sym s.1 ∙ w in cc)
+  suits_polled p z wait line task v s w e = absurd (let no : None ≡ Some v = e in cc)
+
+  -- ---- a call begins
+
+  module _ (q : PartyId) (c : Call T) (b : NameState T) (a : ChannelAsk T Waiter) (s t : Configuration T Waiter) (e : ChannelEntry T)
+      (is : IsOrListens (asks b.name_table c) a) (n : Begins s q.0 a e t) (o : Owned b s) (w : WokenSound b s) where
+    abbrev P : Waiter → NameStatus
+    P = status b.name_table
+
+    abbrev P' : Waiter → NameStatus
+    P' = status (names_begun b.name_table c)
+
+    abbrev begun : NameState T
+    begun = name_state_begun q c b
+
+    abbrev new_agent : Agent T
+    new_agent = record { party = q.0; on_return = on_return_of b.name_table c }
+
+    abbrev new_call : ActiveCall T Waiter
+    new_call = begun_active_call q.0 a n.at s.now
+
+    abbrev calls : List (ActiveCall T Waiter)
+    calls = s.under_way ++ new_call ∷ []
+
+    abbrev Idle : Waiter → Agent T → Type 0
+    Idle v x = subject x.on_return ≡ Some v → ⊥
+
+    more_work : (v : Waiter) (h : ListenerRef) → Works v h b.agents s.under_way → Works v h (b.agents ++ new_agent ∷ []) calls
+    more_work v h (x, j, i, has) =
+        (x, among_left x b.agents (new_agent ∷ []) j, i, any_left (HasIt x.party h) s.under_way (new_call ∷ []) has)
+
+    none_more : (v : Waiter) → NoneWorks v b.agents → Idle v new_agent → NoneWorks v (b.agents ++ new_agent ∷ [])
+    none_more v h f = all_join (Idle v) b.agents (new_agent ∷ []) h (f, tt)
+
+    tasks_so : ((v : Waiter) (h : ListenerRef) → IsOwn b s.under_way v h → IsOwn begun calls v h)
+        → (v : Waiter) (h : ListenerRef) → WaitsToWake h v t.now → IsOwn begun t.under_way v h
+    tasks_so g v h i = subst (λ (us : List (ActiveCall T Waiter)). IsOwn begun us v h) (sym n.under_way)
+        (g v h (w.tasks v h (subst (λ (d : Channel T Waiter). WaitsToWake h v d) n.now i)))
+
+    same_marks : (v : Waiter) (h : ListenerRef) → (IsAmong v b.order.woken → IsAmong v begun.order.woken)
+        → (IsAmong v begun.order.woken → IsAmong v b.order.woken) → IsMarked v b.order.woken h s.now → IsMarked v begun.order.woken h t.now
+    same_marks v h there back m =
+        still_marked v b.order.woken begun.order.woken h s.now t.now there back
+        (λ i. subst (λ (d : Channel T Waiter). IsTold h d) (sym n.now) i)
+        (λ i. subst (λ (d : Channel T Waiter). WaitsToWake h v d) (sym n.now) i) m
+
+    quietly : Quiet P P' (keeper_in (names_of b.name_table) c) (on_return_of b.name_table c) (asks b.name_table c) (order_begun c) → WokenSound begun t
+    quietly k =
+        record {
+          stands = λ v h i. same_marks v h (λ j. subst (λ (x : WakeOrder). IsAmong v x.woken) (sym same) j)
+              (λ j. subst (λ (x : WakeOrder). IsAmong v x.woken) same j) (w.stands v h (sym (k.same v) ∙ i));
+          pending = λ v i. let j = w.pending v (subst (λ (x : WakeOrder). IsAmong v x.woken) same i) in (j.0, k.same v ∙ j.1);
+          once = subst (λ (x : WakeOrder). NoneTwice x.woken) (sym same) w.once;
+          placed = λ v i. subst (λ (x : WakeOrder). IsAmong v x.places) (sym same) (w.placed v (subst NeedsPlace (k.same v) i));
+          tasks = tasks_so still;
+        }
+      where
+        same : begun.order ≡ b.order
+        same = k.order b.order
+
+        still : (v : Waiter) (h : ListenerRef) → IsOwn b s.under_way v h → IsOwn begun calls v h
+        still v h (inl x) = inl (k.same v ∙ x)
+        still v h (inr (inl x)) = inr (inl (more_work v h x))
+        still v h (inr (inr x)) =
+            inr (inr (
+              subst IsAway (sym (k.same v)) x.0,
+              none_more v x.1
+                  (λ i. absurd (let no : None ≡ Some v = sym k.nobody ∙ i in cc)),
+            ))
+
+    touching : Touches P P' (keeper_in (names_of b.name_table) c) (on_return_of b.name_table c) (asks b.name_table c) (order_begun c) → WokenSound begun t
+    touching k =
+        record {
+          stands = λ v h i.
+              let other = not_now v h i in
+              same_marks v h (order_so.stays v other) (order_so.back v) (w.stands v h (sym (k.sets.others v other) ∙ i));
+          pending = λ v i.
+              let j = w.pending v (order_so.back v i) in
+              (j.0, k.sets.others v (λ same. not_woken (subst (λ (x : Waiter). IsAmong x begun.order.woken) same i)) ∙ j.1);
+          once = order_so.once w.once;
+          placed = λ v i. place v i (waiter_or v k.name);
+          tasks = tasks_so still;
+        }
+      where
+        not_now : (v : Waiter) (h : ListenerRef) → P' v ≡ waits h → v ≡ k.name → ⊥
+        not_now v h i same = busy_waits (P' k.name) h (subst IsBusy (sym k.sets.there) k.busy) (ap P' (sym same) ∙ i)
+
+        as_begun : (x : WakeOrder) → order_begun c b.order ≡ x → BeginsOrder k.name b.order x → BeginsOrder k.name b.order begun.order
+        as_begun x same h = subst (λ (y : WakeOrder). BeginsOrder k.name b.order y) (sym same) h
+
+        order_so : BeginsOrder k.name b.order begun.order
+        order_so = by k.order
+          where
+            by : Ordered k.name (P k.name) k.now (order_begun c) → BeginsOrder k.name b.order begun.order
+            by (inl x) = as_begun b.order (x.2 b.order) (begins_same k.name b.order)
+            by (inr (inl x)) = as_begun (placed k.name b.order) (x b.order) (begins_placed k.name b.order)
+            by (inr (inr x)) = as_begun (without_place k.name b.order) (x.1 b.order) (begins_removed k.name b.order)
+
+        -- the name that is touched was not woken, or is not any more
+        not_woken : IsAmong k.name begun.order.woken → ⊥
+        not_woken i = by k.order
+          where
+            by : Ordered k.name (P k.name) k.now (order_begun c) → ⊥
+            by (inl x) = let j = w.pending k.name (order_so.back k.name i) in absurd (let no : free ≡ waits j.0 = sym x.0 ∙ j.1 in cc)
+            by (inr (inl x)) = is_out k.name b.order.woken (subst (λ (y : WakeOrder). IsAmong k.name y.woken) (x b.order) i)
+            by (inr (inr x)) = is_out k.name b.order.woken (subst (λ (y : WakeOrder). IsAmong k.name y.woken) (x.1 b.order) i)
+
+        placeless : NeedsPlace (P' k.name) → k.now ≡ retired → ⊥
+        placeless i gone = calm_placeless retired tt (subst NeedsPlace (k.sets.there ∙ gone) i)
+
+        place : (v : Waiter) → NeedsPlace (P' v) → (v ≡ k.name) ⊎ (v ≡ k.name → ⊥) → IsAmong v begun.order.places
+        place v i (inr other) = order_so.places v other (w.placed v (subst NeedsPlace (k.sets.others v other) i))
+        place v i (inl same) = by k.order
+          where
+            mine : NeedsPlace (P' k.name)
+            mine = subst (λ (x : Waiter). NeedsPlace (P' x)) same i
+
+            by : Ordered k.name (P k.name) k.now (order_begun c) → IsAmong v begun.order.places
+            by (inl x) = absurd (placeless mine x.1)
+            by (inr (inl x)) = subst (λ (y : WakeOrder). IsAmong v y.places) (sym (x b.order)) (inl (sym same))
+            by (inr (inr x)) = absurd (placeless mine x.0)
+
+        -- the name that is touched was pending
+        taken : (v : Waiter) (h : ListenerRef) → P v ≡ waits h → v ≡ k.name
+            → (subject (on_return_of b.name_table c) ≡ None) ⊎ (subject (on_return_of b.name_table c) ≡ Some k.name)
+            → IsOwn begun calls v h
+        taken v h i same (inl none) =
+            let away : IsAway (P' v) = subst IsAway (sym (ap P' same ∙ k.sets.there)) (busy_away k.now k.busy) in
+            let idle : NoneWorks v b.agents =
+            none_works P b.agents s.under_way v o.together (λ is. busy_waits (P v) h is i) in
+            inr (inr (away, none_more v idle (λ j. absurd (let no : None ≡ Some v = sym none ∙ j in cc))))
+        taken v h i same (inr some) =
+            let had : held_in (P k.name) ≡ Some h = ap (λ (y : Waiter). held_in (P y)) (sym same) ∙ ap held_in i in
+            let holds : holding n.at ≡ Some h = (starts a n.answer n.at n.turned).0 ∙ (holds_same (asks b.name_table c) a is ∙ (k.takes ∙ had)) in
+            inr (inl (
+              new_agent,
+              among_right new_agent b.agents (new_agent ∷ []) (inl refl),
+              some ∙ ap (λ (y : Waiter). let z : Option Waiter = Some y in z) (sym same),
+              any_right (HasIt q.0 h) s.under_way (new_call ∷ []) (inl (refl, holds)),
+            ))
+
+        pending : (v : Waiter) (h : ListenerRef) → P v ≡ waits h → (v ≡ k.name) ⊎ (v ≡ k.name → ⊥) → IsOwn begun calls v h
+        pending v h i (inl same) = taken v h i same k.whose
+        pending v h i (inr other) = inl (k.sets.others v other ∙ i)
+
+        idle_new : (v : Waiter) → (v ≡ k.name → ⊥)
+            → (subject (on_return_of b.name_table c) ≡ None) ⊎ (subject (on_return_of b.name_table c) ≡ Some k.name) → Idle v new_agent
+        idle_new v other (inl none) i = absurd (let no : None ≡ Some v = sym none ∙ i in cc)
+        idle_new v other (inr some) i = other (inner v k.name (sym i ∙ some))
+
+        still : (v : Waiter) (h : ListenerRef) → IsOwn b s.under_way v h → IsOwn begun calls v h
+        still v h (inl x) = pending v h x (waiter_or v k.name)
+        still v h (inr (inl x)) = inr (inl (more_work v h x))
+        still v h (inr (inr x)) =
+            let other : v ≡ k.name
+            → ⊥ = λ same. busy_loose (P k.name) (subst (λ (y : Waiter). IsBusy (P y)) same (away_busy (P v) x.0)) k.loose
+            in
+            inr (inr (subst IsAway (sym (k.sets.others v other)) x.0, none_more v x.1 (idle_new v other k.whose)))
+
+    pub begins_woken : Admitted b.name_table c → WokenSound begun t
+    begins_woken no_refusal = by (begins_so b.name_table c o.none_amiss no_refusal)
+      where
+        by : BeginsSo b.name_table c → WokenSound begun t
+        by (inl k) = quietly k
+        by (inr k) = touching k
+
   -- ---- a call makes a step
 
   module _ (b : NameState T) (s t : Configuration T Waiter) (p : ℕ) (m : Mark) (r : Option (Reply T)) (kp : Option (Returned T))
@@ -133,16 +349,42 @@ module _ {T : Type 0} where
         st.at_now
     turn = out b s t p m r kp names o known st
 
-    -- whoever is woken then is told
-    mid_told : (v : Waiter) (h : ListenerRef) → status (all_woken names b.name_table) v ≡ waits h true → IsTold h t.now
-    mid_told v h e = by (told_or_named names b.name_table v h e)
+    abbrev order1 : WakeOrder
+    order1 = all_woken b.name_table names b.order
+
+    mid_stands : (v : Waiter) (h : ListenerRef) → status b.name_table v ≡ waits h → IsMarked v order1.woken h t.now
+    mid_stands v h e = by (w.stands v h e)
       where
-        by : (status b.name_table v ≡ waits h true) ⊎ ((c : Bool) × (status b.name_table v ≡ waits h c) × IsAmong v names) → IsTold h t.now
-        by (inl was) = follow.told h (λ had. apart v p
-            (o.alone (named v) (calling p) h (true, was) (was_mine b s t p m r kp names o known st h had))) (w.told v h was)
-        by (inr was) =
-            let heard = follow.woken v was.2 in
-            subst (λ (x : ListenerRef). IsTold x t.now) (own_held b s o v heard.0 h was.0 (w.tasks v heard.0 heard.1) was.1) heard.2
+        not_had : holding st.mine.at ≡ Some h → ⊥
+        not_had had = apart v p (o.alone (named v) (calling p) h e (was_mine b s t p m r kp names o known st h had))
+
+        -- whoever is named waited with it, and is told
+        heard : IsAmong v names → IsMarked v order1.woken h t.now
+        heard i =
+            let x = follow.woken v i in
+            inl (
+              all_there b.name_table names v b.order i (waits_pending b.name_table v h e) (w.placed v (inl (h, e))),
+              subst (λ (k : ListenerRef). IsTold k t.now) (own_held b s o v x.0 h (w.tasks v x.0 x.1) e) x.2,
+            )
+
+        unheard : (IsAmong v b.order.woken → ⊥) → WaitsToWake h v t.now ⊎ IsAmong v names → (IsAmong v names → ⊥) → IsMarked v order1.woken h t.now
+        unheard before (inl i) f = inr (λ j. neither before (λ (x : IsAmong v names × (is_name_pending b.name_table v ≡ true)). f x.0) (all_come b.name_table names v b.order j), i)
+        unheard before (inr i) f = absurd (f i)
+
+        waited : (IsAmong v b.order.woken → ⊥) → WaitsToWake h v s.now → IsAmong v names ⊎ (IsAmong v names → ⊥) → IsMarked v order1.woken h t.now
+        waited before i (inl j) = heard j
+        waited before i (inr f) = unheard before ((turn.lists h.line).waiting h.key v not_had i) f
+
+        by : IsMarked v b.order.woken h s.now → IsMarked v order1.woken h t.now
+        by (inl x) = inl (all_stay b.name_table names v b.order x.0, follow.told h not_had x.1)
+        by (inr x) = waited x.0 x.1 (among_or v names)
+
+    mid_pending : (v : Waiter) → IsAmong v order1.woken → (h : ListenerRef) × (status b.name_table v ≡ waits h)
+    mid_pending v i = by (all_come b.name_table names v b.order i)
+      where
+        by : IsAmong v b.order.woken ⊎ (IsAmong v names × (is_name_pending b.name_table v ≡ true)) → (h : ListenerRef) × (status b.name_table v ≡ waits h)
+        by (inl j) = w.pending v j
+        by (inr j) = pending_waits b.name_table v (o.none_amiss v) j.1
 
     -- a listener that is in hand and stays
     still_has : (h : ListenerRef) → holding st.mine.at ≡ Some h → IsListed h t.now → turn.has ≡ Some h
@@ -199,11 +441,10 @@ module _ {T : Type 0} where
         moved a (inr k) = has_it a.party h (calling_is a.party p k.0) k.1 (listed_of h v t.now i)
 
         before : IsOwn b s.under_way v h → IsOwn (with_woken names b) After v h
-        before (inl x) = inl (mid_forth names b.name_table v h x.0 x.1)
+        before (inl x) = inl x
         before (inr (inl (a, j, e, has))) =
             inr (inl (a, j, e, moved a (forth_calling b s t p m None kp names o known st a.party h has)))
-        before (inr (inr x)) =
-            inr (inr (subst IsAway (sym (mid_busy names b.name_table v (away_busy (status b.name_table v) x.0))) x.0, x.1))
+        before (inr (inr x)) = inr (inr x)
 
         by : WaitsToWake h v s.now ⊎ ((holding st.mine.at ≡ Some h) × (task_at st.mine.at ≡ Some v))
             → IsOwn (with_woken names b) After v h
@@ -221,7 +462,10 @@ module _ {T : Type 0} where
     pub goes_woken : WokenSound (with_woken names b) t
     goes_woken =
         record {
-          told = λ v h e. mid_told b s t p m None kp names o known st w v h e;
+          stands = λ v h e. mid_stands b s t p m None kp names o known st w v h e;
+          pending = λ v i. mid_pending b s t p m None kp names o known st w v i;
+          once = all_once b.name_table names b.order w.once;
+          placed = λ v n. all_placed b.name_table names v b.order (w.placed v n);
           tasks = λ v h i. subst (λ (us : List (ActiveCall T Waiter)). IsOwn (with_woken names b) us v h) (sym st.left)
               (goes_tasks v h i);
         }
@@ -230,9 +474,6 @@ module _ {T : Type 0} where
   module _ (b : NameState T) (s t : Configuration T Waiter) (p : ℕ) (m : Mark) (y : Reply T) (kp : Option (Returned T)) (names : List Waiter)
       (o : Owned b s) (known : AllKnown s.now s.under_way)
       (st : Steps s p (record { mark = m; reply = Some y; kept = kp }) names t) (w : WokenSound b s) where
-    abbrev E1 : Waiter → NameStatus
-    E1 = status (all_woken names b.name_table)
-
     abbrev pt : Parted (status b.name_table) b.agents st.before st.mine st.behind
     pt = parts b s t p m (Some y) kp names o known st
 
@@ -244,27 +485,26 @@ module _ {T : Type 0} where
     kept = let f = st.finishes in f.kept
 
     abbrev E2 : Waiter → NameStatus
-    E2 = status (written_back pt.agent.on_return y kept (all_woken names b.name_table))
+    E2 = status (written_back pt.agent.on_return y kept b.name_table)
 
     abbrev Left : List (ActiveCall T Waiter)
     Left = map (sees t.now) st.before ++ map (sees t.now) st.behind
 
-    abbrev end_name_state : NameState T
-    end_name_state = record {
-      name_table = written_back pt.agent.on_return y kept (all_woken names b.name_table);
-      order = order_settled pt.agent.on_return kept.key (all_moved_last names b.order);
-      agents = pt.front ++ pt.back;
-    }
+    abbrev ended : NameState T
+    ended = end_name_state b s t p m y kp names o known st
 
-    others_stand : (v : Waiter) → (subject pt.agent.on_return ≡ Some v → ⊥) → E2 v ≡ E1 v
+    abbrev order_then : WakeOrder
+    order_then = all_woken b.name_table names b.order
+
+    others_stand : (v : Waiter) → (subject pt.agent.on_return ≡ Some v → ⊥) → E2 v ≡ status b.name_table v
     others_stand v other = (set b s t p m y kp names o known st).others v other
 
     -- it leaves this listener to its name
-    own_now : (v : Waiter) (h : ListenerRef) → ending.has ≡ Some h → subject pt.agent.on_return ≡ Some v → E2 v ≡ waits h false
+    own_now : (v : Waiter) (h : ListenerRef) → ending.has ≡ Some h → subject pt.agent.on_return ≡ Some v → E2 v ≡ waits h
     own_now v h has whose = by (leaves b s t p m y kp names o known st) (set b s t p m y kp names o known st).own
       where
         by : LeavesIt T Waiter st.mine.ask kept ending.has t.now → Comes E2 pt.agent.on_return kept (wait_of st.mine.ask)
-            → E2 v ≡ waits h false
+            → E2 v ≡ waits h
         by (inl l) c = absurd (let no : None ≡ Some h = sym l.0 ∙ has in cc)
         by (inr (line, key, task, hs, k, wt, there)) (inl c) = absurd (let no : None ≡ Some key = sym c.0 ∙ k in cc)
         by (inr (line, key, task, hs, k, wt, there)) (inr (line', key', task', k', wt', whose', is)) =
@@ -274,36 +514,74 @@ module _ {T : Type 0} where
             let names_same : v ≡ task' = inner v task' (sym whose ∙ whose') in
             let held_same : on line' key' ≡ h = ap (λ (x : WaitList). on x key') lines ∙
             (ap (λ (x : Key). on line x) keys_same ∙ inner (on line key) h (sym hs ∙ has)) in
-            ap E2 names_same ∙ (is ∙ ap (λ (x : ListenerRef). waits x false) held_same)
+            ap E2 names_same ∙ (is ∙ ap (λ (x : ListenerRef). waits x) held_same)
 
-    ended_told : (v : Waiter) (h : ListenerRef) → E2 v ≡ waits h true → IsTold h t.now
-    ended_told v h e = by (subject_or (subject pt.agent.on_return) v)
+    -- and there it waits
+    own_waits : (v : Waiter) (h : ListenerRef) → E2 v ≡ waits h → subject pt.agent.on_return ≡ Some v → WaitsToWake h v t.now
+    own_waits v h e whose = by (leaves b s t p m y kp names o known st) (set b s t p m y kp names o known st).own
       where
-        own : subject pt.agent.on_return ≡ Some v → Comes E2 pt.agent.on_return kept (wait_of st.mine.ask) → IsTold h t.now
-        own whose (inl c) = absurd (calm_waits (E2 v) h true (c.1 v whose) e)
-        own whose (inr (line, key, task, k, wt, whose', is)) =
-            absurd (woken_or h (on line key) (sym e ∙ (ap E2 (inner v task (sym whose ∙ whose')) ∙ is)))
+        by : LeavesIt T Waiter st.mine.ask kept ending.has t.now → Comes E2 pt.agent.on_return kept (wait_of st.mine.ask) → WaitsToWake h v t.now
+        by l (inl c) = absurd (calm_waits (E2 v) h (c.1 v whose) e)
+        by (inl l) (inr (line, key, task, k, wt, whose', is)) = absurd (let no : None ≡ Some key = sym l.1 ∙ k in cc)
+        by (inr (line, key, task, hs, k, wt, there)) (inr (line', key', task', k', wt', whose', is)) =
+            let h_is : on line key ≡ h = waits_is (on line key) h (sym (own_now v (on line key) hs whose) ∙ e) in
+            let pairs : (let x : WaitList × Waiter = (line', task') in x) ≡ (line, task) = inner _ _ (sym wt' ∙ wt) in
+            let v_is : task ≡ v = sym (ap (λ (x : WaitList × Waiter). x.1) pairs) ∙ inner task' v (sym whose' ∙ whose) in
+            subst (λ (x : ListenerRef). WaitsToWake x v t.now) h_is (subst (λ (x : Waiter). WaitsToWake (on line key) x t.now) v_is there)
 
-        by : (subject pt.agent.on_return ≡ Some v) ⊎ (subject pt.agent.on_return ≡ Some v → ⊥) → IsTold h t.now
-        by (inl whose) = own whose (set b s t p m y kp names o known st).own
-        by (inr other) = mid_told b s t p m (Some y) kp names o known st w v h (sym (others_stand v other) ∙ e)
+    ended_stands : (v : Waiter) (h : ListenerRef) → E2 v ≡ waits h → IsMarked v ended.order.woken h t.now
+    ended_stands v h e = by (subject_or (subject pt.agent.on_return) v)
+      where
+        by : (subject pt.agent.on_return ≡ Some v) ⊎ (subject pt.agent.on_return ≡ Some v → ⊥) → IsMarked v ended.order.woken h t.now
+        by (inl whose) = inr (
+          λ i.
+              let was = mid_pending b s t p m (Some y) kp names o known st w v (settled_back pt.agent.on_return kept.key v order_then i) in
+              busy_waits (status b.name_table v) was.0 (busy_own b s t p m y kp names o known st v whose) was.1,
+          own_waits v h e whose,
+        )
+        by (inr other) =
+            still_marked v order_then.woken ended.order.woken h t.now t.now (settled_woken pt.agent.on_return kept.key v order_then other)
+            (settled_back pt.agent.on_return kept.key v order_then) (λ i. i) (λ i. i)
+            (mid_stands b s t p m (Some y) kp names o known st w v h (sym (others_stand v other) ∙ e))
 
-    ended_tasks : (v : Waiter) (h : ListenerRef) → WaitsToWake h v t.now → IsOwn end_name_state Left v h
+    ended_pending : (v : Waiter) → IsAmong v ended.order.woken → (h : ListenerRef) × (E2 v ≡ waits h)
+    ended_pending v i =
+        let was = mid_pending b s t p m (Some y) kp names o known st w v (settled_back pt.agent.on_return kept.key v order_then i) in
+        (was.0, others_stand v (λ whose. busy_waits (status b.name_table v) was.0 (busy_own b s t p m y kp names o known st v whose) was.1) ∙ was.1)
+
+    ended_placed : (v : Waiter) → NeedsPlace (E2 v) → IsAmong v ended.order.places
+    ended_placed v n = by (subject_or (subject pt.agent.on_return) v)
+      where
+        own_place : subject pt.agent.on_return ≡ Some v → Comes E2 pt.agent.on_return kept (wait_of st.mine.ask) → IsAmong v ended.order.places
+        own_place whose (inl c) = absurd (calm_placeless (E2 v) (c.1 v whose) n)
+        own_place whose (inr (l, key, task, k, wt, whose', is)) =
+            let was = suits_polled (status b.name_table) pt.agent.on_return (wait_of st.mine.ask) l task v pt.own.suits wt whose in
+            let there : IsAmong v order_then.places = all_placed b.name_table names v b.order (w.placed v (inr (was.0, was.1))) in
+            subst (λ (x : Option Key). IsAmong v (order_settled pt.agent.on_return x order_then).places) (sym k)
+            (settled_keeps pt.agent.on_return key v order_then there)
+
+        by : (subject pt.agent.on_return ≡ Some v) ⊎ (subject pt.agent.on_return ≡ Some v → ⊥) → IsAmong v ended.order.places
+        by (inl whose) = own_place whose (set b s t p m y kp names o known st).own
+        by (inr other) =
+            settled_places pt.agent.on_return kept.key v order_then other
+            (all_placed b.name_table names v b.order (w.placed v (subst NeedsPlace (others_stand v other) n)))
+
+    ended_tasks : (v : Waiter) (h : ListenerRef) → WaitsToWake h v t.now → IsOwn ended Left v h
     ended_tasks v h i = by ((follow b s t p m (Some y) kp names o known st w).tasks h v i)
       where
-        mine : holding st.mine.at ≡ Some h → subject pt.agent.on_return ≡ Some v → IsOwn end_name_state Left v h
+        mine : holding st.mine.at ≡ Some h → subject pt.agent.on_return ≡ Some v → IsOwn ended Left v h
         mine had whose =
-            inl (false, own_now v h (still_has b s t p m (Some y) kp names o known st w h had (listed_of h v t.now i)) whose)
+            inl (own_now v h (still_has b s t p m (Some y) kp names o known st w h had (listed_of h v t.now i)) whose)
 
         -- its own agent is under way no more
         his : AnyOf (HasIt p h) Left ⊎ ((calling p ≡ calling p) × (holding st.mine.at ≡ Some h))
-            → subject pt.agent.on_return ≡ Some v → IsOwn end_name_state Left v h
+            → subject pt.agent.on_return ≡ Some v → IsOwn ended Left v h
         his (inl k) whose = back_or (back_calling b s t p m y kp names o known st (calling p) p h k)
           where
             back_or : (HoldsIn (status b.name_table) s.under_way (calling p) h × (calling p ≡ calling p → ⊥)) ⊎
-                ((calling p ≡ calling p) × (ending.has ≡ Some h)) → IsOwn end_name_state Left v h
+                ((calling p ≡ calling p) × (ending.has ≡ Some h)) → IsOwn ended Left v h
             back_or (inl j) = absurd (j.1 refl)
-            back_or (inr j) = inl (false, own_now v h j.1 whose)
+            back_or (inr j) = inl (own_now v h j.1 whose)
         his (inr k) whose = mine k.1 whose
 
         differs : (a : Agent T) (l : List (Agent T)) → All (Differ pt.agent) l → IsAmong a l → a.party ≡ p → ⊥
@@ -316,7 +594,7 @@ module _ {T : Type 0} where
 
         theirs : (a : Agent T) → (a.party ≡ p → ⊥) → IsAmong a (pt.front ++ pt.back) → subject a.on_return ≡ Some v
             → AnyOf (HasIt a.party h) Left ⊎ ((calling a.party ≡ calling p) × (holding st.mine.at ≡ Some h))
-            → IsOwn end_name_state Left v h
+            → IsOwn ended Left v h
         theirs a other j e (inl k) = inr (inl (a, j, e, k))
         theirs a other j e (inr k) = absurd (other (calling_is a.party p k.0))
 
@@ -325,7 +603,7 @@ module _ {T : Type 0} where
         forth a has = forth_calling b s t p m (Some y) kp names o known st a.party h has
 
         whose_it_is : (a : Agent T) → IsAmong a pt.front ⊎ IsAmong a (pt.agent ∷ pt.back) → subject a.on_return ≡ Some v
-            → HoldsIn (status b.name_table) s.under_way (calling a.party) h → IsOwn end_name_state Left v h
+            → HoldsIn (status b.name_table) s.under_way (calling a.party) h → IsOwn ended Left v h
         whose_it_is a (inl j) e has =
             let sd = sides b s t p m (Some y) kp names o known st in
             theirs a (differs a pt.front sd.first j) (among_left a pt.front pt.back j) e (forth a has)
@@ -346,30 +624,26 @@ module _ {T : Type 0} where
               right.0,
             )
 
-        before : IsOwn b s.under_way v h → IsOwn end_name_state Left v h
+        before : IsOwn b s.under_way v h → IsOwn ended Left v h
         before (inl x) =
-            let mid = mid_forth names b.name_table v h x.0 x.1 in
-            inl (
-              mid.0,
-              others_stand v (λ whose. busy_waits (status b.name_table v) h x.0
-                  (busy_own b s t p m y kp names o known st v whose) x.1) ∙ mid.1,
-            )
+            inl (others_stand v (λ whose. busy_waits (status b.name_table v) h (busy_own b s t p m y kp names o known st v whose) x) ∙ x)
         before (inr (inl (a, j, e, has))) = whose_it_is a
             (among_of a pt.front (pt.agent ∷ pt.back) (subst (λ (l : List (Agent T)). IsAmong a l) pt.are j)) e has
         before (inr (inr x)) =
             let rest = idle x.1 in
-            let same : E2 v ≡ status b.name_table v =
-            others_stand v rest.1 ∙ mid_busy names b.name_table v (away_busy (status b.name_table v) x.0) in
-            inr (inr (subst IsAway (sym same) x.0, rest.0))
+            inr (inr (subst IsAway (sym (others_stand v rest.1)) x.0, rest.0))
 
-        by : WaitsToWake h v s.now ⊎ ((holding st.mine.at ≡ Some h) × (task_at st.mine.at ≡ Some v)) → IsOwn end_name_state Left v h
+        by : WaitsToWake h v s.now ⊎ ((holding st.mine.at ≡ Some h) × (task_at st.mine.at ≡ Some v)) → IsOwn ended Left v h
         by (inl j) = before (w.tasks v h j)
         by (inr j) = mine j.0 (his_name b s t p m (Some y) kp names o known st w v j.1)
 
-    ends_woken : WokenSound end_name_state t
+    ends_woken : WokenSound ended t
     ends_woken = record {
-      told = ended_told;
-      tasks = λ v h i. subst (λ (us : List (ActiveCall T Waiter)). IsOwn end_name_state us v h)
+      stands = ended_stands;
+      pending = ended_pending;
+      once = settled_once pt.agent.on_return kept.key order_then (all_once b.name_table names b.order w.once);
+      placed = ended_placed;
+      tasks = λ v h i. subst (λ (us : List (ActiveCall T Waiter)). IsOwn ended us v h)
           (sym st.left) (ended_tasks v h i);
     }
 

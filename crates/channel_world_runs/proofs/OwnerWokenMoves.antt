@@ -1,4 +1,4 @@
--- Who is told, in order, and whom listeners wake, after a step of a call.
+-- Who is told, and whom listeners wake, after a step of a call.
 use Rattle.std.proofs.Common.{◌≡◌, ℕ, ◌+◌, ◌-◌, Bool, true, false, if◌then◌else◌, List, [], Option, None, Some, ◌⊎◌, inl, inr, refl, sym, ap, subst}
 use Rattle.std.specs.Map.{keys_of}
 use Rattle.concurrent_queue.specs.Queue.{Phase}
@@ -23,8 +23,7 @@ use Rattle.channel_calls.specs.declared.stage.ListStep.TheVariants.{TellReceive,
 use Rattle.channel_world_runs.specs.Owners.{IsAmong, holding, task_at, WaitsToWake}
 use Rattle.channel_world_runs.specs.OwnerWoken.{IsTold}
 use Rattle.channel_world_runs.proofs.OwnerKeys.{on}
-use Rattle.channel_world_runs.proofs.OwnerMoves.{same_list, other_list, counted_list}
-use Rattle.channel_world_runs.proofs.OwnerOrderLists.{InTurn, none_told, one_passed, more_passed, all_passed, one_left, one_came, one_asked}
+use Rattle.channel_world_runs.proofs.OwnerMoves.{counted_list}
 use Rattle.channel_world_runs.proofs.OwnerWokenLists.{Tells, passes, more_pass, all_pass, leaves_list, comes_in, registers_on}
 
 module _ {W : Type 0} where
@@ -61,12 +60,6 @@ module _ {W : Type 0} where
   woken_on Closings l names r had task t w i = let x = t.woken w i in (record { line = Closings; key = x.0 }, x.1, x.2)
 
 module _ {T W : Type 0} where
-  -- a step that wakes these, by a call with this listener in hand, tells on one list, in its order, and on no other
-  pub record TellsInTurn (c d : Channel T W) (names : List W) (had : Option ListenerRef) : Type 0 where
-    pub at : WaitList
-    pub here : InTurn at (listeners at c.wait_lists) (listeners at d.wait_lists) names had
-    pub others : (line : WaitList) → (line ≡ at → ⊥) → keys_of (listeners line d.wait_lists).told ≡ keys_of (listeners line c.wait_lists).told
-
   -- A channel after a step that wakes these, by a call with this listener in hand, which may be to wake this task: those who were
   -- told are told still, but for the one in hand; a listener that waits waited for the same, or is the one in hand, and waits for
   -- its task; whoever is woken waited, and is told.
@@ -74,7 +67,6 @@ module _ {T W : Type 0} where
     pub told : (h : ListenerRef) → (had ≡ Some h → ⊥) → IsTold h c → IsTold h d
     pub tasks : (h : ListenerRef) (w : W) → WaitsToWake h w d → WaitsToWake h w c ⊎ ((had ≡ Some h) × (task ≡ Some w))
     pub woken : (w : W) → IsAmong w names → (h : ListenerRef) × WaitsToWake h w c × IsTold h d
-    pub turns : TellsInTurn c d names had
 
   as_before : (c d : Channel T W) (had : Option ListenerRef) (task : Option W)
       → ((line : WaitList) → listeners line d.wait_lists ≡ listeners line c.wait_lists) → Follows c d [] had task
@@ -83,27 +75,15 @@ module _ {T W : Type 0} where
         told = λ h other i. subst (λ (l : Listeners W). IsAmong h.key (keys_of l.told)) (sym (f h.line)) i;
         tasks = λ h w i. inl (subst (λ (l : Listeners W). IsAmong (h.key, Some w) l.waiting) (f h.line) i);
         woken = λ w i. absurd i;
-        turns = record {
-          at = Sends;
-          here = none_told Sends (listeners Sends c.wait_lists) (listeners Sends d.wait_lists) had
-              (ap (λ (l : Listeners W). keys_of l.told) (f Sends));
-          others = λ line other. ap (λ (l : Listeners W). keys_of l.told) (f line);
-        };
       }
 
   on_one : (at : WaitList) (l : Listeners W) (names : List W) (c : Channel T W) (had : Option ListenerRef) (task : Option W)
-      → Tells at (listeners at c.wait_lists) l names had task → InTurn at (listeners at c.wait_lists) l names had
-      → Follows c (on_line at l names c).channel names had task
-  on_one at l names c had task t i =
+      → Tells at (listeners at c.wait_lists) l names had task → Follows c (on_line at l names c).channel names had task
+  on_one at l names c had task t =
       record {
         told = λ h other i. told_on h.line at l names c.wait_lists had task t h.key other i;
         tasks = λ h w i. tasks_on h.line at l names c.wait_lists had task t h.key w i;
         woken = λ w i. woken_on at l names c.wait_lists had task t w i;
-        turns = record {
-          at = at;
-          here = subst (λ (x : Listeners W). InTurn at (listeners at c.wait_lists) x names had) (sym (same_list at l c.wait_lists)) i;
-          others = λ line other. ap (λ (x : Listeners W). keys_of x.told) (other_list line at l c.wait_lists other);
-        };
       }
 
   module _ (c : Channel T W) where
@@ -118,25 +98,24 @@ module _ {T W : Type 0} where
         (told_one_wakes (listeners at c.wait_lists)) had None
     tells_one_more at had = on_one at (told_one (listeners at c.wait_lists)) (told_one_wakes (listeners at c.wait_lists)) c had None
         (passes at had None (record { additional = true; tag = tt }) (listeners at c.wait_lists))
-        (one_passed at (record { additional = true; tag = tt }) (listeners at c.wait_lists) had)
 
     tells_several : (at : WaitList) (n : ℕ) (had : Option ListenerRef)
         → Follows c (on_line at (told_more n (listeners at c.wait_lists)) (told_more_wakes n (listeners at c.wait_lists)) c).channel
         (told_more_wakes n (listeners at c.wait_lists)) had None
     tells_several at n had = on_one at (told_more n (listeners at c.wait_lists)) (told_more_wakes n (listeners at c.wait_lists)) c had None
-        (more_pass at had None n (listeners at c.wait_lists)) (more_passed at n (listeners at c.wait_lists) had)
+        (more_pass at had None n (listeners at c.wait_lists))
 
     tells_them_all : (at : WaitList) (had : Option ListenerRef)
         → Follows c (on_line at (told_all (listeners at c.wait_lists)) (told_all_wakes (listeners at c.wait_lists)) c).channel
         (told_all_wakes (listeners at c.wait_lists)) had None
     tells_them_all at had = on_one at (told_all (listeners at c.wait_lists)) (told_all_wakes (listeners at c.wait_lists)) c had None
-        (all_pass at had None (listeners at c.wait_lists)) (all_passed at (listeners at c.wait_lists) had)
+        (all_pass at had None (listeners at c.wait_lists))
 
     left : (o : Option ListenerRef) → After o None (leaves o c)
     left None = as_before c c None None (λ line. refl)
     left (Some k) = on_one k.line (removed k.key true (listeners k.line c.wait_lists))
         (removed_wakes k.key true (listeners k.line c.wait_lists)) c (on k.line k.key) None
-        (leaves_list k.line k.key (listeners k.line c.wait_lists)) (one_left k.line k.key (listeners k.line c.wait_lists))
+        (leaves_list k.line k.key (listeners k.line c.wait_lists))
 
     counts : (side : Side) (n : ℕ) (m : Mark) (had : Option ListenerRef) → After had None (on_count side n m c)
     counts side n m had = as_before c (on_count side n m c).channel had None (λ line. counted_list line side n c.wait_lists)
@@ -149,8 +128,7 @@ module _ {T W : Type 0} where
         → Inserts w task c e r s → After None (Some task) e
     inserts w task e r s (inl (key, new, same, t)) =
         as_it None (Some task) e _ same (on_one (line_of w) (listened key (listeners (line_of w) c.wait_lists)) [] c None
-        (Some task) (comes_in (line_of w) key (listeners (line_of w) c.wait_lists) (Some task))
-        (one_came (line_of w) key (listeners (line_of w) c.wait_lists) None))
+        (Some task) (comes_in (line_of w) key (listeners (line_of w) c.wait_lists) (Some task)))
     inserts w task e r s (inr (error, same, t)) =
         as_it None (Some task) e _ same (as_before c c None (Some task) (λ line. refl))
 
@@ -165,8 +143,7 @@ module _ {T W : Type 0} where
     works (Register w key task) e r s h =
         as_it (on (line_of w) key) (Some task) e _ h.0
         (on_one (line_of w) (registration key task (listeners (line_of w) c.wait_lists)) [] c (on (line_of w) key) (Some task)
-        (registers_on (line_of w) key task (listeners (line_of w) c.wait_lists))
-        (one_asked (line_of w) key task (listeners (line_of w) c.wait_lists)))
+        (registers_on (line_of w) key task (listeners (line_of w) c.wait_lists)))
     works (Leave y) e r s h = as_it y.held None e _ h.0 (left y.held)
     works (Lower Senders key) e r s h =
         as_it None None e _ h.0 (counts Senders (count Senders c.wait_lists - 1) (down Senders) None)

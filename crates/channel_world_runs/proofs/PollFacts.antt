@@ -10,6 +10,7 @@ use Rattle.channel_steps.specs.Configuration.{Represents}
 use Rattle.channel_world_runs.specs.Bookkeeping.{asks}
 use Rattle.channel_world_runs.specs.WorldState.{parts_in, Stands, IsQuiet}
 use Rattle.channel_world_runs.specs.Lone.{FinishesAlone, WakesAtMost}
+use Rattle.channel_world_runs.specs.Order.{WakeOrder}
 use Rattle.channel_world_runs.specs.declared.beginning.Begun.{Begun}
 use Rattle.channel_world_runs.specs.declared.name_table.NameTable.{NameTable}
 use Rattle.channel_world_runs.specs.declared.world_state.WorldState.{WorldState}
@@ -24,7 +25,7 @@ pub record Heard (before after : Vec Waiter) : Type 0 where
   pub capacity : vec_capacity before ≤ vec_capacity after
 
 module _ {T : Type 0} where
-  pub names_heard : (c : Call T) (old new : WorldState T) (names : NameTable T) (order : List Waiter) (begun : Begun T) (b : Bool) (before : Vec Waiter)
+  pub names_heard : (c : Call T) (old new : WorldState T) (names : NameTable T) (order : WakeOrder) (begun : Begun T) (b : Bool) (before : Vec Waiter)
       (d : Done T) (room : ℕ)
       → FinishesAlone begun b before (record old { name_table = names; order = order }) d new → begun.ask ≡ asks old.name_table c
       → Stands old → IsQuiet old → length before.items + room ≤ vec_capacity before → WakesAtMost room c old → Heard before d.woken

@@ -17,9 +17,10 @@ use Rattle.channel_world_model.specs.declared.name.HandleKind.TheVariants as han
 use Rattle.channel_world_model.specs.declared.name.OpId.{OpId}
 use Rattle.channel_world_model.specs.declared.name.Waiter.{Waiter}
 use Rattle.channel_world_model.specs.declared.name.Waiter.TheVariants.{Op, Stream}
-use Rattle.channel_world_runs.specs.Bookkeeping.{new_message, returns, names_planned, written_back, installed, with_one_woken, all_woken, lent_by, handed_over_by, lent_to_poll, with_operation, operation_named, handle_named, on_return_of, leave_handle_of, new_from}
+use Rattle.channel_world_runs.specs.Bookkeeping.{new_message, returns, names_planned, written_back, installed, lent_by, handed_over_by, lent_to_poll, with_operation, operation_named, handle_named, on_return_of, leave_handle_of, new_from}
 use Rattle.channel_world_runs.specs.NameTable.{poll_state_with, used_more, used_less, borrowed_more, handed_over, with_handle, with_lent, with_given_back, with_borrowed, with_handed_over, with_poll_state, unused, first_name_table, names_of}
 use Rattle.channel_world_model.specs.Plan.{kin, plan_of}
+use Rattle.channel_world_runs.specs.Order.{no_places}
 use Rattle.channel_world_runs.specs.Run.{NameState, name_state_begun, name_state_ended, with_woken}
 use Rattle.channel_world_runs.specs.Users.{one, times_used, all_uses, FewUsers}
 use Rattle.channel_world_runs.specs.Calls.{Agent}
@@ -315,20 +316,6 @@ module _ {T : Type 0} where
   settled_length (on_return.New from new kind) y left r = installed_length new kind y (with_given_back from r)
   settled_length e y left r = refl
 
-  -- ---- wakes
-
-  all_woken_few : (n : ℕ → ℕ) (m : ℕ) (names : List Waiter) (r : NameTable T) → AreFew n m r.handles → AreFew n m (all_woken names r).handles
-  all_woken_few n m [] r few = few
-  all_woken_few n m (Op op ∷ names) r few = all_woken_few n m names (with_one_woken (Op op) r) few
-  all_woken_few n m (Stream handle ∷ names) r few =
-      all_woken_few n m names (with_one_woken (Stream handle) r)
-      (handle_few n n m m _ handle r (λ name other. omega arith) (omega arith) (λ h f. f) few)
-
-  all_woken_length : (names : List Waiter) (r : NameTable T) → length (all_woken names r).operations ≡ length r.operations
-  all_woken_length [] r = refl
-  all_woken_length (Op op ∷ names) r = all_woken_length names (with_one_woken (Op op) r) ∙ operation_length _ op r
-  all_woken_length (Stream handle ∷ names) r = all_woken_length names (with_one_woken (Stream handle) r)
-
   -- ---- the calls under way
 
   uses_more : (name : ℕ) (agents : List (Agent T)) (a : Agent T)
@@ -358,27 +345,21 @@ module _ {T : Type 0} where
 
   pub users_ended : (k : ℕ) (a : Agent T) (y : Option (Reply T)) (left : Option (Returned T)) (names : List Waiter) (b : NameState T)
       → slice_get b.agents k ≡ Some a → FewUsers b → FewUsers (name_state_ended k a y left (with_woken names b))
-  users_ended k a None left names b there few name h i =
-      let most = all_woken_few (λ (n : ℕ). all_uses n b.agents) (length b.name_table.operations) names b.name_table few name h i in
-      let borrowers : h.handle.borrowers ≤ length b.name_table.operations = most.1 in
-      let same = all_woken_length names b.name_table in
-      (most.0, omega (arith, borrowers, same))
+  users_ended k a None left names b there few name h i = few name h i
   users_ended k a (Some y) left names b there few name h i =
-      let woken_now : NameTable T = all_woken names b.name_table in
       let n : ℕ → ℕ = λ x. all_uses x (remove b.agents k) in
       let m : ℕ = length b.name_table.operations in
       let start : AreFew (λ x. n x + times_used x a.on_return) m b.name_table.handles =
       more_few (λ x. all_uses x b.agents) (λ x. n x + times_used x a.on_return) m m b.name_table.handles
       (λ x. let fewer = uses_fewer x k b.agents a there in omega (arith, fewer)) (omega arith) few in
       let kept : Returned T = unwrap_or left nothing_kept in
-      let most = settled_few n m a.on_return y kept woken_now (all_woken_few (λ x. n x + times_used x a.on_return) m names b.name_table start) name h i in
+      let most = settled_few n m a.on_return y kept b.name_table start name h i in
       let borrowers : h.handle.borrowers ≤ m = most.1 in
-      let same = all_woken_length names b.name_table in
-      let also = settled_length a.on_return y kept woken_now in
-      (most.0, omega (arith, borrowers, same, also))
+      let also = settled_length a.on_return y kept b.name_table in
+      (most.0, omega (arith, borrowers, also))
 
 -- at first nobody uses a handle
-pub users_first : (T : Type 0) → FewUsers {T = T} (record { name_table = first_name_table; order = []; agents = [] })
+pub users_first : (T : Type 0) → FewUsers {T = T} (record { name_table = first_name_table; order = no_places; agents = [] })
 users_first T name h i = by (nat_eq name 1) (nat_eq name 0) i where
   none : (kind : HandleKind) (x : HandleEntry) → Some (unused kind) ≡ Some x → Few 0 0 x
   none kind x e = subst (λ (y : HandleEntry). Few 0 0 y) (inner (unused kind) x e) (omega arith, omega arith)

@@ -16,10 +16,10 @@ use Rattle.channel_steps.specs.declared.party.Entry.{Entry as ChannelEntry}
 use Rattle.channel_steps.specs.declared.run.Step.{Step as ChannelStep}
 use Rattle.channel_steps.specs.declared.run.Step.TheVariants as channel
 use Rattle.channel_world_runs.specs.AskedBy.{IsOrListens, IsStepOf}
-use Rattle.channel_world_runs.specs.Bookkeeping.{asks, on_return_of, all_woken}
+use Rattle.channel_world_runs.specs.Bookkeeping.{asks, on_return_of}
 use Rattle.channel_world_runs.specs.WorldInvariant.{WorldInvariant, AllTry, NamesKept}
 use Rattle.channel_world_runs.specs.Lone.{name_state_alone}
-use Rattle.channel_world_runs.specs.Order.{all_moved_last}
+use Rattle.channel_world_runs.specs.Order.{WakeOrder, no_places, all_woken}
 use Rattle.channel_world_runs.specs.NameTable.{first_name_table, is_at_work}
 use Rattle.channel_world_runs.specs.Refusal.{step_refusal}
 use Rattle.channel_world_runs.specs.Run.{NameState, StepIsMade, IsNameStateOf, name_state_begun, name_state_ended, with_woken}
@@ -31,34 +31,26 @@ use Rattle.channel_world_runs.specs.declared.step.PartyId.{PartyId}
 use Rattle.channel_world_runs.specs.declared.step.Step.{Step}
 use Rattle.channel_world_runs.specs.declared.step.Step.TheVariants as step
 use Rattle.channel_world_runs.proofs.CountFacts.{counted_first, counted_begun, counted_step}
-use Rattle.channel_world_runs.proofs.OwnerOrder.{stepped_order}
-use Rattle.channel_world_runs.proofs.OwnerOrderRuns.{order_first, begins_order}
 use Rattle.channel_world_runs.proofs.OwnerPolled.{polled_first, polled_begun, polled_step}
 use Rattle.channel_world_runs.proofs.OwnerBegins.{Admitted, admitted}
 use Rattle.channel_world_runs.proofs.OwnerRuns.{IsAfter, stepped, idle_and_free}
 use Rattle.channel_world_runs.proofs.OwnerSteps.{owned_first, begins_owned}
 use Rattle.channel_world_runs.proofs.OwnerTogether.{all_join, all_left, all_right}
-use Rattle.channel_world_runs.proofs.OwnerWoken.{stepped_woken}
-use Rattle.channel_world_runs.proofs.OwnerWokenRuns.{woken_first, begins_woken}
+use Rattle.channel_world_runs.proofs.OwnerWoken.{woken_first, begins_woken, stepped_woken}
 use Rattle.channel_world_runs.proofs.TriesFirst.{tries_first}
 use Rattle.channel_world_runs.proofs.UserFacts.{users_first, users_begun, users_ended}
-
-all_moved_append : (xs ys ws : List Waiter) → all_moved_last (xs ++ ys) ws ≡ all_moved_last ys (all_moved_last xs ws)
-all_moved_append [] ys ws = refl
-all_moved_append (x ∷ xs) ys ws = all_moved_append xs ys _
 
 module _ {T : Type 0} where
   -- ---- what is kept also where a poll asks its listener first
 
   -- a channel that was just opened
-  pub names_kept_first : (cap : Option ℕ) → NamesKept {T = T} (record { name_table = first_name_table; order = []; agents = [] }) (new_configuration cap)
+  pub names_kept_first : (cap : Option ℕ) → NamesKept {T = T} (record { name_table = first_name_table; order = no_places; agents = [] }) (new_configuration cap)
   names_kept_first cap =
       record {
         owned = owned_first T cap;
         woken = woken_first T cap;
-        order = order_first T cap;
         sound = all_sound_new cap;
-        polled = polled_first (record { name_table = first_name_table; order = []; agents = [] }) refl;
+        polled = polled_first (record { name_table = first_name_table; order = no_places; agents = [] }) refl;
         users = users_first T;
         counted = counted_first cap;
       }
@@ -71,7 +63,6 @@ module _ {T : Type 0} where
       record {
         owned = begins_owned q c b a s t e is n k.owned idle fine;
         woken = begins_woken q c b a s t e is n k.owned k.woken fine;
-        order = begins_order q c b a s t e n k.owned k.order fine;
         sound = all_sound_next s (channel.Begin q.0 a) e [] t k.sound (n, refl);
         polled = polled_begun q c b s k.owned fine k.polled;
         users = users_begun q c b k.users;
@@ -87,7 +78,6 @@ module _ {T : Type 0} where
       record {
         owned = stepped b c s t q e.mark e.reply e.kept names k.owned known st after;
         woken = stepped_woken b c s t q e.mark e.reply e.kept names k.owned known st after k.woken;
-        order = stepped_order b c s t q e.mark e.reply e.kept names k.owned known st after k.woken k.order;
         sound = all_sound_next s (channel.Step q.0) e names t k.sound st;
         polled = polled_step b c s t q e.mark e.reply e.kept names k.owned known st after k.polled;
         users = subst (λ (d : NameState T). FewUsers d) (sym after.4) (users_ended after.0 after.1 e.reply e.kept names b after.2 k.users);
@@ -114,7 +104,6 @@ module _ {T : Type 0} where
       record {
         owned = k.owned;
         woken = k.woken;
-        order = k.order;
         sound = k.sound;
         polled = k.polled;
         users = k.users;
@@ -126,7 +115,6 @@ module _ {T : Type 0} where
       record {
         owned = k.owned;
         woken = k.woken;
-        order = k.order;
         sound = k.sound;
         polled = k.polled;
         users = k.users;
@@ -134,7 +122,7 @@ module _ {T : Type 0} where
         tries = tries;
       }
 
-  pub kept_first : (cap : Option ℕ) → WorldInvariant {T = T} (record { name_table = first_name_table; order = []; agents = [] }) (new_configuration cap)
+  pub kept_first : (cap : Option ℕ) → WorldInvariant {T = T} (record { name_table = first_name_table; order = no_places; agents = [] }) (new_configuration cap)
   kept_first cap = with_tries _ _ (names_kept_first cap) tt
 
   abbrev Try : ActiveCall T Waiter → Type 0
@@ -183,15 +171,12 @@ module _ {T : Type 0} where
 
   -- ---- a call made alone
 
-  all_woken_append : (xs ys : List Waiter) (r : NameTable T) → all_woken (xs ++ ys) r ≡ all_woken ys (all_woken xs r)
-  all_woken_append [] ys r = refl
-  all_woken_append (x ∷ xs) ys r = all_woken_append xs ys _
+  all_woken_append : (r : NameTable T) (xs ys : List Waiter) (o : WakeOrder) → all_woken r (xs ++ ys) o ≡ all_woken r ys (all_woken r xs o)
+  all_woken_append r [] ys o = refl
+  all_woken_append r (x ∷ xs) ys o = all_woken_append r xs ys _
 
   woken_append : (xs ys : List Waiter) (b : NameState T) → with_woken (xs ++ ys) b ≡ with_woken ys (with_woken xs b)
-  woken_append xs ys b =
-      ap (λ (r : NameTable T). record b { name_table = r; order = all_moved_last (xs ++ ys) b.order }) (all_woken_append xs ys b.name_table)
-      ∙ ap (λ (ws : List Waiter). record b { name_table = all_woken ys (all_woken xs b.name_table); order = ws })
-      (all_moved_append xs ys b.order)
+  woken_append xs ys b = ap (λ (o : WakeOrder). record b { order = o }) (all_woken_append b.name_table xs ys b.order)
 
   first_agent : (agents : List (Agent T)) (a : Agent T) → agents ≡ a ∷ [] → slice_get agents 0 ≡ Some a
   first_agent agents a e = ap (λ (l : List (Agent T)). slice_get l 0) e

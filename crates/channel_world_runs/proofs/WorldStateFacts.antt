@@ -36,7 +36,7 @@ use Rattle.channel_world_model.specs.declared.run.Stopped.{Stopped}
 use Rattle.std.proofs.lemmas.Bool.Decides.{nat_tests}
 use Rattle.channel_world_runs.specs.Refusal.{step_refusal}
 use Rattle.channel_world_runs.specs.NameTable.{first_name_table}
-use Rattle.channel_world_runs.specs.Order.{order_begun}
+use Rattle.channel_world_runs.specs.Order.{no_places, order_begun}
 use Rattle.channel_world_runs.specs.Run.{NameState, StepIsMade, MayRefuseStep, StopsAt, name_state_begun, name_state_ended, with_woken, channel_step}
 use Rattle.channel_world_runs.specs.Runs.{Moment, FewLeft, LeadsBy, accepted_in, left_in, moment_of, RanTo}
 use Rattle.channel_world_runs.specs.Woken.{Hears}
@@ -283,11 +283,11 @@ module _ {T : Type 0} where
 
   -- all that holds where all is kept
   pub stands_in : (f : WorldState T) (s : Configuration T Waiter) → Shown f s → WorldInvariant (name_state_of f) s → StandsIn f s
-  stands_in f s sh k = record { shown = sh; kept = k; owed = observation_owed f s sh (owed (name_state_of f) s k.owned k.sound) }
+  stands_in f s sh k = record { shown = sh; kept = k; owed = observation_owed f s sh (owed (name_state_of f) s k.owned k.woken k.sound) }
 
   -- what was just opened stands
   pub new_stands : (f : WorldState T) (cap : Option ℕ) → Shown f (new_configuration cap)
-      → name_state_of f ≡ record { name_table = first_name_table; order = []; agents = [] } → StandsIn f (new_configuration cap)
+      → name_state_of f ≡ record { name_table = first_name_table; order = no_places; agents = [] } → StandsIn f (new_configuration cap)
   new_stands f cap sh name_state =
       stands_in f (new_configuration cap) sh (subst (λ (b : NameState T). WorldInvariant b (new_configuration cap)) (sym name_state) (kept_first cap))
 

@@ -6,9 +6,6 @@ pub mod World
 pub mod LoneDirectory
 pub mod LoneSeen
 pub mod LoneNames
-pub mod LoneWakes
-pub mod LoneStatuses
-pub mod LoneEnds
 pub mod LoneWoken
 pub mod LoneAsks
 pub mod LoneAnswers

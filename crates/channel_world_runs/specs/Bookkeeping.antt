@@ -1,5 +1,5 @@
 -- What a call asks as it begins, what it does to the names then, and what it writes back at its end.
-use Rattle.std.specs.Prelude.{◌≡◌, List, [], ◌∷◌, Bool, true, false, is_some, Option, None, Some}
+use Rattle.std.specs.Prelude.{◌≡◌, Bool, true, false, is_some, Option, None, Some}
 use Rattle.std.specs.Option.{option_map_or}
 use Rattle.channel_calls.specs.declared.ask.ChannelAsk.{ChannelAsk}
 use Rattle.channel_calls.specs.declared.ask.ChannelAsk.TheVariants as ask
@@ -16,8 +16,7 @@ use Rattle.channel_world_model.specs.declared.name.HandleKind.{HandleKind}
 use Rattle.channel_world_model.specs.declared.name.OpId.{OpId}
 use Rattle.channel_world_model.specs.declared.name.Operation.{Operation}
 use Rattle.channel_world_model.specs.declared.name.Waiter.{Waiter}
-use Rattle.channel_world_model.specs.declared.name.Waiter.TheVariants as waiter
-use Rattle.channel_world_runs.specs.NameTable.{poll_state_with, told, is_done, unused, names_of, held_of, with_handle, with_lent, with_given_back, with_borrowed, with_handed_over, with_poll_state}
+use Rattle.channel_world_runs.specs.NameTable.{poll_state_with, is_done, unused, names_of, held_of, with_lent, with_given_back, with_borrowed, with_handed_over, with_poll_state}
 use Rattle.channel_world_model.specs.Plan.{kin, plan_of}
 use Rattle.channel_world_runs.specs.declared.beginning.Begun.{Begun}
 use Rattle.channel_world_runs.specs.declared.names.OnReturn.{OnReturn}
@@ -161,14 +160,3 @@ module _ {T : Type 0} where
   written_back (Poll op) x kept r = with_operation (restored kept) op r
   written_back (PollNext receiver) x kept r = with_given_back receiver (with_poll_state (poll_state_with kept.key) receiver r)
   written_back (New from new kind) x kept r = installed new kind x (with_given_back from r)
-
-  -- ---- wakes
-
-  -- one that is pending is woken
-  abbrev pub with_one_woken : Waiter → NameTable T → NameTable T
-  with_one_woken (waiter.Op op) r = with_operation (λ (o : OperationEntry T). record o { poll_state = told o.poll_state }) op r
-  with_one_woken (waiter.Stream handle) r = with_handle (λ (h : HandleEntry). record h { poll_state = told h.poll_state }) handle r
-
-  abbrev pub all_woken : List Waiter → NameTable T → NameTable T
-  all_woken [] r = r
-  all_woken (w ∷ ws) r = all_woken ws (with_one_woken w r)

@@ -13,7 +13,6 @@ pub mod Owners
 pub mod Owed
 pub mod ObservationAt
 pub mod OwnerWoken
-pub mod OwnerOrder
 pub mod OwnerPolled
 pub mod Users
 pub mod Counted

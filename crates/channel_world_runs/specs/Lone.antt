@@ -10,10 +10,10 @@ use Rattle.channel_world_model.specs.declared.call.Call.{Call}
 use Rattle.channel_world_model.specs.declared.name.Waiter.{Waiter}
 use Rattle.channel_world_model.specs.declared.run.Done.{Done}
 use Rattle.channel_steps.specs.Configuration.{Configuration}
-use Rattle.channel_world_runs.specs.Bookkeeping.{asks, on_return_of, names_begun, written_back, all_woken}
+use Rattle.channel_world_runs.specs.Bookkeeping.{asks, on_return_of, names_begun, written_back}
 use Rattle.channel_world_runs.specs.WorldState.{name_state_of, parts_in, HasPositions, Shown}
 use Rattle.channel_world_runs.specs.WorldInvariant.{WorldInvariant}
-use Rattle.channel_world_runs.specs.Order.{order_begun, all_moved_last, order_settled}
+use Rattle.channel_world_runs.specs.Order.{WakeOrder, all_woken, order_begun, order_settled}
 use Rattle.channel_world_runs.specs.Positions.{accepted_by, brings}
 use Rattle.channel_world_runs.specs.Run.{NameState}
 use Rattle.channel_world_runs.specs.Woken.{Hears}
@@ -22,18 +22,18 @@ use Rattle.channel_world_runs.specs.declared.world_state.WorldState.{WorldState}
 use Rattle.channel_world_runs.specs.declared.name_table.NameTable.{NameTable}
 
 module _ {T : Type 0} where
-  -- the names after a call that woke these, gave this reply and left this
-  abbrev pub names_alone : NameTable T → Call T → Reply T → Returned T → List Waiter → NameTable T
-  names_alone r c x kept names = written_back (on_return_of r c) x kept (all_woken names (names_begun r c))
+  -- the names after a call that gave this reply and left this
+  abbrev pub names_alone : NameTable T → Call T → Reply T → Returned T → NameTable T
+  names_alone r c x kept = written_back (on_return_of r c) x kept (names_begun r c)
 
-  -- and the order of waking
-  abbrev pub order_alone : NameTable T → Call T → Returned T → List Waiter → List Waiter → List Waiter
-  order_alone r c kept names order = order_settled (on_return_of r c) kept.key (all_moved_last names (order_begun c order))
+  -- and the order of waking, where it woke these
+  abbrev pub order_alone : NameTable T → Call T → Returned T → List Waiter → WakeOrder → WakeOrder
+  order_alone r c kept names order = order_settled (on_return_of r c) kept.key (all_woken (names_begun r c) names (order_begun c order))
 
   -- the name state after it; nobody is at work
   abbrev pub name_state_alone : NameState T → Call T → Outcome T Waiter → NameState T
   name_state_alone b c o = record {
-    name_table = names_alone b.name_table c o.reply o.kept o.woken;
+    name_table = names_alone b.name_table c o.reply o.kept;
     order = order_alone b.name_table c o.kept o.woken b.order;
     agents = [];
   }
@@ -58,8 +58,8 @@ module _ {T : Type 0} where
     pub kept : Returned T
     pub run : RunsInConfigurations Hears begun.ask (parts_in old) (record { names = before }) old.messages (record { reply = d.reply; kept = kept }) (parts_in new) (record { names = d.woken }) new.messages
     pub ample : HasNode begun.ask (parts_in old) → lacks_memory d.reply ≡ false
-    pub name_table : new.name_table ≡ written_back begun.on_return d.reply kept (all_woken (drop (length before.items) d.woken.items) old.name_table)
-    pub order : new.order ≡ order_settled begun.on_return kept.key (all_moved_last (drop (length before.items) d.woken.items) old.order)
+    pub name_table : new.name_table ≡ written_back begun.on_return d.reply kept old.name_table
+    pub order : new.order ≡ order_settled begun.on_return kept.key (all_woken old.name_table (drop (length before.items) d.woken.items) old.order)
     pub accepted : new.accepted ≡ min (old.accepted + accepted_by may_bring d.reply) (2 ^ 64 - 1)
     pub calls : new.calls ≡ old.calls
     pub place : new.has_one_place ≡ old.has_one_place

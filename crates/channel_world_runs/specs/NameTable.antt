@@ -1,5 +1,5 @@
 -- What lives under which name.
-use Rattle.std.specs.Prelude.{ℕ, ◌+◌, ◌-◌, ◌^◌, min, Bool, true, false, not, nat_eq, List, [], ◌∷◌, map, Option, None, Some}
+use Rattle.std.specs.Prelude.{ℕ, ◌+◌, ◌-◌, ◌^◌, min, Bool, true, false, not, nat_eq, List, [], ◌∷◌, map, Option, None, Some, is_some}
 use Rattle.std.specs.List.{list_any}
 use Rattle.std.specs.Option.{option_map, option_map_or}
 use Rattle.event_listener.specs.declared.key.Key.{Key}
@@ -10,6 +10,7 @@ use Rattle.channel_world_model.specs.declared.name.HandleKind.{HandleKind}
 use Rattle.channel_world_model.specs.declared.name.HandleKind.TheVariants as handle_kind
 use Rattle.channel_world_model.specs.declared.name.Operation.{Operation}
 use Rattle.channel_world_model.specs.declared.name.Operation.TheVariants as live
+use Rattle.channel_world_model.specs.declared.name.Waiter.{Waiter}
 use Rattle.channel_world_model.specs.declared.name.Waiter.TheVariants.{Op, Stream}
 use Rattle.channel_world_runs.specs.Calls.{Agent}
 use Rattle.channel_world_runs.specs.declared.names.HandleEntry.{HandleEntry}
@@ -22,28 +23,18 @@ use Rattle.channel_world_runs.specs.declared.name_table.NameTable.{NameTable}
 
 -- the listener of one that is pending
 abbrev pub key_of : PollState → Option Key
-key_of (Waits key since) = Some key
+key_of (Waits key) = Some key
 key_of s = None
 
 -- after a poll that left this listener, or none
 abbrev pub poll_state_with : Option Key → PollState
 poll_state_with None = Rests
-poll_state_with (Some key) = Waits key false
+poll_state_with (Some key) = Waits key
 
 abbrev pub is_polled : PollState → Bool
 is_polled Rests = false
-is_polled (Waits key is_woken) = false
+is_polled (Waits key) = false
 is_polled (IsPolled brings) = true
-
-abbrev pub is_woken : PollState → Bool
-is_woken (Waits key woken) = woken
-is_woken s = false
-
--- one that is pending is woken
-abbrev pub told : PollState → PollState
-told Rests = Rests
-told (Waits key is_woken) = Waits key true
-told (IsPolled brings) = IsPolled brings
 
 -- ---- operations
 
@@ -102,6 +93,9 @@ module _ {T : Type 0} where
     | Op op ↦ option_map_or (λ (o : OperationEntry T). key_of o.poll_state) (at op.0 r.operations) None
     | Stream handle ↦ option_map_or (λ (h : HandleEntry). key_of h.poll_state) (at handle.0 r.handles) None
   ]
+
+  abbrev pub is_name_pending : NameTable T → Waiter → Bool
+  is_name_pending r w = is_some (held_of r w)
 
   -- what lives under the handle's name is changed so, where something lives
   abbrev pub with_handle : (HandleEntry → HandleEntry) → HandleId → NameTable T → NameTable T

@@ -6,7 +6,7 @@ use Rattle.channel_steps.specs.Configuration.{ActiveCall, Configuration}
 use Rattle.channel_steps.specs.Tellings.{Telling, takings}
 use Rattle.channel_world_runs.specs.Activity.{role_of, any_close}
 use Rattle.channel_world_runs.specs.Owed.{Observation, is_sending, is_receiving}
-use Rattle.channel_world_runs.specs.declared.name_table.NameTable.{NameTable}
+use Rattle.channel_world_runs.specs.Run.{NameState}
 
 -- nothing, once the call has told somebody
 abbrev pub unless_told : List Telling → ℕ → ℕ
@@ -23,9 +23,10 @@ module _ {T : Type 0} where
   all_freed (u ∷ us) = freed_by u + all_freed us
 
   -- with these names, and with this channel and its calls under way
-  abbrev pub observation_at : NameTable T → Configuration T Waiter → Observation T
-  observation_at r s = record {
-    name_table = r;
+  abbrev pub observation_at : NameState T → Configuration T Waiter → Observation T
+  observation_at b s = record {
+    name_table = b.name_table;
+    woken = b.order.woken;
     messages = length s.now.queue.items;
     capacity = s.now.queue.capacity;
     closed = s.now.queue.closed;

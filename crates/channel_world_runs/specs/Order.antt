@@ -1,49 +1,73 @@
 -- The order of waking. Each name that may be woken has a place, and whoever is woken comes last.
-use Rattle.std.specs.Prelude.{List, [], ◌∷◌, ◌++◌, if◌then◌else◌, Option, None, Some}
+use Rattle.std.specs.Prelude.{Bool, List, [], ◌∷◌, ◌++◌, if◌then◌else◌, Option, None, Some}
 use Rattle.event_listener.specs.declared.key.Key.{Key}
 use Rattle.channel_world_model.specs.Lines.{is_among, without_waiter}
 use Rattle.channel_world_model.specs.declared.call.Call.{Call}
 use Rattle.channel_world_model.specs.declared.name.Waiter.{Waiter}
 use Rattle.channel_world_model.specs.declared.name.Waiter.TheVariants.{Op, Stream}
 use Rattle.channel_world_model.specs.Plan.{plan_of}
+use Rattle.channel_world_runs.specs.NameTable.{is_name_pending}
+use Rattle.channel_world_runs.specs.declared.name_table.NameTable.{NameTable}
 use Rattle.channel_world_runs.specs.declared.names.OnReturn.{OnReturn}
 use Rattle.channel_world_runs.specs.declared.names.OnReturn.TheVariants as on_return
 use Rattle.channel_world_model.specs.declared.plan.Plan.{Plan}
 use Rattle.channel_world_model.specs.declared.plan.Plan.TheVariants as plan
 
--- w has a place from now on
-abbrev pub placed : Waiter → List Waiter → List Waiter
-placed w ws = if is_among w ws then ws else w ∷ ws
+-- who has a place, and those who were woken, in the order of their waking
+pub record WakeOrder : Type 0 where
+  pub places : List Waiter
+  pub woken : List Waiter
+
+abbrev pub no_places : WakeOrder
+no_places = record { places = []; woken = [] }
+
+-- those of these places that are marked, in order
+abbrev pub marked_places : List (Waiter × Bool) → List Waiter
+marked_places [] = []
+marked_places (e ∷ es) = if e.1 then e.0 ∷ marked_places es else marked_places es
+
+-- w has a place from now on, and was not woken
+abbrev pub placed : Waiter → WakeOrder → WakeOrder
+placed w o = record { places = w ∷ without_waiter w o.places; woken = without_waiter w o.woken }
+
+-- the same, if it has a place
+abbrev pub rested : Waiter → WakeOrder → WakeOrder
+rested w o = if is_among w o.places then placed w o else o
 
 -- w is woken: it comes last, if it has a place
-abbrev pub moved_last : Waiter → List Waiter → List Waiter
-moved_last w ws = if is_among w ws then without_waiter w ws ++ w ∷ [] else ws
+abbrev pub woken_last : Waiter → WakeOrder → WakeOrder
+woken_last w o =
+    if is_among w o.places then record { places = without_waiter w o.places ++ w ∷ []; woken = without_waiter w o.woken ++ w ∷ [] } else o
 
--- these are woken, one after another
-abbrev pub all_moved_last : List Waiter → List Waiter → List Waiter
-all_moved_last [] ws = ws
-all_moved_last (n ∷ names) ws = all_moved_last names (moved_last n ws)
+-- w has no place any more
+abbrev pub without_place : Waiter → WakeOrder → WakeOrder
+without_place w o = record { places = without_waiter w o.places; woken = without_waiter w o.woken }
 
 -- after a poll that left this listener, or none: with none it may not be woken any more
-abbrev pub kept_place : Waiter → Option Key → List Waiter → List Waiter
-kept_place w None ws = without_waiter w ws
-kept_place w (Some key) ws = ws
+abbrev pub kept_place : Waiter → Option Key → WakeOrder → WakeOrder
+kept_place w None o = without_place w o
+kept_place w (Some key) o = o
 
 -- once a call of this plan has begun: who is polled has a place, and who is given up or dropped has none
-abbrev pub order_planned : Plan → List Waiter → List Waiter
-order_planned (plan.Polls op) ws = placed (Op op) ws
-order_planned (plan.Streams receiver) ws = placed (Stream receiver) ws
-order_planned (plan.GivesUp op) ws = without_waiter (Op op) ws
-order_planned (plan.Drops handle) ws = without_waiter (Stream handle) ws
-order_planned p ws = ws
+abbrev pub order_planned : Plan → WakeOrder → WakeOrder
+order_planned (plan.Polls op) o = placed (Op op) o
+order_planned (plan.Streams receiver) o = placed (Stream receiver) o
+order_planned (plan.GivesUp op) o = without_place (Op op) o
+order_planned (plan.Drops handle) o = without_place (Stream handle) o
+order_planned p o = o
 
 module _ {T : Type 0} where
+  -- those of these names who are pending are woken, one after another
+  abbrev pub all_woken : NameTable T → List Waiter → WakeOrder → WakeOrder
+  all_woken r [] o = o
+  all_woken r (w ∷ ws) o = all_woken r ws (if is_name_pending r w then woken_last w o else o)
+
   -- once a call has begun
-  abbrev pub order_begun : Call T → List Waiter → List Waiter
-  order_begun c ws = order_planned (plan_of c) ws
+  abbrev pub order_begun : Call T → WakeOrder → WakeOrder
+  order_begun c o = order_planned (plan_of c) o
 
   -- after a call with this to write back that left this listener, or none
-  abbrev pub order_settled : OnReturn T → Option Key → List Waiter → List Waiter
-  order_settled (on_return.Poll op) key ws = kept_place (Op op) key ws
-  order_settled (on_return.PollNext receiver) key ws = kept_place (Stream receiver) key ws
-  order_settled e key ws = ws
+  abbrev pub order_settled : OnReturn T → Option Key → WakeOrder → WakeOrder
+  order_settled (on_return.Poll op) key o = kept_place (Op op) key o
+  order_settled (on_return.PollNext receiver) key o = kept_place (Stream receiver) key o
+  order_settled e key o = o

@@ -1,7 +1,6 @@
 -- The wake-ups owed to those who are pending and were not woken since their last poll, of a world as it is.
-use Rattle.std.specs.Prelude.{◌≡◌, ℕ, ◌+◌, ◌≤◌, ◌<◌, Bool, true, false, ◌&&◌, List, [], ◌∷◌, ◌++◌, map, Option}
+use Rattle.std.specs.Prelude.{◌≡◌, ℕ, ◌+◌, ◌≤◌, ◌<◌, Bool, true, false, List, [], ◌∷◌, Option}
 use Rattle.std.specs.List.{count_by}
-use Rattle.std.specs.Map.{keys_of}
 use Rattle.concurrent_queue.specs.declared.queue_call.QueueCall.{QueueCall}
 use Rattle.event_listener.specs.declared.key.Key.{Key}
 use Rattle.channel_calls.specs.declared.stage.WaitList.{WaitList}
@@ -9,21 +8,16 @@ use Rattle.channel_calls.specs.declared.stage.WaitList.TheVariants.{Sends, Recei
 use Rattle.channel_calls.specs.declared.stage.Stage.{Stage}
 use Rattle.channel_calls.specs.declared.stage.Stage.TheVariants.{Working}
 use Rattle.channel_calls.specs.declared.stage.ListStep.TheVariants.{Leave}
-use Rattle.channel_world_model.specs.Laws.{same_line}
+use Rattle.channel_world_model.specs.Laws.{is_line, line_at}
 use Rattle.channel_world_model.specs.declared.name.Waiter.{Waiter}
-use Rattle.channel_world_model.specs.declared.name.Waiter.TheVariants.{Op, Stream}
 use Rattle.channel_steps.specs.every_run.Sends.{HasPlaces}
-use Rattle.channel_world_runs.specs.Owners.{NameStatus, waits, not_woken, status}
+use Rattle.channel_world_runs.specs.NameTable.{names_of}
+use Rattle.channel_world_runs.specs.Owners.{IsAmong, waits, status}
 use Rattle.channel_world_runs.specs.declared.activity.Activity.{Activity}
 use Rattle.channel_world_runs.specs.declared.activity.Role.{Role}
 use Rattle.channel_world_runs.specs.declared.activity.Role.TheVariants.{Sending, Receiving}
 use Rattle.channel_world_runs.specs.declared.calls.CallUnderWay.{CallUnderWay}
 use Rattle.channel_world_runs.specs.declared.name_table.NameTable.{NameTable}
-
--- whether one that stands so is pending on this line, and was woken
-abbrev pub is_woken_on : WaitList → NameStatus → Bool
-is_woken_on line (waits h is_woken) = is_woken && same_line line h.line
-is_woken_on line other = false
 
 -- ---- the calls under way
 
@@ -47,11 +41,12 @@ module _ {T : Type 0} where
 
 -- ---- what is owed
 
--- What a world shows at a moment: what lives under which name, how many messages it holds, at most so many, and whether it is
+-- What a world shows at a moment: what lives under which name, who was woken, how many messages it holds, at most so many, and whether it is
 -- closed; and of the calls under way how many are sending and how many receiving, how many have closed it, and how many places
 -- they have freed by taking messages and not announced yet to those who wait to send.
 pub record Observation (T : Type 0) : Type 0 where
   pub name_table : NameTable T
+  pub woken : List Waiter
   pub messages : ℕ
   pub capacity : Option ℕ
   pub closed : Bool
@@ -61,17 +56,13 @@ pub record Observation (T : Type 0) : Type 0 where
   pub freed : ℕ
 
 module _ {T : Type 0} where
-  -- the names that were ever taken
-  abbrev pub all_names : NameTable T → List Waiter
-  all_names r = map (λ n. Op (record { 0 = n })) (keys_of r.operations) ++ map (λ n. Stream (record { 0 = n })) (keys_of r.handles)
+  -- how many of these, who were woken, belong to this line
+  abbrev pub woken_on : WaitList → NameTable T → List Waiter → ℕ
+  woken_on line r woken = count_by (λ w. is_line line (line_at (names_of r) w)) woken
 
-  -- how many are pending on this line and were woken
-  abbrev pub woken_on : WaitList → NameTable T → ℕ
-  woken_on line r = count_by (λ w. is_woken_on line (status r w)) (all_names r)
-
-  -- it is pending on this line, and was not woken since its last poll
-  abbrev pub IsUnwoken : WaitList → Waiter → NameTable T → Type 0
-  IsUnwoken line name r = (key : Key) × (status r name ≡ waits (record { line = line; key = key }) not_woken)
+  -- it is pending on this line, and is none of these, who were woken
+  abbrev pub IsUnwoken : WaitList → Waiter → NameTable T → List Waiter → Type 0
+  IsUnwoken line name r woken = (key : Key) × (status r name ≡ waits (record { line = line; key = key })) × (IsAmong name woken → ⊥)
 
   -- Where one is pending that was not woken since its last poll: of a receive, there are no more messages than woken pending
   -- receives, and sending and receiving calls under way; of a send, where the channel is open, it has a bound, and no more places
@@ -79,8 +70,8 @@ module _ {T : Type 0} where
   -- where there is a message, a sending call is under way; of any, where the channel is closed, the call that closed it is under
   -- way.
   pub record Owed (w : Observation T) : Type 0 where
-    pub receives : (name : Waiter) → IsUnwoken Receives name w.name_table → w.messages ≤ woken_on Receives w.name_table + (w.sending + w.receiving)
-    pub sends : (name : Waiter) → IsUnwoken Sends name w.name_table → w.closed ≡ false
-        → HasPlaces w.capacity (w.messages + (woken_on Sends w.name_table + (w.sending + w.freed)))
-    pub streams : (name : Waiter) → IsUnwoken Streams name w.name_table → 0 < w.messages → 0 < w.sending
-    pub closing : (line : WaitList) (name : Waiter) → IsUnwoken line name w.name_table → w.closed ≡ true → 0 < w.closers
+    pub receives : (name : Waiter) → IsUnwoken Receives name w.name_table w.woken → w.messages ≤ woken_on Receives w.name_table w.woken + (w.sending + w.receiving)
+    pub sends : (name : Waiter) → IsUnwoken Sends name w.name_table w.woken → w.closed ≡ false
+        → HasPlaces w.capacity (w.messages + (woken_on Sends w.name_table w.woken + (w.sending + w.freed)))
+    pub streams : (name : Waiter) → IsUnwoken Streams name w.name_table w.woken → 0 < w.messages → 0 < w.sending
+    pub closing : (line : WaitList) (name : Waiter) → IsUnwoken line name w.name_table w.woken → w.closed ≡ true → 0 < w.closers

@@ -1,5 +1,5 @@
--- What is pending and was woken is told, and whoever is told is woken under his own name.
-use Rattle.std.specs.Prelude.{◌≡◌, Bool, true, List, Some, ◌⊎◌}
+-- Who was woken is told, and who wasn't waits to be woken under his own name.
+use Rattle.std.specs.Prelude.{◌≡◌, List, Some, ◌⊎◌}
 use Rattle.std.specs.Map.{keys_of}
 use Rattle.channel_calls.specs.Moves.{Channel}
 use Rattle.channel_calls.specs.Parts.{listeners}
@@ -7,7 +7,7 @@ use Rattle.channel_calls.specs.declared.stage.ListenerRef.{ListenerRef}
 use Rattle.channel_calls.specs.declared.stage.WaitList.{WaitList}
 use Rattle.channel_world_model.specs.declared.name.Waiter.{Waiter}
 use Rattle.channel_steps.specs.Configuration.{ActiveCall, Configuration}
-use Rattle.channel_world_runs.specs.Owners.{IsAmong, All, NameStatus, retired, polled, waits, status, holding, subject, WaitsToWake, AnyOf}
+use Rattle.channel_world_runs.specs.Owners.{IsAmong, NoneTwice, All, NameStatus, retired, polled, waits, status, holding, subject, WaitsToWake, AnyOf}
 use Rattle.channel_world_runs.specs.Run.{NameState}
 use Rattle.channel_world_runs.specs.Calls.{Agent}
 
@@ -15,17 +15,19 @@ use Rattle.channel_world_runs.specs.Calls.{Agent}
 abbrev pub IsAway : NameStatus → Type 0
 IsAway p = (p ≡ retired) ⊎ ((line : WaitList) × (p ≡ polled line))
 
+-- whoever is pending, or may be once its poll has ended, has a place
+abbrev pub NeedsPlace : NameStatus → Type 0
+NeedsPlace p = ((h : ListenerRef) × (p ≡ waits h)) ⊎ ((line : WaitList) × (p ≡ polled line))
+
 module _ {T W : Type 0} where
   -- the listener was told
   abbrev pub IsTold : ListenerRef → Channel T W → Type 0
   IsTold h c = IsAmong h.key (keys_of (listeners h.line c.wait_lists).told)
 
 module _ {T : Type 0} where
-  -- the listener of whatever is pending and was woken is told
-  abbrev pub WokenAreTold : NameState T → Configuration T Waiter → Type 0
-  WokenAreTold b s = (w : Waiter) (h : ListenerRef) → status b.name_table w ≡ waits h true → IsTold h s.now
-
-  -- ---- what every run needs to keep it
+  -- it was told just where its name is among these, who were woken; else it waits to wake it
+  abbrev pub IsMarked : Waiter → List Waiter → ListenerRef → Channel T Waiter → Type 0
+  IsMarked w woken h c = (IsAmong w woken × IsTold h c) ⊎ ((IsAmong w woken → ⊥) × WaitsToWake h w c)
 
   -- nobody works at this name
   abbrev pub NoneWorks : Waiter → List (Agent T) → Type 0
@@ -41,9 +43,14 @@ module _ {T : Type 0} where
   -- before the listener has left.
   abbrev pub IsOwn : NameState T → List (ActiveCall T Waiter) → Waiter → ListenerRef → Type 0
   IsOwn b us w h =
-      ((is_woken : Bool) × (status b.name_table w ≡ waits h is_woken))
+      (status b.name_table w ≡ waits h)
       ⊎ (Works w h b.agents us ⊎ (IsAway (status b.name_table w) × NoneWorks w b.agents))
 
+  -- Whoever is pending was woken and is told, or wasn't and waits to wake his own name. Only who is pending was woken, nobody twice;
+  -- and whoever may be woken has a place.
   pub record WokenSound (b : NameState T) (s : Configuration T Waiter) : Type 0 where
-    pub told : WokenAreTold b s
+    pub stands : (w : Waiter) (h : ListenerRef) → status b.name_table w ≡ waits h → IsMarked w b.order.woken h s.now
+    pub pending : (w : Waiter) → IsAmong w b.order.woken → (h : ListenerRef) × (status b.name_table w ≡ waits h)
+    pub once : NoneTwice b.order.woken
+    pub placed : (w : Waiter) → NeedsPlace (status b.name_table w) → IsAmong w b.order.places
     pub tasks : (w : Waiter) (h : ListenerRef) → WaitsToWake h w s.now → IsOwn b s.under_way w h

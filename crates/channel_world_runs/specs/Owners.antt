@@ -1,5 +1,5 @@
 -- Who holds each listener: what is pending, by its name, or one call under way.
-use Rattle.std.specs.Prelude.{◌≡◌, ℕ, nat_eq, Bool, false, List, [], ◌∷◌, ◌++◌, Option, None, Some, ◌⊎◌}
+use Rattle.std.specs.Prelude.{◌≡◌, ℕ, nat_eq, List, [], ◌∷◌, ◌++◌, Option, None, Some, ◌⊎◌}
 use Rattle.std.specs.Map.{lookup, keys_of}
 use Rattle.concurrent_queue.specs.Queue.{Phase}
 use Rattle.event_listener.specs.declared.key.Key.{Key}
@@ -52,31 +52,19 @@ module _ {A : Type 0} where
 
 -- ---- the names
 
--- whether what is pending was woken since its last poll
-abbrev pub WasWoken : Type 0
-WasWoken = Bool
-
-abbrev pub not_woken : WasWoken
-not_woken = false
-
 -- How a name stands: it was never taken; nothing lives under it; what lives there isn't pending; it is pending with this
--- listener, and was woken or not; a poll of it is under way; or, which never is, a finished send or what is no receiver is
--- pending.
+-- listener; a poll of it is under way; or, which never is, a finished send or what is no receiver is pending.
 pub data NameStatus : Type 0 where
   free : NameStatus
   retired : NameStatus
   invalid : NameStatus
   rests : WaitList → NameStatus
-  waits : ListenerRef → WasWoken → NameStatus
+  waits : ListenerRef → NameStatus
   polled : WaitList → NameStatus
-
--- it waits, and was not woken
-abbrev pub waits_unwoken : ListenerRef → NameStatus
-waits_unwoken h = waits h not_woken
 
 abbrev pub status_on : WaitList → PollState → NameStatus
 status_on line Rests = rests line
-status_on line (Waits key is_woken) = waits (record { line = line; key = key }) is_woken
+status_on line (Waits key) = waits (record { line = line; key = key })
 status_on line (IsPolled brings) = polled line
 
 abbrev pub no_stream_status : PollState → NameStatus
@@ -97,7 +85,7 @@ module _ {T : Type 0} where
   -- a finished send isn't pending
   abbrev pub send_status : Option T → PollState → NameStatus
   send_status None Rests = rests Sends
-  send_status None (Waits key is_woken) = invalid
+  send_status None (Waits key) = invalid
   send_status None (IsPolled brings) = polled Sends
   send_status (Some m) s = status_on Sends s
 
@@ -256,18 +244,17 @@ module _ {T : Type 0} where
 
   -- a name holds its listener while it is pending, a call while it has it in hand
   abbrev pub HoldsIn : (Waiter → NameStatus) → List (ActiveCall T Waiter) → Holder → ListenerRef → Type 0
-  HoldsIn p us (named w) h = (is_woken : WasWoken) × (p w ≡ waits h is_woken)
+  HoldsIn p us (named w) h = p w ≡ waits h
   HoldsIn p us (calling party) h = AnyOf (λ u. (u.party ≡ party) × (holding u.at ≡ Some h)) us
 
-  -- Each call under way is of one agent, and no two of one party or at one name. What is pending has its listener on its list;
-  -- there it waits, to wake that name, unless the name was woken. Each listener on a list is held, and by one alone: by what
-  -- is pending, or by a call that has it in hand. None stands on a list twice.
+  -- Each call under way is of one agent, and no two of one party or at one name. What is pending has its listener on its list.
+  -- Each listener on a list is held, and by one alone: by what is pending, or by a call that has it in hand. None stands on a list
+  -- twice.
   pub record Owned (b : NameState T) (s : Configuration T Waiter) : Type 0 where
     pub together : Together (status b.name_table) b.agents s.under_way
     pub differ : AllDiffer b.agents
     pub none_amiss : (w : Waiter) → status b.name_table w ≡ invalid → ⊥
     pub once : NoneListedTwice s.now
-    pub unwoken : (w : Waiter) (h : ListenerRef) → status b.name_table w ≡ waits_unwoken h → WaitsToWake h w s.now
     pub listed : (x : Holder) (h : ListenerRef) → HoldsIn (status b.name_table) s.under_way x h → IsListed h s.now
     pub held : (h : ListenerRef) → IsListed h s.now → (x : Holder) × HoldsIn (status b.name_table) s.under_way x h
     pub alone : (x y : Holder) (h : ListenerRef) → HoldsIn (status b.name_table) s.under_way x h → HoldsIn (status b.name_table) s.under_way y h → x ≡ y

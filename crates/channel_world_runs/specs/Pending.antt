@@ -1,8 +1,8 @@
--- How many of those who live are pending, and how many of these were woken.
-use Rattle.std.specs.Prelude.{ℕ, ◌+◌, Bool, true, false, Option, is_some}
+-- How many of those who live are pending.
+use Rattle.std.specs.Prelude.{ℕ, ◌+◌, Bool, false, Option, is_some}
 use Rattle.std.specs.List.{count_by}
 use Rattle.std.specs.Option.{option_map_or}
-use Rattle.channel_world_runs.specs.NameTable.{key_of, is_woken}
+use Rattle.channel_world_runs.specs.NameTable.{key_of}
 use Rattle.channel_world_runs.specs.declared.names.HandleEntry.{HandleEntry}
 use Rattle.channel_world_runs.specs.declared.names.OperationEntry.{OperationEntry}
 use Rattle.channel_world_runs.specs.declared.names.PollState.{PollState}
@@ -11,11 +11,6 @@ use Rattle.channel_world_runs.specs.declared.name_table.NameTable.{NameTable}
 -- one that is pending holds a listener
 abbrev pub stands_pending : PollState → Bool
 stands_pending s = is_some (key_of s)
-
--- only the woken are counted, or whoever is pending
-abbrev pub stands_counted : Bool → PollState → Bool
-stands_counted true = is_woken
-stands_counted false = stands_pending
 
 -- whether a handle lives there that stands so as a stream
 abbrev pub stream_stands : (PollState → Bool) → Option HandleEntry → Bool

@@ -13,8 +13,8 @@ use Rattle.channel_steps.specs.Run.{Next}
 use Rattle.channel_steps.specs.Configuration.{Configuration}
 use Rattle.channel_steps.specs.declared.run.Step.{Step as ChannelStep}
 use Rattle.channel_steps.specs.declared.run.Step.TheVariants as channel
-use Rattle.channel_world_runs.specs.Bookkeeping.{asks, on_return_of, names_begun, written_back, all_woken}
-use Rattle.channel_world_runs.specs.Order.{order_begun, all_moved_last, order_settled}
+use Rattle.channel_world_runs.specs.Bookkeeping.{asks, on_return_of, names_begun, written_back}
+use Rattle.channel_world_runs.specs.Order.{WakeOrder, all_woken, order_begun, order_settled}
 use Rattle.channel_world_runs.specs.Refusal.{step_refusal}
 use Rattle.channel_world_runs.specs.Calls.{Agent}
 use Rattle.channel_world_runs.specs.declared.name_table.NameTable.{NameTable}
@@ -23,11 +23,10 @@ use Rattle.channel_world_runs.specs.declared.step.Entry.{Entry}
 use Rattle.channel_world_runs.specs.declared.step.Step.{Step}
 use Rattle.channel_world_runs.specs.declared.step.Step.TheVariants as step
 
--- the names, those who may be woken in the order of their waking, and the parties at work in the order in which their calls
--- began
+-- the names, who may be woken and who was, in the order of waking, and the parties at work in the order in which their calls began
 pub record NameState (T : Type 0) : Type 0 where
   pub name_table : NameTable T
-  pub order : List Waiter
+  pub order : WakeOrder
   pub agents : List (Agent T)
 
 module _ {T : Type 0} where
@@ -47,7 +46,7 @@ module _ {T : Type 0} where
   }
 
   abbrev pub with_woken : List Waiter → NameState T → NameState T
-  with_woken names b = record b { name_table = all_woken names b.name_table; order = all_moved_last names b.order }
+  with_woken names b = record b { order = all_woken b.name_table names b.order }
 
   -- the k-th call has ended, with this reply, and left this: it writes back what it has to, and its party is at work no more
   abbrev pub name_state_ended : ℕ → Agent T → Option (Reply T) → Option (Returned T) → NameState T → NameState T

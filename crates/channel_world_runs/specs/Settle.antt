@@ -5,13 +5,12 @@ use Rattle.channel_world_model.specs.Lines.{is_among}
 use Rattle.channel_world_model.specs.Settling.{poll_of}
 use Rattle.channel_world_model.specs.declared.name.Waiter.{Waiter}
 use Rattle.channel_world_runs.specs.Lone.{CallsAlone}
-use Rattle.channel_world_runs.specs.OwnerOrder.{woken_in}
 use Rattle.channel_world_runs.specs.declared.world_state.WorldState.{WorldState}
 
 module _ {T : Type 0} where
   -- w is pending and was woken
   abbrev pub IsWoken : Waiter → WorldState T → Type 0
-  IsWoken w f = is_among w (woken_in f.name_table f.order) ≡ true
+  IsWoken w f = is_among w f.order.woken ≡ true
 
   -- w was polled alone, and those whom the poll woke stand after the names before
   pub record PollsAlone (w : Waiter) (old : WorldState T) (before : List Waiter) (x : Reply T) (after : List Waiter) (new : WorldState T) : Type 0 where

@@ -5,7 +5,6 @@ use Rattle.channel_world_model.specs.declared.name.Waiter.{Waiter}
 use Rattle.channel_steps.specs.Answers.{asks_first}
 use Rattle.channel_steps.specs.Configuration.{ActiveCall, Configuration}
 use Rattle.channel_world_runs.specs.Counted.{Counted}
-use Rattle.channel_world_runs.specs.OwnerOrder.{InOrder}
 use Rattle.channel_world_runs.specs.OwnerPolled.{PolledAtWork}
 use Rattle.channel_world_runs.specs.OwnerWoken.{WokenSound}
 use Rattle.channel_world_runs.specs.Owners.{All, Owned}
@@ -17,13 +16,12 @@ module _ {T : Type 0} where
   abbrev pub AllTry : List (ActiveCall T Waiter) → Type 0
   AllTry us = All (λ (u : ActiveCall T Waiter). asks_first u.ask ≡ false) us
 
-  -- Each listener has its owner; whoever was woken is told, in the order of waking; nobody who waits is forgotten; where a poll
+  -- Each listener has its owner; whoever was woken is told, and whoever may be has a place; nobody who waits is forgotten; where a poll
   -- of a name is under way, a party works there; no handle is used by more than use it; the counts count the strong handles; and no call
   -- by names asks a listener before it tries.
   pub record WorldInvariant (b : NameState T) (s : Configuration T Waiter) : Type 0 where
     pub owned : Owned b s
     pub woken : WokenSound b s
-    pub order : InOrder b s
     pub sound : WakeInvariant s
     pub polled : PolledAtWork b
     pub users : FewUsers b
@@ -34,7 +32,6 @@ module _ {T : Type 0} where
   pub record NamesKept (b : NameState T) (s : Configuration T Waiter) : Type 0 where
     pub owned : Owned b s
     pub woken : WokenSound b s
-    pub order : InOrder b s
     pub sound : WakeInvariant s
     pub polled : PolledAtWork b
     pub users : FewUsers b

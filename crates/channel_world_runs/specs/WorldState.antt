@@ -20,6 +20,7 @@ use Rattle.channel_world_runs.specs.Owners.{All}
 use Rattle.channel_world_runs.specs.WorldInvariant.{WorldInvariant}
 use Rattle.channel_world_runs.specs.Positions.{brings, is_one_place, yet_in}
 use Rattle.channel_world_runs.specs.NameTable.{first_name_table}
+use Rattle.channel_world_runs.specs.Order.{no_places}
 use Rattle.channel_world_runs.specs.Run.{NameState, StepIsMade, channel_step}
 use Rattle.channel_world_runs.specs.Reaches.{Reaches}
 use Rattle.channel_world_runs.specs.declared.activity.Activity.{Activity}
@@ -56,6 +57,7 @@ module _ {T : Type 0} where
   abbrev pub observation_of : WorldState T → Observation T
   observation_of f = record {
     name_table = f.name_table;
+    woken = f.order.woken;
     messages = f.messages;
     capacity = capacity_of (parts_in f).cells.form;
     closed = closed_in (parts_in f).cells;
@@ -136,7 +138,7 @@ module _ {T : Type 0} where
   -- a channel that was just opened: its first sender and its first receiver live, and nobody is at work
   pub record IsJustOpened (capacity : Option ℕ) (f : WorldState T) : Type 0 where
     pub stands : StandsIn f (new_configuration capacity)
-    pub name_state : name_state_of f ≡ record { name_table = first_name_table; order = []; agents = [] }
+    pub name_state : name_state_of f ≡ record { name_table = first_name_table; order = no_places; agents = [] }
 
   -- the steps that are left to the calls under way, in the order in which they began
   abbrev pub lefts_in : WorldState T → List ℕ

@@ -115,15 +115,14 @@ fn new_message<T: Drop>(call: Call<T>) -> Option<T>
 }
 
 impl<T: Drop> NameTable<T> {
-    ghost use Rattle.std.specs.Prelude.{◌≡◌, None, Some, List, true, false, IfOk, OnErr, IfErr, IfSome, IfNone};
+    ghost use Rattle.std.specs.Prelude.{◌≡◌, None, Some, true, false, IfOk, OnErr, IfErr, IfSome, IfNone};
     ghost use Rattle.std.specs.Bool.{OnTrue, OnFalse};
     ghost use Rattle.channel_world_model.specs.Names.{at, is_taken};
     ghost use Rattle.channel_world_model.specs.Plan.{kin, plan_of};
-    ghost use Rattle.channel_world_model.specs.declared.name.Waiter.{Waiter};
     ghost use Rattle.channel_world_model.specs.declared.name.Waiter.TheVariants.{Op};
     ghost use Rattle.channel_world_runs.specs.Bookkeeping.{BeginsByName, Starts, is_named, lent_to_poll, mint_asked, new_from, operation_named, handle_named, with_operation};
     ghost use Rattle.channel_world_runs.specs.NameTable.{held_of, names_of, with_lent, with_borrowed};
-    ghost use Rattle.channel_world_runs.specs.Order.{order_begun};
+    ghost use Rattle.channel_world_runs.specs.Order.{WakeOrder, order_begun};
     ghost use Rattle.channel_world_runs.specs.Refusal.{takes_again};
 
     /// A call through a handle asks this.
@@ -271,7 +270,7 @@ impl<T: Drop> NameTable<T> {
         ensures ok { IfOk result (λ b. BeginsByName self.old call b self.new) }
         ensures err { OnErr result (self.new ≡ self.old) }
         ensures back { IfErr result (λ c. c ≡ call) }
-        ensures places { OnErr result ((ws : List Waiter) → order_begun call ws ≡ ws) }
+        ensures places { OnErr result ((o : WakeOrder) → order_begun call o ≡ o) }
     {
         match Plan::of(&call) {
             Plan::Through(_, handle) => Ok(self.through(handle, plain_ask(call, alloc))),

@@ -9,7 +9,7 @@ use channel_world_model::name::{OpId, Waiter};
 
 impl<T: Drop> NameTable<T> {
     ghost use Rattle.std.specs.Prelude.{◌≡◌, Option};
-    ghost use Rattle.channel_world_runs.specs.Bookkeeping.{with_operation, restored, written_back, with_one_woken};
+    ghost use Rattle.channel_world_runs.specs.Bookkeeping.{with_operation, restored, written_back};
 
     /// The operation gets back what its poll left to it.
     fn restore(&mut self, op: OpId, kept: Returned<T>)
@@ -47,46 +47,25 @@ impl<T: Drop> NameTable<T> {
             }
         }
     }
-
-    /// One that is pending is woken.
-    pub(crate) fn wake(&mut self, name: Waiter)
-        ensures { self.new ≡ with_one_woken name self.old }
-    {
-        match name {
-            Waiter::Op(op) => {
-                if let Some(mut entry) = self.operations.take(op.0) {
-                    entry.poll_state = entry.poll_state.told();
-                    self.operations.set(op.0, entry);
-                }
-            }
-            Waiter::Stream(receiver) => {
-                if let Some(mut entry) = self.handles.take(receiver.0) {
-                    entry.poll_state = entry.poll_state.told();
-                    self.handles.set(receiver.0, entry);
-                }
-            }
-        }
-    }
 }
 
 impl<T: Drop> WorldState<T> {
     ghost use Rattle.std.specs.Prelude.{◌≡◌, ◌<◌, vec_len, slice_get, Some, drop};
     ghost use Rattle.channel_steps.specs.Configuration.{left_by, unless_answered};
-    ghost use Rattle.channel_world_runs.specs.Bookkeeping.{all_woken};
     ghost use Rattle.channel_world_runs.specs.Calls.{agent_of};
-    ghost use Rattle.channel_world_runs.specs.Order.{all_moved_last};
+    ghost use Rattle.channel_world_runs.specs.Order.{all_woken};
     ghost use Rattle.channel_world_runs.specs.Run.{name_state_ended};
     ghost use Rattle.channel_world_runs.specs.WorldState.{name_state_of};
     ghost use Rattle.channel_world_runs.specs.declared.calls.CallUnderWay.{CallUnderWay};
 
-    /// The names from this place on are woken, in order.
+    /// Of the names from this place on those that are pending are woken, in order.
     pub(crate) fn wake_from(&mut self, names: &Vec<Waiter>, from: usize)
-        ensures { let told = drop from names.now.items in
-            self.new ≡ record self.old { name_table = all_woken told self.old.name_table; order = all_moved_last told self.old.order } }
+        ensures { self.new ≡ record self.old { order = all_woken self.old.name_table (drop from names.now.items) self.old.order } }
     {
         for k in from..names.len() {
-            self.name_table.wake(names[k]);
-            self.order.wake(names[k]);
+            if self.name_table.is_pending(names[k]) {
+                self.order.wake(names[k]);
+            }
         }
     }
 

@@ -2,10 +2,10 @@
 //! interleaving. Where no call is under way, a call may also be made alone, from its beginning to its end.
 //!
 //! What is said of it is in the contracts, and what they mean in `specs/`: `NameTable` (what lives under which name), `Apart` (no name
-//! stands twice), `Pending` (how many are pending or woken), `Refusal` (which steps are refused), `Bookkeeping` (what a call asks as it
-//! begins, and what it writes back at its end), `Order` (who may be woken, in the order of waking), `Run` (one step), `Runs` (steps one
+//! stands twice), `Pending` (how many are pending), `Refusal` (which steps are refused), `Bookkeeping` (what a call asks as it
+//! begins, and what it writes back at its end), `Order` (who may be woken, and who was, in order), `Run` (one step), `Runs` (steps one
 //! after another, and what holds at each moment of them), `Lone` (calls made alone), `Owners` (who holds each listener), `OwnerWoken` (who
-//! was woken is told), `OwnerOrder` (in which order), `OwnerPolled` (who is polled, by whom), `WorldInvariant` (all that every step keeps of those
+//! was woken is told), `OwnerPolled` (who is polled, by whom), `WorldInvariant` (all that every step keeps of those
 //! who wait), `Calls` (the calls under way by name), `Activity` (what each of them is to those who wait, and has done), `Owed` (the wake-ups owed to those who are pending, by
 //! what a channel shows as it is), `WorldState` (the configurations in which a channel by names stands, and how what is done leads from one
 //! to another).
@@ -19,11 +19,10 @@
 //! call asks what it asks given the names and the listeners held as it begins; that the names and the order of waking after it are what the
 //! bookkeeping makes of it; why and where a run stops, and that a refused step is left in front with nothing of it done; that what left the
 //! channel, followed by what it holds, is what it held followed by what came; that at every moment of a run each listener on a list is held
-//! by one alone, a pending operation or stream or a call under way, whoever is pending and was woken is told, on each list in the order of
-//! waking, and nobody pending stays unwoken beside a message, free place or closing that no woken one or call under way answers for.
+//! by one alone, a pending operation or stream or a call under way, whoever is pending and was woken is told, and nobody pending stays unwoken beside a message, free place or closing that no woken one or call under way answers for.
 //! However it came about, the channel stands in such a configuration, and whatever is done next leads on from each configuration in which
-//! it stands. The number of messages, the number of calls under way and whether there is any are the channel's. The numbers `pending` and
-//! `woken` are those of the operations and streams that stand so.
+//! it stands. The number of messages, the number of calls under way and whether there is any are the channel's. The number `pending` is
+//! that of the operations and streams that stand so.
 //!
 //! Of a call made alone: that it asks so too, that its steps, its answer, those whom it wakes, in order, and the channel after
 //! it are those of a call with nobody else at work, that the names and the order of waking after it are what the bookkeeping

@@ -77,52 +77,54 @@ impl<T> NameTable<T> {
 }
 
 ghost use Rattle.std.specs.Prelude.{◌≡◌};
-ghost use Rattle.channel_world_runs.specs.Pending.{stands_counted, operation_stands, stream_stands};
+ghost use Rattle.channel_world_runs.specs.Pending.{stands_pending, operation_stands, stream_stands};
 
-/// Whether an operation is pending; and was woken, where only the woken are asked for.
-fn is_counted<T>(only_woken: bool, operation: &Option<OperationEntry<T>>) -> bool
-    ensures { result ≡ operation_stands (stands_counted only_woken) operation.now }
+/// Whether an operation is pending.
+fn operation_pends<T>(operation: &Option<OperationEntry<T>>) -> bool
+    ensures { result ≡ operation_stands stands_pending operation.now }
 {
-    matches!(operation, Some(entry) if entry.poll_state.is_counted(only_woken))
+    matches!(operation, Some(entry) if entry.poll_state.is_pending())
 }
 
-/// Whether a stream is pending; and was woken, where only the woken are asked for.
-fn is_stream_counted(only_woken: bool, handle_entry: &Option<HandleEntry>) -> bool
-    ensures { result ≡ stream_stands (stands_counted only_woken) handle_entry.now }
+/// Whether a stream is pending.
+fn stream_pends(handle_entry: &Option<HandleEntry>) -> bool
+    ensures { result ≡ stream_stands stands_pending handle_entry.now }
 {
-    matches!(handle_entry, Some(entry) if entry.poll_state.is_counted(only_woken))
+    matches!(handle_entry, Some(entry) if entry.poll_state.is_pending())
 }
 
 impl<T> NameTable<T> {
     ghost use Rattle.std.specs.Prelude.{◌≡◌};
     ghost use Rattle.channel_world_model.specs.Laws.{is_line, line_at};
-    ghost use Rattle.channel_world_runs.specs.NameTable.{is_woken, names_of};
-    ghost use Rattle.channel_world_runs.specs.Pending.{stands_counted, stands_pending, how_many};
-
-    /// How many operations and streams are pending; of them those who were woken, where only these are asked for.
-    fn count(&self, only_woken: bool) -> usize
-        ensures { result ≡ how_many (stands_counted only_woken) self.now }
-    {
-        let operations = self.operations.iter();
-        let operations = operations.filter(|(_, x)| is_counted(only_woken, *x));
-        let streams = self.handles.iter();
-        let streams = streams.filter(|(_, x)| is_stream_counted(only_woken, *x));
-        operations.count() + streams.count()
-    }
+    ghost use Rattle.channel_world_runs.specs.NameTable.{is_name_pending, names_of};
+    ghost use Rattle.channel_world_runs.specs.Pending.{stands_pending, how_many};
 
     /// How many operations and streams are pending: they live, their last poll ended so, and no poll of them is under way. Own to
     /// this project.
     pub fn count_pending(&self) -> usize
         ensures { result ≡ how_many stands_pending self.now }
     {
-        self.count(false)
+        let operations = self.operations.iter();
+        let operations = operations.filter(|(_, x)| operation_pends(*x));
+        let streams = self.handles.iter();
+        let streams = streams.filter(|(_, x)| stream_pends(*x));
+        operations.count() + streams.count()
     }
 
-    /// How many of those that are pending were woken since their last poll. Own to this project.
-    pub fn count_woken(&self) -> usize
-        ensures { result ≡ how_many is_woken self.now }
+    /// Whether what has this name is pending.
+    pub(crate) fn is_pending(&self, name: Waiter) -> bool
+        ensures { result ≡ is_name_pending self.now name }
     {
-        self.count(true)
+        match name {
+            Waiter::Op(op) => match self.operations.get(op.0) {
+                Some(entry) => entry.poll_state.is_pending(),
+                None => false,
+            },
+            Waiter::Stream(receiver) => match self.handles.get(receiver.0) {
+                Some(entry) => entry.poll_state.is_pending(),
+                None => false,
+            },
+        }
     }
 
     /// Whether what has this name belongs to this line: a pending send, receive or wait for the closing to its own, and a stream to

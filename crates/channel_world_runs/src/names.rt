@@ -8,13 +8,8 @@ use event_listener::key::Key;
 pub enum PollState {
     /// It isn't pending.
     Rests,
-    /// Its last poll ended pending: it holds this listener, and may have been woken since.
-    Waits {
-        /// The listener.
-        key: Key,
-        /// Whether it was woken.
-        is_woken: bool,
-    },
+    /// Its last poll ended pending: it holds this listener.
+    Waits(Key),
     /// A poll of it is under way, which has its listener and, where it brings one, its message.
     IsPolled {
         /// Whether the poll has a message of the operation.
@@ -24,15 +19,15 @@ pub enum PollState {
 
 impl PollState {
     ghost use Rattle.std.specs.Prelude.{◌≡◌};
-    ghost use Rattle.channel_world_runs.specs.NameTable.{key_of, poll_state_with, is_polled, is_woken, told};
-    ghost use Rattle.channel_world_runs.specs.Pending.{stands_counted};
+    ghost use Rattle.channel_world_runs.specs.NameTable.{key_of, poll_state_with, is_polled};
+    ghost use Rattle.channel_world_runs.specs.Pending.{stands_pending};
 
     /// The listener of one that is pending.
     pub(crate) fn key(self) -> Option<Key>
         ensures { result ≡ key_of self }
     {
         match self {
-            PollState::Waits { key, is_woken: _ } => Some(key),
+            PollState::Waits(key) => Some(key),
             PollState::Rests | PollState::IsPolled { brings: _ } => None,
         }
     }
@@ -41,9 +36,8 @@ impl PollState {
     pub(crate) fn with(key: Option<Key>) -> PollState
         ensures { result ≡ poll_state_with key }
     {
-        let is_woken = false;
         match key {
-            Some(key) => PollState::Waits { key, is_woken },
+            Some(key) => PollState::Waits(key),
             None => PollState::Rests,
         }
     }
@@ -55,28 +49,11 @@ impl PollState {
         matches!(self, PollState::IsPolled { .. })
     }
 
-    /// Whether it is pending and was woken.
-    pub(crate) fn is_woken(self) -> bool
-        ensures { result ≡ is_woken self }
+    /// Whether it is pending. Own to this project.
+    pub fn is_pending(self) -> bool
+        ensures { result ≡ stands_pending self }
     {
-        matches!(self, PollState::Waits { is_woken: true, .. })
-    }
-
-    /// Whether it is pending; and was woken, where only the woken are asked for. Own to this project.
-    pub fn is_counted(self, only_woken: bool) -> bool
-        ensures { result ≡ stands_counted only_woken self }
-    {
-        matches!(self, PollState::Waits { key: _, is_woken } if is_woken || !only_woken)
-    }
-
-    /// The same, woken where it is pending.
-    pub(crate) fn told(mut self) -> PollState
-        ensures { result ≡ told self }
-    {
-        if let PollState::Waits { key: _, is_woken } = &mut self {
-            *is_woken = true;
-        }
-        self
+        matches!(self, PollState::Waits(_))
     }
 }
 

@@ -1,7 +1,8 @@
-//! The order in which names were woken.
+//! Who may be woken, and who was, in order.
 
 use crate::name_table::NameTable;
 use crate::names::OnReturn;
+use channel_calls::stage::WaitList;
 use channel_world_model::call::Call;
 use channel_world_model::name::Waiter;
 use channel_world_model::plan::Plan;
@@ -10,93 +11,119 @@ use lru::LruCache;
 use std::alloc::{AllocError, Global};
 use std::marker::Model;
 
-/// Those who may be woken, in the order of their waking.
+/// Those who may be woken, and which of them were, in the order of their waking.
 ///
-/// It is the kit's list of recent use: a name is found, moved and removed without a walk past the others. Each name has its
-/// place before it may be woken, so waking takes no memory.
+/// It is the kit's list of recent use, with the mark of those who were woken in their places: a name is found, moved, marked and
+/// removed without a walk past the others. Each name has its place before it may be woken, so waking takes no memory.
 #[derive(Drop)]
 pub struct Order {
-    places: LruCache<Waiter, ()>,
+    places: LruCache<Waiter, bool>,
 }
 
 impl Model for Order {
-    ghost use Rattle.std.specs.Prelude.{◌≡◌, List, ◌-◌, ◌^◌};
+    ghost use Rattle.std.specs.Prelude.{◌≡◌, ◌-◌, ◌^◌};
     ghost use Rattle.std.specs.Map.{keys_of};
-    ghost use Rattle.channel_world_model.specs.declared.name.Waiter.{Waiter};
+    ghost use Rattle.channel_world_runs.specs.Order.{WakeOrder, marked_places};
 
-    ghost Value = { List Waiter };
+    ghost Value = { WakeOrder };
 
-    ghost view = { λ o. keys_of o.places.entries };
+    ghost view = { λ o. record { places = keys_of o.places.entries; woken = marked_places o.places.entries } };
 
     ghost invariant = { λ o. o.places.cap ≡ 2 ^ 64 - 1 };
 }
 
 impl Order {
-    ghost use Rattle.std.specs.Prelude.{◌≡◌, [], IfOk, OnOk, OnErr};
-    ghost use Rattle.channel_world_model.specs.Lines.{without_waiter};
-    ghost use Rattle.channel_world_runs.specs.Order.{placed, moved_last, order_begun, order_settled};
-    ghost use Rattle.channel_world_runs.specs.OwnerOrder.{woken_in};
+    ghost use Rattle.std.specs.Prelude.{◌≡◌, IfOk, OnOk, OnErr, length};
+    ghost use Rattle.channel_world_runs.specs.Order.{no_places, placed, rested, woken_last, without_place, order_begun, order_settled};
+    ghost use Rattle.channel_world_runs.specs.Owed.{woken_on};
 
     /// Nobody has a place.
     pub(crate) fn new(alloc: Global) -> Result<Order, AllocError>
-        ensures { IfOk result (λ o. o ≡ []) }
+        ensures { IfOk result (λ o. o ≡ no_places) }
     {
         let places = LruCache::unbounded(alloc)?;
         Ok(Order { places })
     }
 
-    /// Makes sure of a place for w. Where memory was refused, nothing is changed.
+    /// w has a place from now on, and was not woken. Where memory was refused, nothing is changed.
     pub(crate) fn place(&mut self, w: Waiter) -> Result<(), AllocError>
         ensures ok { OnOk result (self.new ≡ placed w self.old) }
         ensures err { OnErr result (self.new ≡ self.old) }
     {
         let _length = self.places.len();
-        if self.places.contains(&w) {
-            return Ok(());
-        }
-        let Ok(_) = self.places.put(w, ()) else {
+        let Ok(_) = self.places.put(w, false) else {
             return Err(AllocError);
         };
         Ok(())
     }
 
-    /// w is woken, after all that were woken before, if it has a place.
-    pub(crate) fn wake(&mut self, w: Waiter)
-        ensures { self.new ≡ moved_last w self.old }
+    /// w keeps its place, if it has one, and was not woken.
+    pub(crate) fn rest(&mut self, w: Waiter)
+        ensures { self.new ≡ rested w self.old }
     {
         let _length = self.places.len();
-        let _moved = self.places.demote(&w);
+        if self.places.contains(&w) {
+            let Ok(_) = self.places.put(w, false) else {
+                unreachable!();
+            };
+        }
+    }
+
+    /// w is woken, after all that were woken before, if it has a place.
+    pub(crate) fn wake(&mut self, w: Waiter)
+        ensures { self.new ≡ woken_last w self.old }
+    {
+        let _length = self.places.len();
+        if self.places.contains(&w) {
+            let Ok(_) = self.places.put(w, true) else {
+                unreachable!();
+            };
+            let _moved = self.places.demote(&w);
+        }
     }
 
     /// w has no place any more.
     pub(crate) fn leave(&mut self, w: Waiter)
-        ensures { self.new ≡ without_waiter w self.old }
+        ensures { self.new ≡ without_place w self.old }
     {
         let _length = self.places.len();
         let _removed = self.places.pop(&w);
     }
 
-    /// Those who are pending and were woken, in the order of their waking. A walk over all names that are polled or pending. Own
-    /// to this project.
-    pub fn woken<T: Drop>(
-        &self,
-        name_table: &NameTable<T>,
-        alloc: Global,
-    ) -> Result<Vec<Waiter>, AllocError>
-        ensures { IfOk result (λ names. names.items ≡ woken_in name_table.now self.now) }
+    /// Those who were woken, in the order of their waking. A walk over all names that are polled or pending. Own to this project.
+    pub fn woken(&self, alloc: Global) -> Result<Vec<Waiter>, AllocError>
+        ensures { IfOk result (λ names. names.items ≡ self.now.woken) }
     {
         let mut names = Vec::new(alloc);
         let mut places = self.places.iter();
-        while let Some((name, _)) = places.next() {
-            if name_table.was_woken(*name) && names.push(*name).is_err() {
+        while let Some((name, was_woken)) = places.next() {
+            if *was_woken && names.push(*name).is_err() {
                 return Err(AllocError);
             }
         }
         Ok(names)
     }
 
-    /// A call begins: who is polled gets a place, who is given up or dropped loses it. Where memory was refused, nothing is
-    /// changed.
+    /// How many were woken. A walk over all names that are polled or pending. Own to this project.
+    pub fn count_woken(&self) -> usize
+        ensures { result ≡ length self.now.woken }
+    {
+        let places = self.places.iter();
+        places.filter(|(_, was_woken)| **was_woken).count()
+    }
+
+    /// How many of those who were woken belong to this line. A walk over all names that are polled or pending. Own to this project.
+    pub fn count_woken_on<T>(&self, name_table: &NameTable<T>, line: WaitList) -> usize
+        ensures { result ≡ woken_on line name_table.now self.now.woken }
+    {
+        let places = self.places.iter();
+        places
+            .filter(|(name, was_woken)| **was_woken && name_table.is_on(line, **name))
+            .count()
+    }
+
+    /// A call begins: who is polled gets a place and is not woken any more, who is given up or dropped loses it. Where memory was
+    /// refused, nothing is changed.
     pub(crate) fn begin<T>(&mut self, call: &Call<T>) -> Result<(), AllocError>
         ensures ok { OnOk result (self.new ≡ order_begun call.now self.old) }
         ensures err { OnErr result (self.new ≡ self.old) }

@@ -1,10 +1,9 @@
 //! Polls of those who are pending and were woken, made alone, one after another, as settling makes them.
 
-use crate::name_table::NameTable;
 use crate::world_state::WorldState;
 use channel_calls::reply::Reply;
 use channel_world_model::call::Call;
-use channel_world_model::name::{HandleKind, Waiter};
+use channel_world_model::name::Waiter;
 use channel_world_model::run::Done;
 
 /// What a poll left.
@@ -26,30 +25,6 @@ fn poll_of<T>(name: Waiter) -> Call<T>
     match name {
         Waiter::Op(op) => Call::Poll { op },
         Waiter::Stream(receiver) => Call::PollNext { receiver },
-    }
-}
-
-impl<T: Drop> NameTable<T> {
-    ghost use Rattle.std.specs.Prelude.{◌≡◌};
-    ghost use Rattle.channel_world_runs.specs.OwnerOrder.{was_woken};
-    ghost use Rattle.channel_world_runs.specs.Owners.{status};
-
-    /// Whether something pending has this name, and was woken.
-    pub(crate) fn was_woken(&self, name: Waiter) -> bool
-        ensures { result ≡ was_woken (status self.now name) }
-    {
-        match name {
-            Waiter::Op(op) => match self.operations.get(op.0) {
-                Some(operation) => operation.poll_state.is_woken() && !operation.is_finished(),
-                None => false,
-            },
-            Waiter::Stream(receiver) => match self.handles.get(receiver.0) {
-                Some(entry) => {
-                    matches!(entry.handle.kind, HandleKind::Receiver) && entry.poll_state.is_woken()
-                }
-                None => false,
-            },
-        }
     }
 }
 
@@ -84,6 +59,7 @@ impl<T: Drop> WorldState<T> {
     {
         let poll = poll_of(name);
         let brings = self.name_table.brings(&poll);
+        self.order.rest(name);
         let begun = self.name_table.begin_named(poll);
         let Done {
             reply,

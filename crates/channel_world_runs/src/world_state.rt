@@ -25,7 +25,7 @@ pub struct WorldState<T> {
     pub calls: Vec<CallUnderWay<T>>,
     /// The names.
     pub name_table: NameTable<T>,
-    /// Those who may be woken, in the order of their waking.
+    /// Those who may be woken, and who was, in the order of waking.
     pub order: Order,
     /// How many messages the channel holds.
     pub messages: u64,
@@ -43,6 +43,7 @@ impl<T: Drop> WorldState<T> {
     ghost use Rattle.concurrent_queue.specs.Made.{CanBeMade};
     ghost use Rattle.channel_steps.specs.Run.{new_configuration};
     ghost use Rattle.channel_world_runs.specs.NameTable.{first_name_table};
+    ghost use Rattle.channel_world_runs.specs.Order.{no_places};
     ghost use Rattle.channel_world_runs.specs.Refusal.{step_refusal};
     ghost use Rattle.channel_world_runs.specs.WorldState.{name_state_of, agents_of, Shown, Stands, IsSame, LeadsByStep};
 
@@ -50,7 +51,7 @@ impl<T: Drop> WorldState<T> {
     pub fn open(alloc: Global, form: QueueForm) -> Result<WorldState<T>, AllocError>
         requires form { CanBeMade form }
         ensures shown { IfOk result (λ f. Shown f (new_configuration (capacity_of form))) }
-        ensures name_state { IfOk result (λ f. name_state_of f ≡ record { name_table = first_name_table; order = []; agents = [] }) }
+        ensures name_state { IfOk result (λ f. name_state_of f ≡ record { name_table = first_name_table; order = no_places; agents = [] }) }
         ensures stands { IfOk result (λ f. Stands f) }
     {
         Ok(WorldState {

@@ -108,6 +108,7 @@ impl Did {
 
     /// A handle of this kind was made from a weak one of an open channel.
     pub fn upgraded(side: Side) -> Did {
+        // Two moments: other calls may come between the question whether it is open and the raised count.
         Did::Twice(Point::Sees(Sight::Open), Point::Raise(side))
     }
 
@@ -118,6 +119,7 @@ impl Did {
 
     /// One was dropped.
     pub fn dropped(side: Side) -> Did {
+        // Two moments: other calls may come between the lowered count and the closing.
         Did::Twice(Point::Lower(side), Point::CloseIfLast(side))
     }
 
@@ -127,6 +129,7 @@ impl Did {
         match capacity {
             None => Did::Never,
             Some(1) => Did::Once(Point::Replace(oldest, message)),
+            // Three moments: other calls may come between them, a close too.
             Some(_) => Did::Thrice(
                 Point::Sees(Sight::Crowded),
                 Point::Displace(oldest),

@@ -1,5 +1,6 @@
 -- Entries of listeners beside the names that they show.
-use Rattle.channel_world_runs.proofs.refinement.Words.{AllZip, ShowsUntold, ShowsTold, AreUntold, AreTold, IsToldSo, false_from_ne_true, arith, ◌≡◌, ◌≤◌, ℕ, List, [], ◌∷◌, ◌++◌, length, take, drop, Bool, true, false, Option, None, Some, refl, sym, ap, subst, ◌∙◌, inl, inr, lookup, remove_entry, nat_tests, Notice, same_key, told_with, tasks_of, Key, same_waiter, is_among, without_waiter, times, Waiter, WaitList, same_refl, same_sound, decided, or_false, or_true, without_absent, among_self, or_right, among_counts, KeysHeld}
+use Rattle.channel_world_runs.proofs.refinement.Words.{AllZip, ShowsUntold, ShowsTold, AreUntold, AreToldInTurn, AreSame, AreTold, IsToldSo, false_from_ne_true, arith, ◌≡◌, ◌≤◌, ℕ, List, [], ◌∷◌, ◌++◌, length, take, drop, Bool, true, false, Option, None, Some, refl, sym, ap, subst, ◌∙◌, inl, inr, lookup, remove_entry, nat_tests, Notice, same_key, told_with, tasks_of, Key, same_waiter, is_among, without_waiter, times, Waiter, WaitList, same_refl, same_sound, decided, or_false, or_true, without_absent, among_self, or_right, among_counts, absent_counts, none_left, same_symm, count_append, KeysHeld}
+use Rattle.std.proofs.lemmas.Slice.Zip.{AllZip-long}
 
 pub same_key_refl : (key : Key) → same_key key key ≡ true
 same_key_refl key = grind (arith, nat_tests)
@@ -72,27 +73,90 @@ module _ (held : KeysHeld) where
 pub untold_kept : (held other : KeysHeld) (es : List (Key × Option Waiter)) (ws : List Waiter) → AreUntold held es ws → ((w : Waiter) → is_among w ws ≡ true → other w ≡ held w) → AreUntold other es ws
 untold_kept held other es ws h same = zip_other (ShowsUntold held) (ShowsUntold other) es ws h (λ e w i r. (same w i ∙ r.0, r.1))
 
+-- ---- the same names in any order
+
+pub turned : (vs ws : List Waiter) → AreSame vs ws → AreSame ws vs
+turned vs ws same w = sym (same w)
+
+pub among_same : (vs ws : List Waiter) (w : Waiter) → AreSame vs ws → is_among w vs ≡ true → is_among w ws ≡ true
+among_same vs ws w same e = elim (decided (is_among w ws)) [
+  | inl t ↦ t
+  | inr f ↦ absurd (omega (arith, same w, among_counts w vs e, absent_counts w ws f))
+]
+
+same_then : (vs ws us : List Waiter) → AreSame vs ws → AreSame (vs ++ us) (ws ++ us)
+same_then vs ws us same w = omega (arith, same w, count_append (same_waiter w) vs us, count_append (same_waiter w) ws us)
+
+pub times_other : (v w : Waiter) (xs : List Waiter) → same_waiter w v ≡ false → times v (without_waiter w xs) ≡ times v xs
+times_other v w [] off = refl
+times_other v w (x ∷ xs) off = elim (decided (same_waiter w x)) [
+  | inl t ↦
+      let apart : same_waiter v x ≡ false = subst (λ (y : Waiter). same_waiter v y ≡ false) (same_sound w x t) (same_symm v w ∙ off) in
+      rw (t, apart) (times_other v w xs off)
+  | inr t ↦ elim (decided (same_waiter v x)) [
+    | inl u ↦ let on = times_other v w xs off in rw (t, u) (omega (arith, on))
+    | inr u ↦ rw (t, u) (times_other v w xs off)
+  ]
+]
+
+same_without : (w : Waiter) (vs ws : List Waiter) → AreSame vs ws → AreSame (without_waiter w vs) (without_waiter w ws)
+same_without w vs ws same v = elim (decided (same_waiter w v)) [
+  | inl t ↦ none vs t ∙ sym (none ws t)
+  | inr t ↦ omega (arith, same v, times_other v w vs t, times_other v w ws t)
+] where
+  none : (xs : List Waiter) → same_waiter w v ≡ true → times v (without_waiter w xs) ≡ 0
+  none xs t = subst (λ (x : Waiter). times x (without_waiter w xs) ≡ 0) (same_sound w v t) (absent_counts w (without_waiter w xs) (none_left w xs))
+
+some_same_names : (vs ws : List Waiter) → AreSame vs ws → 1 ≤ length ws → 1 ≤ length vs
+some_same_names vs [] same n = absurd (omega (arith, n))
+some_same_names [] (w ∷ ws) same n =
+    let none : 0 ≡ times w (w ∷ ws) = same w in absurd (omega (arith, none, among_counts w (w ∷ ws) (among_self w ws)))
+some_same_names (v ∷ vs) (w ∷ ws) same n = omega arith
+
+no_same_names : (vs ws : List Waiter) → AreSame vs ws → length ws ≡ 0 → length vs ≡ 0
+no_same_names [] ws same n = refl
+no_same_names (v ∷ vs) [] same n =
+    let none : times v (v ∷ vs) ≡ 0 = same v in absurd (omega (arith, none, among_counts v (v ∷ vs) (among_self v vs)))
+no_same_names (v ∷ vs) (w ∷ ws) same n = absurd (omega (arith, n))
+
 -- ---- the told
 
 module _ (held : KeysHeld) (closed : Bool) (line : WaitList) where
   -- waiting ones that are told
   pub just_told : (additional : Bool) → (closed ≡ false → IsToldSo line additional) → (es : List (Key × Option Waiter)) (tags : List (Unit {0})) (ws : List Waiter)
-      → length tags ≡ length es → AreUntold held es ws → AreTold held closed line (told_with additional es tags) ws
+      → length tags ≡ length es → AreUntold held es ws → AreToldInTurn held closed line (told_with additional es tags) ws
   just_told additional so [] tags [] n h = tt
   just_told additional so (e ∷ es) [] (w ∷ ws) n h = absurd (omega (arith, n))
   just_told additional so (e ∷ es) (t ∷ ts) (w ∷ ws) n h = let m : length ts ≡ length es = omega (arith, n) in ((h.0.0, so), just_told additional so es ts ws m h.1)
   just_told additional so es tags ws n h = absurd h
 
   pub told_holds : (w : Waiter) (es : List (Key × Notice Unit)) (ws : List Waiter) → AreTold held closed line es ws → is_among w ws ≡ true → (key : Key) × (held w ≡ Some key)
-  told_holds w es ws h i = let at = zip_at (ShowsTold held closed line) w es ws h i in (at.0.0, at.1.0)
+  told_holds w es ws h i =
+      let at = zip_at (ShowsTold held closed line) w es h.0 h.1 (among_same ws h.0 w (turned h.0 ws h.2) i) in (at.0.0, at.1.0)
+
+  -- and others then
+  pub told_then : (es fs : List (Key × Notice Unit)) (ws us : List Waiter) → AreTold held closed line es ws → AreToldInTurn held closed line fs us
+      → AreTold held closed line (es ++ fs) (ws ++ us)
+  told_then es fs ws us h g = (h.0 ++ us, zip_append (ShowsTold held closed line) es fs h.0 us h.1 g, same_then h.0 ws us h.2)
+
+  pub some_told : (es : List (Key × Notice Unit)) (ws : List Waiter) → AreTold held closed line es ws → 1 ≤ length ws → 1 ≤ length es
+  some_told es ws h n = let long = AllZip-long (ShowsTold held closed line) es h.0 h.1 in omega (arith, long, some_same_names h.0 ws h.2 n)
+
+  pub none_told : (es : List (Key × Notice Unit)) (ws : List Waiter) → AreTold held closed line es ws → length ws ≡ 0 → length es ≡ 0
+  none_told es ws h n = let long = AllZip-long (ShowsTold held closed line) es h.0 h.1 in omega (arith, long, no_same_names h.0 ws h.2 n)
 
 pub told_kept : (held other : KeysHeld) (closed : Bool) (line : WaitList) (es : List (Key × Notice Unit)) (ws : List Waiter) → AreTold held closed line es ws
     → ((w : Waiter) → is_among w ws ≡ true → other w ≡ held w) → AreTold other closed line es ws
-told_kept held other closed line es ws h same = zip_other (ShowsTold held closed line) (ShowsTold other closed line) es ws h (λ e w i r. (same w i ∙ r.0, r.1))
+told_kept held other closed line es ws h same = (
+  h.0,
+  zip_other (ShowsTold held closed line) (ShowsTold other closed line) es h.0 h.1 (λ e w i r. (same w (among_same h.0 ws w h.2 i) ∙ r.0, r.1)),
+  h.2,
+)
 
 -- a channel that is closed asks nothing of how they were told
 pub told_closed : (held : KeysHeld) (closed : Bool) (line : WaitList) (es : List (Key × Notice Unit)) (ws : List Waiter) → AreTold held closed line es ws → AreTold held true line es ws
-told_closed held closed line es ws h = zip_other (ShowsTold held closed line) (ShowsTold held true line) es ws h (λ e w i r. (r.0, λ c. cc c))
+told_closed held closed line es ws h =
+    (h.0, zip_other (ShowsTold held closed line) (ShowsTold held true line) es h.0 h.1 (λ e w i r. (r.0, λ c. cc c)), h.2)
 
 -- ---- one who leaves
 
@@ -161,15 +225,23 @@ module _ (held : KeysHeld) (key : Key) (w : Waiter) (holds : held w ≡ Some key
 
   pub told_without : (closed : Bool) (line : WaitList) (es : List (Key × Notice Unit)) (ws : List Waiter) → OnlyHolder held key w ws → times w ws ≤ 1
       → AreTold held closed line es ws → AreTold held closed line (remove_entry (same_key key) es) (without_waiter w ws)
-  told_without closed line es ws only once h = zip_without (ShowsTold held closed line) (λ e v r. r.0) es ws only once h
+  told_without closed line es ws only once h = (
+    without_waiter w h.0,
+    zip_without (ShowsTold held closed line) (λ e v r. r.0) es h.0 (λ v e f. only v (among_same h.0 ws v h.2 e) f) (omega (arith, once, h.2 w)) h.1,
+    same_without w h.0 ws h.2,
+  )
 
   pub told_found : (closed : Bool) (line : WaitList) (es : List (Key × Notice Unit)) (ws : List Waiter) → OnlyHolder held key w ws → AreTold held closed line es ws → is_among w ws ≡ true
       → (n : Notice Unit) × (lookup (same_key key) es ≡ Some n) × (closed ≡ false → IsToldSo line n.additional)
-  told_found closed line es ws only h i = let f = zip_found (ShowsTold held closed line) (λ e v r. r.0) es ws only h i in (f.0.1, f.1, f.2.1)
+  told_found closed line es ws only h i =
+      let f = zip_found (ShowsTold held closed line) (λ e v r. r.0) es h.0 (λ v e f. only v (among_same h.0 ws v h.2 e) f) h.1
+      (among_same ws h.0 w (turned h.0 ws h.2) i) in (f.0.1, f.1, f.2.1)
 
   pub told_missed : (closed : Bool) (line : WaitList) (es : List (Key × Notice Unit)) (ws : List Waiter) → OnlyHolder held key w ws → AreTold held closed line es ws → is_among w ws ≡ false
       → lookup (same_key key) es ≡ None
-  told_missed closed line es ws only h i = zip_missed (ShowsTold held closed line) (λ e v r. r.0) es ws only h i
+  told_missed closed line es ws only h i =
+      zip_missed (ShowsTold held closed line) (λ e v r. r.0) es h.0 (λ v e f. only v (among_same h.0 ws v h.2 e) f) h.1
+      (false_from_ne_true (is_among w h.0) (λ t. cc (sym i ∙ among_same h.0 ws w h.2 t)))
 
   pub untold_found : (es : List (Key × Option Waiter)) (ws : List Waiter) → OnlyHolder held key w ws → AreUntold held es ws → is_among w ws ≡ true → lookup (same_key key) es ≡ Some (Some w)
   untold_found es ws only h i =

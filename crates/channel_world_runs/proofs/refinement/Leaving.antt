@@ -1,10 +1,9 @@
 -- One who leaves a list, and passes on the notice that it was told, leaves its line so.
-use Rattle.channel_world_runs.proofs.refinement.Words.{ShowsTold, AreUntold, AreTold, IsToldSo, ShowsLine, ShowsLines, KeysFit, list_of, of_line, false_from_ne_true, arith, ◌≡◌, ◌⊎◌, ◌≤◌, ◌-◌, ℕ, min, List, [], ◌∷◌, length, take, Bool, true, false, not, Option, None, Some, is_some, refl, sym, ap, subst, ◌∙◌, inl, inr, append-nil, if◌then◌else◌, list_any, Key, Listeners, WaitLists, listeners, with_listeners, Waiting, is_among, is_stream, untold, told_by, after_news, gone, passed_on, Kind, Placed, times, same_line, Waiter, News, Nothing, NextIn, WaitList, Sends, Receives, Streams, Closings, decided, or_false, without_absent, untold_gone, line_refl, placed_gone, empty_gone, KeysHeld, among_take}
-use Rattle.std.proofs.lemmas.Slice.Zip.{AllZip-long}
+use Rattle.channel_world_runs.proofs.refinement.Words.{AreUntold, AreTold, IsToldSo, ShowsLine, ShowsLines, KeysFit, list_of, of_line, false_from_ne_true, arith, ◌≡◌, ◌⊎◌, ◌≤◌, ◌-◌, ℕ, min, List, [], ◌∷◌, length, take, Bool, true, false, not, Option, None, Some, is_some, refl, sym, ap, subst, ◌∙◌, inl, inr, append-nil, if◌then◌else◌, list_any, Key, Listeners, WaitLists, listeners, with_listeners, Waiting, is_among, is_stream, untold, told_by, after_news, gone, passed_on, Kind, Placed, times, same_line, Waiter, News, Nothing, NextIn, WaitList, Sends, Receives, Streams, Closings, decided, or_false, without_absent, untold_gone, line_refl, placed_gone, empty_gone, KeysHeld, among_take}
 use Rattle.event_listener.specs.Lists.{Notice, notified, moved, passed, passed_wakes, told_as, waits_as, removed, removed_wakes, without as unlisted}
 use Rattle.channel_world_runs.proofs.refinement.Telling.{quiet_line, Lined, replaced, unmoved, first_tasks, next_line, next_other, others_woken}
 use Rattle.channel_world_runs.proofs.refinement.Names.{AllOf, among_of_line, among_its_line, not_of_line, of_line_without}
-use Rattle.channel_world_runs.proofs.refinement.Entries.{tasks_are, untold_first, none_untold, OnlyHolder, untold_without, told_without, told_found, told_missed, untold_found, untold_missed}
+use Rattle.channel_world_runs.proofs.refinement.Entries.{tasks_are, untold_first, none_untold, OnlyHolder, untold_without, some_told, none_told, told_without, told_found, told_missed, untold_found, untold_missed}
 use Rattle.channel_world_runs.proofs.refinement.Standing.{times_of_line, times_untold}
 
 -- streams, and they alone, belong to the line of streams
@@ -82,9 +81,6 @@ module _ (kind : Kind) (held : KeysHeld) (closed : Bool) where
   none_as_first line n y m e h =
       let none = none_waits line y m h e in nobody_moved n.additional (length y.told) y.waiting none ∙ sym (nobody_first y.waiting none)
 
-  as_many_told : (line : WaitList) (y : Listeners Waiter) (m : Waiting) → ShowsLine kind held closed line y m → length y.told ≡ length (of_line kind line m.woken)
-  as_many_told line y m h = sym (AllZip-long (ShowsTold held closed line) y.told (of_line kind line m.woken) h.told)
-
   no_stream : StreamsAreStreams kind → (ws : List Waiter) → list_any is_stream ws ≡ false → length (of_line kind Streams ws) ≡ 0
   no_stream streams [] e = refl
   no_stream streams (w ∷ ws) e =
@@ -114,13 +110,13 @@ module _ (kind : Kind) (held : KeysHeld) (closed : Bool) where
   passes streams Streams n y m so shut all h = elim (decided (list_any is_stream m.woken)) [
     | inl t ↦ rw t (none_moved Streams n y m (elim (open_or_shut closed) [
       | inl o ↦
-          let many : 1 ≤ length y.told = subst (λ (k : ℕ). 1 ≤ k) (sym (as_many_told Streams y m h)) (some_stream streams m.woken t) in
+          let many : 1 ≤ length y.told = some_told held closed Streams y.told (of_line kind Streams m.woken) h.told (some_stream streams m.woken t) in
           rw (so o) (omega (arith, many))
       | inr c ↦ nobody_moved n.additional (length y.told) y.waiting (none_waits Streams y m h (shut c))
     ]) h)
     | inr t ↦ rw t (one_moved Streams n y m (elim (open_or_shut closed) [
       | inl o ↦
-          let none : length y.told ≡ 0 = as_many_told Streams y m h ∙ no_stream streams m.woken t in
+          let none : length y.told ≡ 0 = none_told held closed Streams y.told (of_line kind Streams m.woken) h.told (no_stream streams m.woken t) in
           rw (so o, none) refl
       | inr c ↦ none_as_first Streams n y m (shut c) h
     ]) so all h)

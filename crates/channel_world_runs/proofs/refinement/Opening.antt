@@ -1,5 +1,5 @@
 -- A channel that was just opened shows the start.
-use Rattle.channel_world_runs.proofs.refinement.Words.{ℕ, Option, refl, Channel, new_channel, line_at, State, start, Waiter, Sends, nothing_held, OpeningIsOver, Refines, ShowsLines}
+use Rattle.channel_world_runs.proofs.refinement.Words.{ℕ, [], Option, refl, Channel, new_channel, line_at, State, start, Waiter, Sends, nothing_held, OpeningIsOver, Refines, ShowsLines}
 use Rattle.channel_world_model.proofs.Interface.{start_awake}
 
 module _ (T : Type 0) (capacity : Option ℕ) where
@@ -10,8 +10,8 @@ module _ (T : Type 0) (capacity : Option ℕ) where
   s = start capacity
 
   lines : ShowsLines (line_at s.names) nothing_held s.channel.closed channel.wait_lists s.waiting
-  lines Sends = record { untold = tt; told = tt }
-  lines x = record { untold = tt; told = tt }
+  lines Sends = record { untold = tt; told = ([], tt, λ w. refl) }
+  lines x = record { untold = tt; told = ([], tt, λ w. refl) }
 
   pub starts : Refines nothing_held channel s
   starts = record {

@@ -1,7 +1,7 @@
 -- Who stands in the lines once one is gone, and what that is to the keys.
-use Rattle.channel_world_runs.proofs.refinement.Words.{false_from_ne_true, arith, ◌≡◌, ◌≤◌, ℕ, List, [], ◌∷◌, length, Bool, true, false, cond, Option, None, Some, IsSome, refl, sym, ap, subst, ◌∙◌, inl, inr, filter, Key, WaitLists, listeners, Waiting, same_waiter, is_among, without_waiter, untold, gone, Kind, times, times_in, Placed, is_line, Waiter, WaitList, Sends, Receives, Streams, Closings, same_sound, same_symm, decided, without_absent, none_left, untold_gone, among_self, or_right, absent_counts, KeysHeld, with_held, AreTold, ShowsLines, KeysFit, list_of, of_line}
+use Rattle.channel_world_runs.proofs.refinement.Words.{false_from_ne_true, arith, ◌≡◌, ◌≤◌, ℕ, List, [], ◌∷◌, length, Bool, true, false, cond, Option, None, Some, IsSome, refl, sym, ap, subst, ◌∙◌, inl, inr, filter, Key, WaitLists, listeners, Waiting, same_waiter, is_among, untold, gone, Kind, times, times_in, Placed, is_line, Waiter, WaitList, Sends, Receives, Streams, Closings, same_sound, decided, without_absent, none_left, untold_gone, among_self, or_right, absent_counts, KeysHeld, with_held, AreTold, ShowsLines, KeysFit, list_of, of_line}
 use Rattle.channel_world_runs.proofs.refinement.Names.{among_of_line, among_its_line}
-use Rattle.channel_world_runs.proofs.refinement.Entries.{untold_kept, told_kept, untold_holds, told_holds}
+use Rattle.channel_world_runs.proofs.refinement.Entries.{times_other, untold_kept, told_kept, untold_holds, told_holds}
 
 -- ---- nowhere
 
@@ -77,18 +77,6 @@ pub away_holds_none : (kind : Kind) (held : KeysHeld) (line : WaitList) (w : Wai
 away_holds_none kind held line w l key k placed keys e u t = omega (arith, keys.holds w key e, nowhere_times w l (away_from kind line w l k placed u t))
 
 -- ---- how often the others stand
-
-pub times_other : (v w : Waiter) (xs : List Waiter) → same_waiter w v ≡ false → times v (without_waiter w xs) ≡ times v xs
-times_other v w [] off = refl
-times_other v w (x ∷ xs) off = elim (decided (same_waiter w x)) [
-  | inl t ↦
-      let apart : same_waiter v x ≡ false = subst (λ (y : Waiter). same_waiter v y ≡ false) (same_sound w x t) (same_symm v w ∙ off) in
-      rw (t, apart) (times_other v w xs off)
-  | inr t ↦ elim (decided (same_waiter v x)) [
-    | inl u ↦ let on = times_other v w xs off in rw (t, u) (omega (arith, on))
-    | inr u ↦ rw (t, u) (times_other v w xs off)
-  ]
-]
 
 pub times_gone_other : (v w : Waiter) (l : Waiting) → same_waiter w v ≡ false → times_in v (gone w l) ≡ times_in v l
 times_gone_other v w l off =

@@ -1,7 +1,7 @@
 -- Telling: the lists of a channel go on to show the lines of a state.
-use Rattle.channel_world_runs.proofs.refinement.Words.{ShowsTold, AreUntold, AreTold, IsToldSo, ShowsLine, ShowsLines, list_of, of_line, arith, ◌≡◌, ℕ, min, List, [], ◌∷◌, ◌++◌, length, take, drop, map, Bool, true, false, Option, Some, refl, sym, ap, subst, ◌∙◌, inl, inr, append_assoc, append-nil, Notice, told_with, tasks_of, notified, Key, Listeners, WaitLists, listeners, with_listeners, told_one, told_one_wakes, told_all, told_all_wakes, Waiting, is_among, untold, after_news, all_told, Kind, same_line, Waiter, Nothing, Message, Closing, NextIn, WaitList, Sends, Receives, Streams, Closings, decided, among_take, among_drop, line_sound, KeysHeld}
+use Rattle.channel_world_runs.proofs.refinement.Words.{AreUntold, AreToldInTurn, AreTold, IsToldSo, ShowsLine, ShowsLines, list_of, of_line, arith, ◌≡◌, ℕ, min, List, [], ◌∷◌, ◌++◌, length, take, drop, map, Bool, true, false, Option, Some, refl, sym, ap, subst, ◌∙◌, inl, inr, append_assoc, append-nil, Notice, told_with, tasks_of, notified, Key, Listeners, WaitLists, listeners, with_listeners, told_one, told_one_wakes, told_all, told_all_wakes, Waiting, is_among, untold, after_news, all_told, Kind, same_line, Waiter, Nothing, Message, Closing, NextIn, WaitList, Sends, Receives, Streams, Closings, decided, among_take, among_drop, line_sound, KeysHeld}
 use Rattle.channel_world_runs.proofs.refinement.Names.{AllOf, of_line_append, of_own_line, of_other_line}
-use Rattle.channel_world_runs.proofs.refinement.Entries.{tasks_are, untold_rest, untold_first, zip_append, just_told}
+use Rattle.channel_world_runs.proofs.refinement.Entries.{tasks_are, untold_rest, untold_first, told_then, just_told}
 
 -- ---- whom news leave
 
@@ -104,7 +104,7 @@ module _ (kind : Kind) (held : KeysHeld) (closed : Bool) where
   first_tasks n (x ∷ es) e = let one : n ≡ 1 = omega (arith, e) in rw one refl
 
   first_are_told : (line : WaitList) (a : Bool) (tag : Unit {0}) → (closed ≡ false → IsToldSo line a) → (es : List (Key × Option Waiter)) (ws : List Waiter) → AreUntold held es ws
-      → AreTold held closed line (told_with a (take 1 es) (tag ∷ [])) (take 1 ws)
+      → AreToldInTurn held closed line (told_with a (take 1 es) (tag ∷ [])) (take 1 ws)
   first_are_told line a tag so [] [] h = tt
   first_are_told line a tag so (e ∷ es) (w ∷ ws) h = ((h.0.0, so), tt)
   first_are_told line a tag so es ws h = absurd h
@@ -114,7 +114,7 @@ module _ (kind : Kind) (held : KeysHeld) (closed : Bool) where
       → ShowsLine kind held closed line x l → ShowsLine kind held closed line (notified a (take n (tag ∷ [])) x) (after_news (NextIn line) l)
   next_line line a tag n x l e so all h =
       let here = first_are_told line a tag so x.waiting (untold line l) h.untold in
-      let told = zip_append (ShowsTold held closed line) x.told (told_with a (take 1 x.waiting) (tag ∷ [])) (of_line kind line l.woken) (take 1 (untold line l)) h.told here in
+      let told = told_then held closed line x.told (told_with a (take 1 x.waiting) (tag ∷ [])) (of_line kind line l.woken) (take 1 (untold line l)) h.told here in
       record {
         untold =
             subst (λ (ws : List Waiter). AreUntold held (drop (length (take n (tag ∷ []))) x.waiting) ws) (sym (next_own line l))
@@ -150,7 +150,7 @@ module _ (kind : Kind) (held : KeysHeld) (closed : Bool) where
   all_line line x l so all h =
       let tags : List (Unit {0}) = map (λ (w : Key × Option Waiter). let t : Unit {0} = tt in t) x.waiting in
       let here = just_told held closed line false so x.waiting tags (untold line l) (as_many x.waiting) h.untold in
-      let told = zip_append (ShowsTold held closed line) x.told (told_with false x.waiting tags) (of_line kind line l.woken) (untold line l) h.told here in
+      let told = told_then held closed line x.told (told_with false x.waiting tags) (of_line kind line l.woken) (untold line l) h.told here in
       record {
         untold = subst (λ (ws : List Waiter). AreUntold held [] ws) (sym (all_own line l)) tt;
         told = subst (λ (ws : List Waiter). AreTold held closed line (told_all x).told ws) (sym (own_woken line l.woken (untold line l) all)) told;

@@ -51,4 +51,4 @@ pub use Rattle.channel_world_model.specs.declared.space.Space.TheVariants.{Open,
 pub use Rattle.channel_world_runs.specs.refinement.Asked.{asked_in, keeper}
 pub use Rattle.channel_world_runs.specs.refinement.Opening.{OpeningIsOver, nothing_held}
 pub use Rattle.channel_world_runs.specs.refinement.Over.{Matches, CallsAreOver, refused_names, made_names, polled_names, names_after, given_up_names}
-pub use Rattle.channel_world_runs.specs.refinement.Refines.{Refines, list_of, with_held, ShowsLines, KeysFit, ShowsUntold, ShowsTold, AreUntold, AreTold, IsToldSo, ShowsLine, of_line}
+pub use Rattle.channel_world_runs.specs.refinement.Refines.{Refines, list_of, with_held, ShowsLines, KeysFit, ShowsUntold, ShowsTold, AreUntold, AreToldInTurn, AreSame, AreTold, IsToldSo, ShowsLine, of_line}

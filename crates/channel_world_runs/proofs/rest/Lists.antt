@@ -1,5 +1,5 @@
 -- The names of those who listen on one list, in its order.
-use Rattle.channel_world_runs.proofs.rest.Words.{AllZip, zip_append, ◌≡◌, ◌≤◌, Bool, true, false, List, [], ◌∷◌, ◌++◌, length, Option, Some, ◌⊎◌, inl, inr, refl, sym, ap, ◌∙◌, subst, arith, keys_of, Notice, Key, WaitList, Sends, MayBeTold, EachTold, IsIn, absent_counts, same_refl, same_sound, decided, or_true, KeysHeld, Kind, times, same_waiter, is_among, Waiter, IsAmong, NoneTwice, key_of_entry, AreUntold, IsToldSo, AreTold}
+use Rattle.channel_world_runs.proofs.rest.Words.{AllZip, zip_append, ◌≡◌, ◌≤◌, Bool, true, false, List, [], ◌∷◌, ◌++◌, length, Option, Some, ◌⊎◌, inl, inr, refl, sym, ap, ◌∙◌, subst, arith, keys_of, Notice, Key, WaitList, Sends, MayBeTold, EachTold, IsIn, absent_counts, same_refl, same_sound, decided, or_true, KeysHeld, Kind, times, same_waiter, is_among, Waiter, IsAmong, NoneTwice, key_of_entry, AreUntold, IsToldSo, AreToldInTurn}
 use Rattle.std.proofs.lemmas.Slice.Zip.{AllZip-long}
 
 -- ---- keys
@@ -125,7 +125,7 @@ module _ (Has : Key → Waiter → Type 0) where
     told_so line additional h = h
 
     pub are_told : (closed : Bool) (line : WaitList) (es : List (Key × Notice Unit)) (ws : List Waiter)
-        → (closed ≡ false → EachTold (MayBeTold line) es) → Stand (keys_of es) ws → AreTold held closed line es ws
+        → (closed ≡ false → EachTold (MayBeTold line) es) → Stand (keys_of es) ws → AreToldInTurn held closed line es ws
     are_told closed line [] [] so h = tt
     are_told closed line (e ∷ es) (w ∷ ws) so h = (
       (holds e.0 w h.0, λ opened. let all = so opened in told_so line e.1.additional all.0),

@@ -1,5 +1,5 @@
 -- A call that is made alone on a channel at rest answers as the model may, and leaves the model's state.
-use Rattle.channel_world_runs.proofs.rest.Words.{tasks_are, told_holds, arith, ℕ, ◌≡◌, ◌≤◌, ◌+◌, List, [], ◌∷◌, ◌++◌, Bool, true, false, Option, None, Some, IsSome, is_some, inl, inr, refl, sym, ap, subst, ◌∙◌, filter-append, option_map_or, Key, Channel, Reply, ListenerRef, WaitList, Sends, Receives, Streams, Closings, Outcome, Alone, left_among, or_right, Answer, AwakeIn, times, times_in, line_at, Waiting, same_waiter, is_among, without_waiter, Names, State, Call, Waiter, Op, Stream, HandleId, Admitted, admitted, at, HandleEntry, keeper, Matches, held_after, with_held, Configuration, asks, WorldInvariant, names_alone, order_alone, name_state_alone, woken_in, IsAmong, invalid, waits, status, under_way_in, begin_refusal, names_of, held_of, NameState, but_for, NonePolled, RefusalsAgree, LoneCallsAnswer, PollsAnswer, state_at, IsWorld}
+use Rattle.channel_world_runs.proofs.rest.Words.{tasks_are, told_holds, arith, ℕ, ◌≡◌, ◌≤◌, ◌+◌, List, [], ◌∷◌, ◌++◌, true, false, Option, None, Some, IsSome, is_some, inl, inr, refl, sym, ap, subst, ◌∙◌, filter-append, option_map_or, Key, Channel, Reply, ListenerRef, WaitList, Sends, Receives, Streams, Closings, Outcome, Alone, left_among, or_right, Answer, AwakeIn, times, times_in, line_at, Waiting, same_waiter, is_among, without_waiter, Names, State, Call, Waiter, Op, Stream, HandleId, Admitted, admitted, at, HandleEntry, keeper, Matches, held_after, with_held, Configuration, asks, WorldInvariant, names_alone, order_alone, name_state_alone, IsAmong, invalid, waits, status, under_way_in, begin_refusal, names_of, held_of, NameState, but_for, NonePolled, RefusalsAgree, LoneCallsAnswer, PollsAnswer, state_at, IsWorld}
 use Rattle.channel_world_runs.proofs.refinement.Names.{among_its_line}
 use Rattle.channel_world_model.proofs.Interface.{awake_after}
 use Rattle.channel_world_model.specs.Refused.{Answers}
@@ -27,7 +27,7 @@ stood_once w l h =
     let once : times w l.sends + times w l.receives + times w l.streams + times w l.closings + times w l.woken ≤ 1 = h in
     omega (arith, once)
 
-behind : (v : Waiter) (xs ys : List Waiter) → is_among v ys ≡ true → is_among v (xs ++ ys) ≡ true
+pub behind : (v : Waiter) (xs ys : List Waiter) → is_among v ys ≡ true → is_among v (xs ++ ys) ≡ true
 behind v [] ys h = h
 behind v (x ∷ xs) ys h = or_right (same_waiter v x) (is_among v (xs ++ ys)) (behind v xs ys h)
 
@@ -101,7 +101,7 @@ module _ {T : Type 0} where
     told_are : answer.after.waiting.woken ≡ but_for own (before.waiting.woken ++ o.woken)
     told_are = matches.told ∙ sym (left_of own (before.waiting.woken ++ o.woken))
 
-    once : (v : Waiter) → times v (but_for own (woken_in b.name_table b.order ++ o.woken)) ≤ 1
+    once : (v : Waiter) → times v (but_for own (b.order.woken ++ o.woken)) ≤ 1
     once v = subst (λ (xs : List Waiter). times v xs ≤ 1) told_are (stood_once v answer.after.waiting (awake.placed.once v))
 
     -- whoever was woken held a listener before, but for the call's own
@@ -121,25 +121,22 @@ module _ {T : Type 0} where
             (matches.shows.lines line).told (among_its_line (line_at answer.after.names) line v answer.after.waiting.woken k ∙ among) in
             ap (λ (x : Option Key). is_some x) key.1
 
-    named : (v : Waiter) → is_among v (but_for own o.woken) ≡ true → (h : ListenerRef) × (w : Bool) × (status b.name_table v ≡ waits h w)
+    named : (v : Waiter) → is_among v (but_for own o.woken) ≡ true → (h : ListenerRef) × (status b.name_table v ≡ waits h)
     named v e = by (held_of b.name_table v) refl (holds v e)
       where
         owned : (w : Waiter) → status b.name_table w ≡ invalid → ⊥
         owned = let x = kept.owned in x.none_amiss
 
-        pending : (key : Key) → Pends (status b.name_table v) key → (h : ListenerRef) × (w : Bool) × (status b.name_table v ≡ waits h w)
+        pending : (key : Key) → Pends (status b.name_table v) key → (h : ListenerRef) × (status b.name_table v ≡ waits h)
         pending key (inl bad) = absurd (owned v bad)
-        pending key (inr p) = (on p.0 key, p.1, p.2)
+        pending key (inr p) = (on p.0 key, p.1)
 
-        by : (k : Option Key) → held_of b.name_table v ≡ k → is_some k ≡ true → (h : ListenerRef) × (w : Bool) × (status b.name_table v ≡ waits h w)
+        by : (k : Option Key) → held_of b.name_table v ≡ k → is_some k ≡ true → (h : ListenerRef) × (status b.name_table v ≡ waits h)
         by None f g = absurd (let no : false ≡ true = g in cc)
         by (Some key) f g = pending key (pends b.name_table v key f)
 
-    woken_same : woken_in (names_alone b.name_table c o.reply o.kept o.woken) (order_alone b.name_table c o.kept o.woken b.order)
-        ≡ answer.after.waiting.woken
-    woken_same =
-        woken_follows b.name_table c before o b.order refl refl ok
-        (λ w h x e. let i = kept.order in i.placed w (inl (h, x, e))) named once ∙ sym matches.told
+    woken_same : (order_alone b.name_table c o.kept o.woken b.order).woken ≡ answer.after.waiting.woken
+    woken_same = woken_follows b s kept c ok o named once ∙ sym told_are
 
     waiting_same : (state_at (name_state_alone b c o) t).waiting ≡ answer.after.waiting
     waiting_same =
@@ -159,7 +156,7 @@ module _ {T : Type 0} where
           receivers = matches.shows.receivers i;
         })
 
-    names_same : names_of (names_alone b.name_table c o.reply o.kept o.woken) ≡ answer.after.names
+    names_same : names_of (names_alone b.name_table c o.reply o.kept) ≡ answer.after.names
     names_same = names_follow b.name_table before refl s.now o c alone ∙ sym matches.names
 
     after : State T
@@ -197,7 +194,7 @@ they_answer T b s t c o kept none rest fine alone now =
 module _ {T : Type 0} (b : NameState T) (s t : Configuration T Waiter) (o : Outcome T Waiter) (kept : WorldInvariant b s) (none : b.agents ≡ [])
     (rest : s.under_way ≡ []) (now : t.now ≡ o.channel) where
   -- a stream that is pending is polled, and answers as the model may
-  stream_polls_answer : (receiver : HandleId) → is_among (Stream receiver) (woken_in b.name_table b.order) ≡ true
+  stream_polls_answer : (receiver : HandleId) → is_among (Stream receiver) b.order.woken ≡ true
       → Alone (asks b.name_table (call.PollNext receiver)) s.now o
       → Answers (state_at b s) (call.PollNext receiver)
       (record { after = state_at (name_state_alone b (call.PollNext receiver) o) t; reply = o.reply; woken = o.woken })
@@ -208,13 +205,13 @@ module _ {T : Type 0} (b : NameState T) (s t : Configuration T Waiter) (o : Outc
       poll_next (held_of b.name_table) s.now (state_at b s) world.shows world.awake receiver o
       (subst (λ a. Alone a s.now o) (asks_same b.name_table (none_polled b s kept none) c) alone) in
       let awake : AwakeIn matches.answer.after = poll_awake (state_at b s) (Stream receiver) matches.answer world.awake matches.allowed in
-      lone_answers b s t c o kept (woken_admitted b.name_table b.order (Stream receiver) e) alone now matches awake
+      lone_answers b s t c o kept (woken_admitted b s (Stream receiver) kept.owned kept.woken e) alone now matches awake
 
-  polls_answer : (w : Waiter) → is_among w (woken_in b.name_table b.order) ≡ true → Alone (asks b.name_table (poll_of w)) s.now o
+  polls_answer : (w : Waiter) → is_among w b.order.woken ≡ true → Alone (asks b.name_table (poll_of w)) s.now o
       → Answers (state_at b s) (poll_of w) (record { after = state_at (name_state_alone b (poll_of w) o) t; reply = o.reply; woken = o.woken })
   polls_answer (Stream receiver) e alone = stream_polls_answer receiver e alone
   polls_answer (Op op) e alone =
-      they_answer T b s t (call.Poll op) o kept none rest (poll_accepted b.name_table op (woken_admitted b.name_table b.order (Op op) e)) alone now
+      they_answer T b s t (call.Poll op) o kept none rest (poll_accepted b.name_table op (woken_admitted b s (Op op) kept.owned kept.woken e)) alone now
 
 pub they_poll : (T : Type 0) → PollsAnswer T
 they_poll T b s t w o kept none rest e alone now = polls_answer b s t o kept none rest now w e alone

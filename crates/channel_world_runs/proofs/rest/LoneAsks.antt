@@ -19,7 +19,7 @@ nobody u unpolled unused = λ i. record { polled = λ w. unpolled w i; used = λ
 polled_stream : (k : HandleKind) (s : PollState) → is_polled s ≡ true
     → ((line : WaitList) × (stream_status k s ≡ polled line)) ⊎ (stream_status k s ≡ invalid)
 polled_stream k Rests e = absurd (let no : false ≡ true = e in cc)
-polled_stream k (Waits key w) e = absurd (let no : false ≡ true = e in cc)
+polled_stream k (Waits key) e = absurd (let no : false ≡ true = e in cc)
 polled_stream handle_kind.Receiver (IsPolled b) e = inl (Streams, refl)
 polled_stream k s e = inr refl
 
@@ -33,7 +33,7 @@ module _ {T : Type 0} where
 
   finished_as : (x : Operation T) (s : PollState) → is_polled s ≡ false → has_finished x s ≡ model.is_finished (Some x)
   finished_as (live.Send h None) Rests e = refl
-  finished_as (live.Send h None) (Waits key w) e = refl
+  finished_as (live.Send h None) (Waits key) e = refl
   finished_as (live.Send h None) (IsPolled b) e = absurd (let no : true ≡ false = e in cc)
   finished_as (live.Send h (Some m)) s e = refl
   finished_as x s e = refl

@@ -1,5 +1,5 @@
 -- A call that was made alone leaves the names that the model leaves.
-use Rattle.channel_world_runs.proofs.rest.Words.{◌≡◌, ℕ, nat_eq, true, false, List, Option, None, Some, refl, sym, ap, ◌∙◌, nat_eq_equiv, option_map, Channel, Reply, Returned, Outcome, Alone, at_seen, nothing_to_end, weak_of, strong_of, poll_asked, Directory, Names, at, with_spent, with_new, with_changed, State, Call, Handle, HandleId, HandleKind, OpId, Waiter, polled_names, refused_names, given_up_names, made_names, kind_at, names_after, asks, unpolled, leave_handle_of, new_from, lent_by, handed_over_by, operation_named, handle_named, lent_to_poll, installed, written_back, with_operation, all_woken, names_of, held_of, unused, with_lent, with_borrowed, with_handed_over, with_poll_state, with_given_back, poll_state_with, OnReturn, OperationEntry, IsPolled, NameTable, names_alone, Operation, borrowed_by, with_message, Op}
+use Rattle.channel_world_runs.proofs.rest.Words.{◌≡◌, ℕ, nat_eq, true, false, Option, None, Some, refl, sym, ap, ◌∙◌, nat_eq_equiv, option_map, Channel, Reply, Returned, Outcome, Alone, at_seen, nothing_to_end, weak_of, strong_of, poll_asked, Directory, Names, at, with_spent, with_new, with_changed, State, Call, Handle, HandleId, HandleKind, OpId, Waiter, polled_names, refused_names, given_up_names, made_names, kind_at, names_after, asks, unpolled, leave_handle_of, new_from, lent_by, handed_over_by, operation_named, handle_named, lent_to_poll, installed, written_back, with_operation, names_of, held_of, unused, with_lent, with_borrowed, with_handed_over, with_poll_state, with_given_back, poll_state_with, OnReturn, OperationEntry, IsPolled, NameTable, names_alone, Operation, borrowed_by, with_message, Op}
 use Rattle.channel_calls.specs.declared.reply.Reply.TheVariants as reply
 use Rattle.channel_world_model.specs.Names as model
 use Rattle.channel_world_model.specs.declared.call.Call.TheVariants as call
@@ -7,7 +7,7 @@ use Rattle.channel_world_runs.specs.declared.names.OnReturn.TheVariants as on_re
 use Rattle.channel_world_model.specs.Plan.{plan_of}
 use Rattle.channel_world_runs.proofs.RefusalLemmas.{handle_through}
 use Rattle.channel_world_runs.proofs.rest.LoneDirectory.{views_set, changed_some, changed_none, changed_twice, same_put_back}
-use Rattle.channel_world_runs.proofs.rest.LoneSeen.{handle_of, operation_in, put_twice, left_names, with_operations, seen_lent, seen_back, seen_poll_state, seen_borrowed, seen_handed_over, seen_to_poll, seen_restored, all_seen}
+use Rattle.channel_world_runs.proofs.rest.LoneSeen.{handle_of, operation_in, put_twice, left_names, with_operations, seen_lent, seen_back, seen_poll_state, seen_borrowed, seen_handed_over, seen_to_poll, seen_restored}
 use Rattle.channel_world_model.specs.declared.name.Operation.TheVariants as live
 
 own : (n : ℕ) → nat_eq n n ≡ true
@@ -57,11 +57,9 @@ module _ {T : Type 0} where
   seen_settled (on_return.New from new k) x kept r =
       seen_installed new k x (with_given_back from r) ∙ ap (installed_names new k x) (seen_back r from)
 
-  -- and it is so whoever was woken
-  ends_so : (e : OnReturn T) (x : Reply T) (kept : Returned T) (ws : List Waiter) (r : NameTable T) (n : Names T) → names_of r ≡ n
-      → names_of (written_back e x kept (all_woken ws r)) ≡ settled_names e x kept n
-  ends_so e x kept ws r n same =
-      seen_settled e x kept (all_woken ws r) ∙ ap (settled_names e x kept) (all_seen ws r ∙ same)
+  ends_so : (e : OnReturn T) (x : Reply T) (kept : Returned T) (r : NameTable T) (n : Names T) → names_of r ≡ n
+      → names_of (written_back e x kept r) ≡ settled_names e x kept n
+  ends_so e x kept r n same = seen_settled e x kept r ∙ ap (settled_names e x kept) same
 
   module _ (r : NameTable T) where
     abbrev handles : Directory Handle
@@ -82,11 +80,11 @@ module _ {T : Type 0} where
     -- ---- polls
 
     -- an operation has what its poll left to it
-    polls : (op : OpId) (x : Reply T) (kept : Returned T) (ws : List Waiter)
-        → names_of (written_back (on_return.Poll op) x kept (all_woken ws (with_operation lent_to_poll op r)))
+    polls : (op : OpId) (x : Reply T) (kept : Returned T)
+        → names_of (written_back (on_return.Poll op) x kept (with_operation lent_to_poll op r))
         ≡ left_names kept.message op (names_of r)
-    polls op x kept ws =
-        ends_so (on_return.Poll op) x kept ws (with_operation lent_to_poll op r) (left_names None op (names_of r))
+    polls op x kept =
+        ends_so (on_return.Poll op) x kept (with_operation lent_to_poll op r) (left_names None op (names_of r))
         (seen_to_poll r op)
         ∙ ap (λ (d : Directory (Operation T)). with_operations d (names_of r))
         (changed_twice (with_message None) (with_message kept.message) (with_message kept.message)
@@ -134,60 +132,60 @@ module _ {T : Type 0} where
     gone op =
         ap (λ (d : Directory (Operation T)). with_operations d (names_of r)) (views_set operation_in op.0 r.operations None)
 
-    gives_up : (op : OpId) (y : Option (OperationEntry T)) (x : Reply T) (kept : Returned T) (ws : List Waiter) → at op.0 r.operations ≡ y
-        → names_of (written_back (leave_handle_of y) x kept (all_woken ws (handed_over_by y (without op))))
+    gives_up : (op : OpId) (y : Option (OperationEntry T)) (x : Reply T) (kept : Returned T) → at op.0 r.operations ≡ y
+        → names_of (written_back (leave_handle_of y) x kept (handed_over_by y (without op)))
         ≡ given_up_names op (option_map operation_in y) (names_of r)
-    gives_up op None x kept ws e =
-        ends_so on_return.Nothing x kept ws (without op) (names_of r)
+    gives_up op None x kept e =
+        ends_so on_return.Nothing x kept (without op) (names_of r)
         (gone op ∙ ap (λ (d : Directory (Operation T)). with_operations d (names_of r))
         (nothing_to_end op.0 operations (at_seen operation_in op.0 r.operations ∙ ap (option_map operation_in) e)))
-    gives_up op (Some y) x kept ws e =
+    gives_up op (Some y) x kept e =
         let handle = borrowed_by y.operation in
-        ends_so (on_return.Leave handle) x kept ws (with_handed_over handle (without op)) _
+        ends_so (on_return.Leave handle) x kept (with_handed_over handle (without op)) _
         (seen_handed_over (without op) handle
         ∙ ap (λ (n : Names T). model.with_handles (model.used_once_less handle n.handles) n) (gone op))
 
-    drops : (handle : HandleId) (x : Reply T) (kept : Returned T) (ws : List Waiter)
-        → names_of (written_back on_return.Nothing x kept (all_woken ws (record r { handles = model.without_name handle.0 r.handles })))
+    drops : (handle : HandleId) (x : Reply T) (kept : Returned T)
+        → names_of (written_back on_return.Nothing x kept (record r { handles = model.without_name handle.0 r.handles }))
         ≡ model.with_handles (model.without_name handle.0 handles) (names_of r)
-    drops handle x kept ws =
-        ends_so on_return.Nothing x kept ws (record r { handles = model.without_name handle.0 r.handles }) _
+    drops handle x kept =
+        ends_so on_return.Nothing x kept (record r { handles = model.without_name handle.0 r.handles }) _
         (ap (λ (d : Directory Handle). model.with_handles d (names_of r)) (views_set handle_of handle.0 r.handles None))
 
   -- ---- calls through handles
 
   module _ (r : NameTable T) where
-    through : (handle : HandleId) (x : Reply T) (kept : Returned T) (ws : List Waiter)
-        → names_of (written_back (on_return.Leave handle) x kept (all_woken ws (with_lent handle r))) ≡ names_of r
-    through handle x kept ws = ends_so (on_return.Leave handle) x kept ws (with_lent handle r) (names_of r) (seen_lent r handle)
+    through : (handle : HandleId) (x : Reply T) (kept : Returned T)
+        → names_of (written_back (on_return.Leave handle) x kept (with_lent handle r)) ≡ names_of r
+    through handle x kept = ends_so (on_return.Leave handle) x kept (with_lent handle r) (names_of r) (seen_lent r handle)
 
-    through_both : (a b : HandleId) (x : Reply T) (kept : Returned T) (ws : List Waiter)
-        → names_of (written_back (on_return.LeaveBoth a b) x kept (all_woken ws (with_lent b (with_lent a r)))) ≡ names_of r
-    through_both a b x kept ws =
-        ends_so (on_return.LeaveBoth a b) x kept ws (with_lent b (with_lent a r)) (names_of r)
+    through_both : (a b : HandleId) (x : Reply T) (kept : Returned T)
+        → names_of (written_back (on_return.LeaveBoth a b) x kept (with_lent b (with_lent a r))) ≡ names_of r
+    through_both a b x kept =
+        ends_so (on_return.LeaveBoth a b) x kept (with_lent b (with_lent a r)) (names_of r)
         (seen_lent (with_lent a r) b ∙ seen_lent r a)
 
-    streamed : (receiver : HandleId) (x : Reply T) (kept : Returned T) (ws : List Waiter)
+    streamed : (receiver : HandleId) (x : Reply T) (kept : Returned T)
         → names_of (written_back (on_return.PollNext receiver) x kept
-        (all_woken ws (with_lent receiver (with_poll_state (IsPolled false) receiver r)))) ≡ names_of r
-    streamed receiver x kept ws =
-        ends_so (on_return.PollNext receiver) x kept ws (with_lent receiver (with_poll_state (IsPolled false) receiver r)) (names_of r)
+        (with_lent receiver (with_poll_state (IsPolled false) receiver r))) ≡ names_of r
+    streamed receiver x kept =
+        ends_so (on_return.PollNext receiver) x kept (with_lent receiver (with_poll_state (IsPolled false) receiver r)) (names_of r)
         (seen_lent (with_poll_state (IsPolled false) receiver r) receiver ∙ seen_poll_state r (IsPolled false) receiver)
 
     -- a call through the handle of an operation
-    through_of : (o : Option (OperationEntry T)) (x : Reply T) (kept : Returned T) (ws : List Waiter)
-        → names_of (written_back (leave_handle_of o) x kept (all_woken ws (lent_by o r))) ≡ names_of r
-    through_of None x kept ws = ends_so on_return.Nothing x kept ws r (names_of r) refl
-    through_of (Some o) x kept ws = through (borrowed_by o.operation) x kept ws
+    through_of : (o : Option (OperationEntry T)) (x : Reply T) (kept : Returned T)
+        → names_of (written_back (leave_handle_of o) x kept (lent_by o r)) ≡ names_of r
+    through_of None x kept = ends_so on_return.Nothing x kept r (names_of r) refl
+    through_of (Some o) x kept = through (borrowed_by o.operation) x kept
 
     -- ---- new operations
 
-    made : (op : OpId) (operation : Operation T) (x : Reply T) (kept : Returned T) (ws : List Waiter)
-        → names_of (written_back (on_return.Make op (unpolled operation)) x kept (all_woken ws (with_borrowed (borrowed_by operation) (operation_named op r))))
+    made : (op : OpId) (operation : Operation T) (x : Reply T) (kept : Returned T)
+        → names_of (written_back (on_return.Make op (unpolled operation)) x kept (with_borrowed (borrowed_by operation) (operation_named op r)))
         ≡ model.with_new_operation op operation (names_of r)
-    made op operation x kept ws =
+    made op operation x kept =
         let handle = borrowed_by operation in
-        ends_so (on_return.Make op (unpolled operation)) x kept ws (with_borrowed handle (operation_named op r)) _
+        ends_so (on_return.Make op (unpolled operation)) x kept (with_borrowed handle (operation_named op r)) _
         (seen_borrowed (operation_named op r) handle)
         ∙ ap (λ (d : Directory (Operation T)). let n : Names T =
         record { handles = model.lent_once_more handle (handles r); operations = d } in n)
@@ -196,13 +194,12 @@ module _ {T : Type 0} where
     -- ---- new handles
 
     newly : (from new : HandleId) (to : HandleKind → HandleKind) (o : Option Handle) (x : Reply T) (kept : Returned T)
-        (ws : List Waiter)
-        → names_of (written_back (new_from from new to o) x kept (all_woken ws (with_lent from (handle_named new r))))
+        → names_of (written_back (new_from from new to o) x kept (with_lent from (handle_named new r)))
         ≡ made_names new (option_map (λ (h : Handle). to h.kind) o) x (names_of r)
-    newly from new to None x kept ws =
-        ends_so on_return.Nothing x kept ws (with_lent from (handle_named new r)) _ (seen_lent (handle_named new r) from)
-    newly from new to (Some h) x kept ws =
-        ends_so (on_return.New from new (to h.kind)) x kept ws (with_lent from (handle_named new r)) _
+    newly from new to None x kept =
+        ends_so on_return.Nothing x kept (with_lent from (handle_named new r)) _ (seen_lent (handle_named new r) from)
+    newly from new to (Some h) x kept =
+        ends_so (on_return.New from new (to h.kind)) x kept (with_lent from (handle_named new r)) _
         (seen_lent (handle_named new r) from)
         ∙ installed_is r new (to h.kind) x
 
@@ -213,43 +210,43 @@ module _ {T : Type 0} where
 
     begins : (op : OpId) (operation : Operation T)
         → names_of (written_back (on_return.Make op (unpolled operation)) o.reply o.kept
-        (all_woken o.woken (with_borrowed (borrowed_by operation) (operation_named op r)))) ≡ model.with_new_operation op operation s.names
-    begins op operation = follow (λ n. model.with_new_operation op operation n) _ (made r op operation o.reply o.kept o.woken)
+        (with_borrowed (borrowed_by operation) (operation_named op r))) ≡ model.with_new_operation op operation s.names
+    begins op operation = follow (λ n. model.with_new_operation op operation n) _ (made r op operation o.reply o.kept)
 
     renewed : (from new : HandleId) (to : HandleKind → HandleKind)
-        → names_of (written_back (new_from from new to (at from.0 (handles r))) o.reply o.kept (all_woken o.woken (with_lent from (handle_named new r))))
+        → names_of (written_back (new_from from new to (at from.0 (handles r))) o.reply o.kept (with_lent from (handle_named new r)))
         ≡ made_names new (option_map to (kind_at from (names_of r))) o.reply (names_of r)
     renewed from new to =
-        newly r from new to (at from.0 (handles r)) o.reply o.kept o.woken
+        newly r from new to (at from.0 (handles r)) o.reply o.kept
         ∙ ap (λ k. made_names new k o.reply (names_of r)) (sym (kinds to (at from.0 (handles r))))
 
     -- a call made alone leaves just the names that the model leaves; one that goes through a handle leaves them as they were
     pub names_follow : (c : Call T) → Alone (asks r c) channel o
-        → names_of (names_alone r c o.reply o.kept o.woken) ≡ names_after s c o
+        → names_of (names_alone r c o.reply o.kept) ≡ names_after s c o
     names_follow (call.NewSend op sender msg) alone = begins op (live.Send sender (Some msg))
     names_follow (call.NewRecv op receiver) alone = begins op (live.Receive receiver)
     names_follow (call.NewClosed op sender) alone = begins op (live.Closing sender)
     names_follow (call.Poll op) alone =
         follow (λ n. polled_names op (at op.0 n.operations) o.kept.message n) _
-        (polls r op o.reply o.kept o.woken ∙ polled_is r op (at op.0 (operations r)) channel o refl alone)
+        (polls r op o.reply o.kept ∙ polled_is r op (at op.0 (operations r)) channel o refl alone)
     names_follow (call.PollRefused op) alone =
         follow (λ n. refused_names op (at op.0 n.operations) o.kept.message n) _
-        (polls r op o.reply o.kept o.woken ∙ refused_is r op (at op.0 (operations r)) o.kept.message refl)
+        (polls r op o.reply o.kept ∙ refused_is r op (at op.0 (operations r)) o.kept.message refl)
     names_follow (call.GiveUp op) alone =
         follow (λ n. given_up_names op (at op.0 n.operations) n) _
-        (gives_up r op (at op.0 r.operations) o.reply o.kept o.woken refl
+        (gives_up r op (at op.0 r.operations) o.reply o.kept refl
         ∙ ap (λ y. given_up_names op y (names_of r)) (sym (at_seen operation_in op.0 r.operations)))
     names_follow (call.SendIsTerminated op) alone =
-        follow (λ n. n) _ (through_of r (at op.0 r.operations) o.reply o.kept o.woken)
-    names_follow (call.PollNext receiver) alone = follow (λ n. n) _ (streamed r receiver o.reply o.kept o.woken)
+        follow (λ n. n) _ (through_of r (at op.0 r.operations) o.reply o.kept)
+    names_follow (call.PollNext receiver) alone = follow (λ n. n) _ (streamed r receiver o.reply o.kept)
     names_follow (call.Drop handle) alone =
-        follow (λ n. model.with_handles (model.without_name handle.0 n.handles) n) _ (drops r handle o.reply o.kept o.woken)
+        follow (λ n. model.with_handles (model.without_name handle.0 n.handles) n) _ (drops r handle o.reply o.kept)
     names_follow (call.TryClone handle new) alone =
         follow (λ n. made_names new (kind_at handle n) o.reply n) _
-        (newly r handle new (λ k. k) (at handle.0 (handles r)) o.reply o.kept o.woken)
+        (newly r handle new (λ k. k) (at handle.0 (handles r)) o.reply o.kept)
     names_follow (call.Downgrade handle new) alone =
         follow (λ n. made_names new (option_map weak_of (kind_at handle n)) o.reply n) _ (renewed handle new weak_of)
     names_follow (call.Upgrade weak new) alone =
         follow (λ n. made_names new (option_map strong_of (kind_at weak n)) o.reply n) _ (renewed weak new strong_of)
-    names_follow (call.SameChannel a b) alone = follow (λ n. n) _ (through_both r a b o.reply o.kept o.woken)
-    names_follow c alone = follow (λ n. n) _ (through r (handle_through (plan_of c)) o.reply o.kept o.woken)
+    names_follow (call.SameChannel a b) alone = follow (λ n. n) _ (through_both r a b o.reply o.kept)
+    names_follow c alone = follow (λ n. n) _ (through r (handle_through (plan_of c)) o.reply o.kept)

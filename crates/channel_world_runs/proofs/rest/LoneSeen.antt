@@ -1,5 +1,5 @@
 -- What the parts of a call do to the names, as one call at a time sees them.
-use Rattle.channel_world_runs.proofs.rest.Words.{◌≡◌, ◌+◌, ◌-◌, List, [], ◌∷◌, Option, None, refl, ap, ◌∙◌, Directory, Names, lent_once_more, used_once_less, Handle, HandleId, OpId, Waiter, Op, Stream, Returned, lent_to_poll, restored, with_operation, with_one_woken, all_woken, used_more, used_less, borrowed_more, handed_over, names_of, told, with_handle, with_lent, with_given_back, with_borrowed, with_handed_over, with_poll_state, HandleEntry, OperationEntry, PollState, NameTable, Operation, with_message}
+use Rattle.channel_world_runs.proofs.rest.Words.{◌≡◌, ◌+◌, ◌-◌, Option, None, refl, ap, ◌∙◌, Directory, Names, lent_once_more, used_once_less, Handle, HandleId, OpId, Returned, lent_to_poll, restored, with_operation, used_more, used_less, borrowed_more, handed_over, names_of, with_handle, with_lent, with_given_back, with_borrowed, with_handed_over, with_poll_state, HandleEntry, OperationEntry, PollState, NameTable, Operation, with_message}
 use Rattle.channel_world_model.specs.Names as model
 use Rattle.channel_world_runs.proofs.rest.LoneDirectory.{changed_at, views_changed, views_kept}
 use Rattle.channel_world_model.specs.declared.name.Operation.TheVariants as live
@@ -75,14 +75,3 @@ module _ {T : Type 0} where
   seen_restored r kept op =
       ap (λ (d : Directory (Operation T)). with_operations d (names_of r))
       (views_changed operation_in (restored kept) (with_message kept.message) (λ o. refl) op.0 r.operations)
-
-  -- whoever is woken is the same
-  seen_woken : (w : Waiter) (r : NameTable T) → names_of (with_one_woken w r) ≡ names_of r
-  seen_woken (Op op) r =
-      ap (λ (d : Directory (Operation T)). with_operations d (names_of r))
-      (views_kept operation_in (λ (o : OperationEntry T). record o { poll_state = told o.poll_state }) (λ o. refl) op.0 r.operations)
-  seen_woken (Stream handle) r = seen_handle r (λ (h : HandleEntry). record h { poll_state = told h.poll_state }) (λ h. refl) handle
-
-  pub all_seen : (ws : List Waiter) (r : NameTable T) → names_of (all_woken ws r) ≡ names_of r
-  all_seen [] r = refl
-  all_seen (w ∷ ws) r = all_seen ws (with_one_woken w r) ∙ seen_woken w r

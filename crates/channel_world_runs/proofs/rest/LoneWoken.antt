@@ -1,26 +1,20 @@
 -- A call that was made alone leaves those who were woken in the order in which the model leaves them.
-use Rattle.channel_world_runs.proofs.rest.Words.{◌≡◌, ◌≤◌, nat_eq, List, ◌++◌, Bool, true, false, Option, None, Some, refl, sym, ap, subst, ◌∙◌, lookup, option_map, option_map_or, Reply, ListenerRef, Outcome, at_seen, left_among, weak_of, strong_of, stream_of, times, same_waiter, is_among, without_waiter, Names, at, is_taken, State, Call, Handle, HandleId, HandleKind, OpId, Waiter, Op, Stream, keeper, woken_after, on_return_of, names_begun, unpolled, leave_handle_of, new_from, lent_by, handed_over_by, operation_named, handle_named, lent_to_poll, restored, installed, with_operation, all_woken, placed, order_begun, all_moved_last, was_woken, woken_in, IsAmong, NameStatus, waits, no_stream_status, stream_status, status_by, status, names_of, unused, with_lent, with_borrowed, with_poll_state, with_given_back, poll_state_with, HandleEntry, OperationEntry, PollState, Rests, IsPolled, NameTable, Admitted, untaken, found, op_status, handle_entry_status, op_spent, handle_spent, lent_same, borrowed_same, handed_over_same, given_back_same, names_alone, order_alone, but_for, Operation, borrowed_by}
-use Rattle.channel_calls.specs.declared.reply.Reply.TheVariants as reply
-use Rattle.channel_world_model.specs.declared.call.Call.TheVariants as call
-use Rattle.channel_world_model.specs.declared.name.HandleKind.TheVariants as handle_kind
+use Rattle.channel_world_runs.proofs.rest.Words.{◌≡◌, ◌≤◌, ◌+◌, arith, List, [], ◌∷◌, ◌++◌, Bool, true, false, not, cond, Option, None, Some, ◌⊎◌, inl, inr, refl, sym, ap, subst, ◌∙◌, false_from_ne_true, filter, filter-append, append_assoc, append-nil, option_map_or, Key, ListenerRef, Outcome, count_append, among_counts, among_self, or_right, same_sound, decided, without_absent, times, same_waiter, is_among, without_waiter, Call, Waiter, Op, Stream, asks, on_return_of, names_begun, all_woken, order_begun, order_settled, WakeOrder, placed, IsAmong, waits, free, status, is_name_pending, names_of, OnReturn, NameTable, Admitted, order_alone, but_for, NameState, Configuration, WorldInvariant}
 use Rattle.channel_world_runs.specs.declared.names.OnReturn.TheVariants as on_return
-use Rattle.channel_world_model.specs.declared.name.Operation.TheVariants as live
-use Rattle.channel_world_model.specs.Plan.{plan_of}
-use Rattle.channel_world_runs.proofs.OwnerOrderNames.{is_there}
-use Rattle.channel_world_runs.proofs.RefusalLemmas.{handle_through}
-use Rattle.channel_world_runs.proofs.rest.LoneWakes.{Other, not_same, but_append, is_pending, HavePlaces, all_pending, all_last}
-use Rattle.channel_world_runs.proofs.rest.LoneStatuses.{nothing_there, sees_pending, sees_woken, op_other, op_own, handle_other, handle_own, with_op_value, with_handle_value, op_value_other, op_value_own, handle_value_other, handle_value_own, lent_off, left_off, resting_off, stream_polled_off, stream_left_off, stream_resting_off}
-use Rattle.channel_world_runs.proofs.rest.LoneEnds.{Starts, Alike, alike_starts, same_alike, off_alike, polled_starts, gone_starts, unheld_starts, EndsSo, same_woken, left_woken, off_woken, polled_woken}
+use Rattle.channel_world_model.specs.Asked.{keeper_in}
+use Rattle.channel_world_runs.specs.Owners.{subject}
+use Rattle.channel_world_runs.proofs.OwnerBegins.{IsBusy, Keeps, Ordered, Quiet, Touches, Sane, held_in}
+use Rattle.channel_world_runs.proofs.OwnerCalls.{BeginsSo, begins_so}
+use Rattle.channel_world_runs.proofs.OwnerOrderNames.{among_is, is_there, is_out, stays_among, in_last, next, all_come}
+use Rattle.channel_world_runs.proofs.OwnerRuns.{inner}
+use Rattle.channel_world_runs.proofs.OwnerWoken.{waits_pending, pending_waits}
+use Rattle.channel_world_runs.proofs.OwnerSteps.{busy_waits}
 
--- ---- who is pending, in words
+-- ---- lists without a name
 
-pending_is : (p : NameStatus) → is_pending p ≡ true → (h : ListenerRef) × (b : Bool) × (p ≡ waits h b)
-pending_is (waits h b) e = (h, b, refl)
-pending_is p e = absurd (let no : false ≡ true = e in cc)
-
-other_left : (k : Option Waiter) (v : Waiter) (ws : List Waiter) → is_among v (but_for k ws) ≡ true → Other k v
-other_left None v ws e = tt
-other_left (Some w) v ws e = (left_among w v ws e).1
+pub but_append : (k : Option Waiter) (xs ys : List Waiter) → but_for k (xs ++ ys) ≡ but_for k xs ++ but_for k ys
+but_append None xs ys = refl
+but_append (Some w) xs ys = filter-append (λ v. not (same_waiter w v)) xs ys
 
 -- what is left of all that were woken
 pub left_of : (k : Option Waiter) (told : List Waiter)
@@ -28,282 +22,241 @@ pub left_of : (k : Option Waiter) (told : List Waiter)
 left_of None told = refl
 left_of (Some w) told = refl
 
--- ---- each call
+not_twice : (w : Waiter) (xs ys : List Waiter) → times w (xs ++ w ∷ ys) ≤ 1 → is_among w xs ≡ false
+not_twice w xs ys h = false_from_ne_true (is_among w xs) (λ t.
+    let one : 1 ≤ times w xs = among_counts w xs t in
+    let other : 1 ≤ times w (w ∷ ys) = among_counts w (w ∷ ys) (among_self w ys) in
+    let both : times w (xs ++ w ∷ ys) ≡ times w xs + times w (w ∷ ys) = count_append (same_waiter w) xs (w ∷ ys) in
+    absurd (omega (arith, h, one, other, both)))
+
+absent : (w : Waiter) (ws : List Waiter) → (IsAmong w ws → ⊥) → without_waiter w ws ≡ ws
+absent w ws out = without_absent w ws (false_from_ne_true (is_among w ws) (λ t. out (among_is w ws t)))
+
+-- a test that all pass but this one, if there is one
+passing : (k : Option Waiter) (f : Waiter → Bool) (ws : List Waiter) → ((v : Waiter) → is_among v (but_for k ws) ≡ true → f v ≡ true)
+    → ((v : Waiter) → k ≡ Some v → f v ≡ false) → filter f ws ≡ but_for k ws
+passing None f [] all own = refl
+passing None f (x ∷ xs) all own =
+    let on = passing None f xs (λ v i. all v (or_right (same_waiter v x) (is_among v xs) i)) own in
+    rw (all x (among_self x xs)) (ap (λ (ys : List Waiter). x ∷ ys) on)
+passing (Some w) f [] all own = refl
+passing (Some w) f (x ∷ xs) all own = elim (decided (same_waiter w x)) [
+  | inl t ↦
+      let off : f x ≡ false = ap f (sym (same_sound w x t)) ∙ own w refl in
+      let on = passing (Some w) f xs (λ v i. all v (rw t i)) own in rw (off, t) on
+  | inr t ↦
+      let first : f x ≡ true = all x (rw t (among_self x (without_waiter w xs))) in
+      let on = passing (Some w) f xs (λ v i. all v (rw t (or_right (same_waiter v x) (is_among v (without_waiter w xs)) i))) own in
+      rw (first, t) (ap (λ (ys : List Waiter). x ∷ ys) on)
+]
+
+-- ---- those who are woken come last
 
 module _ {T : Type 0} where
-  -- how it begins and ends
-  pub record Goes (r : NameTable T) (c : Call T) (order : List Waiter) (k : Option Waiter) : Type 0 where
-    pub starts : Starts r (names_begun r c) order (order_begun c order) k
-    pub ends : EndsSo (names_begun r c) (on_return_of r c) k
+  abbrev HavePlaces : NameTable T → WakeOrder → Type 0
+  HavePlaces r o = (v : Waiter) → is_name_pending r v ≡ true → IsAmong v o.places
 
-  module _ (r : NameTable T) (order : List Waiter) where
-    lends : (handle : HandleId) → Starts r (with_lent handle r) order order None
-    lends handle = alike_starts r (with_lent handle r) order (same_alike r (with_lent handle r) (lent_same r handle))
+  abbrev wakes : NameTable T → List Waiter → List Waiter
+  wakes r ns = filter (is_name_pending r) ns
 
-    leaves_through : (handle : HandleId) → EndsSo (with_lent handle r) (on_return.Leave handle) None
-    leaves_through handle x kept new ws p = left_woken new handle ws
+  abbrev ComeLast : NameTable T → List Waiter → WakeOrder → Type 0
+  ComeLast r ns o =
+      HavePlaces r o → ((v : Waiter) → times v (o.woken ++ wakes r ns) ≤ 1) → (all_woken r ns o).woken ≡ o.woken ++ wakes r ns
 
-    lends_both : (a b : HandleId) → Starts r (with_lent b (with_lent a r)) order order None
-    lends_both a b =
-        let both = with_lent b (with_lent a r) in
-        alike_starts r both order (same_alike r both (λ v. lent_same (with_lent a r) b v ∙ lent_same r a v))
+  all_last : (r : NameTable T) (ns : List Waiter) (o : WakeOrder) → ComeLast r ns o
+  all_last r [] o places once = sym (append-nil o.woken)
+  all_last r (w ∷ ns) o places once = by (is_name_pending r w) (is_among w o.places) refl refl once (λ p. all_last r ns p)
+    where
+      by : (p b : Bool) → is_name_pending r w ≡ p → is_among w o.places ≡ b
+          → ((v : Waiter) → times v (o.woken ++ cond p (w ∷ wakes r ns) (wakes r ns)) ≤ 1)
+          → ((o' : WakeOrder) → ComeLast r ns o')
+          → (all_woken r ns (next p b w o)).woken ≡ o.woken ++ cond p (w ∷ wakes r ns) (wakes r ns)
+      by true true e f once on =
+          let same : without_waiter w o.woken ≡ o.woken = without_absent w o.woken (not_twice w o.woken (wakes r ns) (once w)) in
+          let then : WakeOrder = next true true w o in
+          let joined : then.woken ++ wakes r ns ≡ o.woken ++ w ∷ wakes r ns =
+          ap (λ (xs : List Waiter). (xs ++ w ∷ []) ++ wakes r ns) same ∙ append_assoc o.woken (w ∷ []) (wakes r ns) in
+          on then (λ v q. in_last w v o.places (places v q))
+          (λ v. subst (λ (xs : List Waiter). times v xs ≤ 1) (sym joined) (once v))
+          ∙ joined
+      by true false e f once on = absurd (let no : true ≡ false = sym (is_there w o.places (places w e)) ∙ f in cc)
+      by false b e f once on = on o places once
 
-    -- ---- through the handle of an operation
+  -- ---- as a call ends
 
-    lends_by : (o : Option (OperationEntry T)) → Starts r (lent_by o r) order order None
-    lends_by None = alike_starts r r order (same_alike r r (λ v. refl))
-    lends_by (Some o) = lends (borrowed_by o.operation)
-
-    leaves_by : (r' : NameTable T) (o : Option (OperationEntry T)) → EndsSo r' (leave_handle_of o) None
-    leaves_by r' None x kept new ws p = refl
-    leaves_by r' (Some o) x kept new ws p = left_woken new (borrowed_by o.operation) ws
-
-    -- ---- new names
-
-    makes : (op : OpId) (handle : HandleId) (y : Operation T) → is_taken op.0 r.operations ≡ false
-        → Starts r (with_borrowed handle (operation_named op r)) order order None
-        × EndsSo (with_borrowed handle (operation_named op r)) (on_return.Make op (unpolled y)) None
-    makes op handle y untook = (alike_starts r new order (off_alike r new (Op op) same was is), ends)
-      where
-        new : NameTable T
-        new = with_borrowed handle (operation_named op r)
-
-        same : (v : Waiter) → same_waiter (Op op) v ≡ false
-            → status (with_borrowed handle (operation_named op r)) v ≡ status r v
-        same v t = borrowed_same (operation_named op r) handle v ∙ (op_spent r op).others v (not_same v (Op op) t)
-
-        was : is_pending (status r (Op op)) ≡ false
-        was = ap is_pending (untaken op_status op.0 r.operations untook)
-
-        is : is_pending (status (with_borrowed handle (operation_named op r)) (Op op)) ≡ false
-        is = ap is_pending (borrowed_same (operation_named op r) handle (Op op) ∙ (op_spent r op).there)
-
-        ends : EndsSo (with_borrowed handle (operation_named op r)) (on_return.Make op (unpolled y)) None
-        ends x kept r' ws p =
-            let made = with_op_value op (Some (unpolled y)) r' in
-            let a : Alike r' made = off_alike r' made (Op op) (op_value_other r' op (Some (unpolled y)))
-            (p (Op op) ∙ is)
-            (op_value_own r' op (Some (unpolled y)) is_pending sees_pending (resting_off y)) in
-            same_woken r' made ws a.woken
-
-    installs : (from new : HandleId) (k : HandleKind) (x : Reply T) (r' : NameTable T) (ws : List Waiter)
-        → is_pending (status r' (Stream new)) ≡ false
-        → woken_in (installed new k x (with_given_back from r')) ws ≡ woken_in r' ws
-    installs from new k reply.Made r' ws off =
-        let back = with_given_back from r' in
-        let h : HandleEntry = unused k in
-        let made = with_handle_value new (Some h) back in
-        let a : Alike back made = off_alike back made (Stream new) (handle_value_other back new (Some h))
-        (ap is_pending (given_back_same r' from (Stream new)) ∙ off)
-        (handle_value_own back new (Some h) is_pending sees_pending (stream_resting_off k)) in
-        same_woken back made ws a.woken ∙ left_woken r' from ws
-    installs from new k x r' ws off = left_woken r' from ws
-
-    makes_handle : (from new : HandleId) (to : HandleKind → HandleKind) (o : Option Handle) → is_taken new.0 r.handles ≡ false
-        → Starts r (with_lent from (handle_named new r)) order order None
-        × EndsSo (with_lent from (handle_named new r)) (new_from from new to o) None
-    makes_handle from new to o untook =
-        (alike_starts r begun order (off_alike r begun (Stream new) same was is), ends o)
-      where
-        begun : NameTable T
-        begun = with_lent from (handle_named new r)
-
-        same : (v : Waiter) → same_waiter (Stream new) v ≡ false
-            → status (with_lent from (handle_named new r)) v ≡ status r v
-        same v t = lent_same (handle_named new r) from v ∙ (handle_spent r new).others v (not_same v (Stream new) t)
-
-        was : is_pending (status r (Stream new)) ≡ false
-        was = ap is_pending (untaken handle_entry_status new.0 r.handles untook)
-
-        is : is_pending (status (with_lent from (handle_named new r)) (Stream new)) ≡ false
-        is = ap is_pending (lent_same (handle_named new r) from (Stream new) ∙ (handle_spent r new).there)
-
-        ends : (o : Option Handle) → EndsSo (with_lent from (handle_named new r)) (new_from from new to o) None
-        ends None x kept r' ws p = refl
-        ends (Some h) x kept r' ws p = installs from new (to h.kind) x r' ws (p (Stream new) ∙ is)
-
-    -- ---- polls
-
-    polls : (op : OpId) → Starts r (with_operation lent_to_poll op r) order (placed (Op op) order) (Some (Op op))
-    polls op =
-        polled_starts r (with_operation lent_to_poll op r) (Op op) (op_other r op lent_to_poll)
-        (op_own r op lent_to_poll is_pending sees_pending lent_off) order
-
-    polls_end : (r' : NameTable T) (op : OpId) → EndsSo r' (on_return.Poll op) (Some (Op op))
-    polls_end r' op x kept new ws p =
-        polled_woken new (with_operation (restored kept) op new) (Op op) kept.key ws (op_other new op (restored kept))
-        (op_own new op (restored kept) was_woken sees_woken (λ y. left_off y.operation kept.message kept.key))
-
-    nexts : (receiver : HandleId)
-        → Starts r (with_lent receiver (with_poll_state (IsPolled false) receiver r)) order (placed (Stream receiver) order)
-        (Some (Stream receiver))
-    nexts receiver =
-        polled_starts r (with_lent receiver put) (Stream receiver)
-        (λ v t. lent_same put receiver v ∙ handle_other r receiver change v t)
-        (ap is_pending (lent_same put receiver (Stream receiver))
-        ∙ handle_own r receiver change is_pending sees_pending (λ h. stream_polled_off h.handle.kind false)) order
-      where
-        put : NameTable T
-        put = with_poll_state (IsPolled false) receiver r
-
-        change : HandleEntry → HandleEntry
-        change h = record h { poll_state = IsPolled false }
-
-    nexts_end : (r' : NameTable T) (receiver : HandleId) → EndsSo r' (on_return.PollNext receiver) (Some (Stream receiver))
-    nexts_end r' receiver x kept new ws p =
-        let put = with_poll_state (poll_state_with kept.key) receiver new in
-        let change : HandleEntry → HandleEntry = λ h. record h { poll_state = poll_state_with kept.key } in
-        polled_woken new (with_given_back receiver put) (Stream receiver) kept.key ws
-        (λ v t. given_back_same put receiver v ∙ handle_other new receiver change v t)
-        (ap was_woken (given_back_same put receiver (Stream receiver))
-        ∙ handle_own new receiver change was_woken sees_woken (λ h. stream_left_off h.handle.kind kept.key))
-
-    -- ---- what lives no more
-
-    given_up : (op : OpId) → is_pending (status (with_op_value op None r) (Op op)) ≡ false
-    given_up op = op_value_own r op None is_pending sees_pending refl
-
-    abbrev hands_over : OpId → Option (OperationEntry T) → NameTable T
-    hands_over op o = handed_over_by o (with_op_value op None r)
-
-    handed : (op : OpId) (o : Option (OperationEntry T)) → is_pending (status (hands_over op o) (Op op)) ≡ false
-    handed op o = ap is_pending (handed_over_same (with_op_value op None r) o (Op op)) ∙ given_up op
-
-    gives_up : (op : OpId) (o : Option (OperationEntry T))
-        → Starts r (hands_over op o) order (without_waiter (Op op) order) (Some (Op op))
-    gives_up op o =
-        gone_starts r (hands_over op o) (Op op)
-        (λ v t. handed_over_same (with_op_value op None r) o v ∙ op_value_other r op None v t) (handed op o) order
-
-    gives_up_end : (op : OpId) (o : Option (OperationEntry T)) → EndsSo (hands_over op o) (leave_handle_of o) (Some (Op op))
-    gives_up_end op None x kept new ws p = off_woken new (Op op) ws (p (Op op) ∙ handed op None)
-    gives_up_end op (Some o) x kept new ws p =
-        left_woken new (borrowed_by o.operation) ws ∙ off_woken new (Op op) ws (p (Op op) ∙ handed op (Some o))
-
-    dropped : (handle : HandleId) → is_pending (status (with_handle_value handle None r) (Stream handle)) ≡ false
-    dropped handle = handle_value_own r handle None is_pending sees_pending refl
-
-    abbrev Drops : HandleId → Option Waiter → Type 0
-    Drops handle k =
-        Starts r (with_handle_value handle None r) order (without_waiter (Stream handle) order) k
-        × EndsSo (with_handle_value handle None r) on_return.Nothing k
-
-    drops_held : (handle : HandleId) → Drops handle (Some (Stream handle))
-    drops_held handle = (
-      gone_starts r (with_handle_value handle None r) (Stream handle) (handle_value_other r handle None) (dropped handle) order,
-      λ x kept new ws p. off_woken new (Stream handle) ws (p (Stream handle) ∙ dropped handle),
-    )
-
-    drops_unheld : (handle : HandleId) → is_pending (status r (Stream handle)) ≡ false → Drops handle None
-    drops_unheld handle off = (
-      unheld_starts r (with_handle_value handle None r) (Stream handle) (handle_value_other r handle None) (dropped handle)
-          order off,
-      λ x kept new ws p. refl,
-    )
-
-    no_stream : (s : PollState) → is_pending (no_stream_status s) ≡ false
-    no_stream Rests = refl
-    no_stream s = refl
-
-    drops : (handle : HandleId) → Drops handle (stream_of handle (at handle.0 (names_of r).handles))
-    drops handle =
-        subst (λ (x : Option Handle). Drops handle (stream_of handle x)) (sym (at_seen (λ (h : HandleEntry). h.handle) handle.0 r.handles))
-        (by (at handle.0 r.handles) refl)
-      where
-        by : (o : Option HandleEntry) → at handle.0 r.handles ≡ o
-            → Drops handle (stream_of handle (option_map (λ (h : HandleEntry). h.handle) o))
-        by None e = drops_unheld handle (nothing_there handle_entry_status is_pending (lookup (nat_eq handle.0) r.handles) sees_pending e)
-        by (Some h) e = of h.handle.kind h.poll_state (ap (λ o. status_by handle_entry_status o) (found handle.0 r.handles h e))
-          where
-            of : (k : HandleKind) (s : PollState) → status r (Stream handle) ≡ stream_status k s
-                → Drops handle
-                (elim k [
-                  | handle_kind.Sender ↦ None
-                  | handle_kind.Receiver ↦ Some (Stream handle)
-                  | handle_kind.WeakSender ↦ None
-                  | handle_kind.WeakReceiver ↦ None
-                ])
-            of handle_kind.Receiver s f = drops_held handle
-            of k s f = drops_unheld handle (ap is_pending f ∙ no_stream s)
+  settled_same : (e : OnReturn T) (key : Option Key) (o : WakeOrder) → ((w : Waiter) → subject e ≡ Some w → IsAmong w o.woken → ⊥)
+      → (order_settled e key o).woken ≡ o.woken
+  settled_same (on_return.Poll op) None o out = absent (Op op) o.woken (out (Op op) refl)
+  settled_same (on_return.PollNext receiver) None o out = absent (Stream receiver) o.woken (out (Stream receiver) refl)
+  settled_same (on_return.Poll op) (Some key) o out = refl
+  settled_same (on_return.PollNext receiver) (Some key) o out = refl
+  settled_same e key o out = refl
 
   -- ---- any call
 
-  module _ (r : NameTable T) (s : State T) (order : List Waiter) (same : s.names ≡ names_of r) where
-    goes : (c : Call T) → Admitted r c → Goes r c order (keeper s c)
-    goes (call.NewSend op sender msg) a =
-        let m = makes r order op sender (live.Send sender (Some msg)) a.new in record { starts = m.0; ends = m.1 }
-    goes (call.NewRecv op receiver) a =
-        let m = makes r order op receiver (live.Receive receiver) a.new in record { starts = m.0; ends = m.1 }
-    goes (call.NewClosed op sender) a =
-        let m = makes r order op sender (live.Closing sender) a.new in record { starts = m.0; ends = m.1 }
-    goes (call.Poll op) a =
-        record { starts = polls r order op; ends = polls_end r order (names_begun r (call.Poll op)) op }
-    goes (call.PollRefused op) a =
-        record { starts = polls r order op; ends = polls_end r order (names_begun r (call.PollRefused op)) op }
-    goes (call.GiveUp op) a =
-        record { starts = gives_up r order op (at op.0 r.operations); ends = gives_up_end r order op (at op.0 r.operations) }
-    goes (call.SendIsTerminated op) a =
+  module _ (b : NameState T) (s : Configuration T Waiter) (kept : WorldInvariant b s) (c : Call T) (fine : Admitted b.name_table c) where
+    abbrev r : NameTable T
+    r = b.name_table
+
+    abbrev begun : NameTable T
+    begun = names_begun r c
+
+    abbrev then : WakeOrder
+    then = order_begun c b.order
+
+    abbrev own : Option Waiter
+    own = keeper_in (names_of r) c
+
+    sane : Sane r
+    sane = let o = kept.owned in o.none_amiss
+
+    pending_then : (v : Waiter) → IsAmong v b.order.woken → (h : ListenerRef) × (status r v ≡ waits h)
+    pending_then = let w = kept.woken in w.pending
+
+    placed_then : (v : Waiter) (h : ListenerRef) → status r v ≡ waits h → IsAmong v b.order.places
+    placed_then v h e = let w = kept.woken in w.placed v (inl (h, e))
+
+    -- How the call begins for those who were woken: the own name is not among them any more. Whoever is pending then has a place,
+    -- and any other than the own name that was pending is; the own name isn't, nor the one at which the call works, which wasn't
+    -- woken either.
+    record Begun : Type 0 where
+      pub woken : then.woken ≡ but_for own b.order.woken
+      pub places : HavePlaces begun then
+      pub others : (v : Waiter) (h : ListenerRef) → status r v ≡ waits h → (own ≡ Some v → ⊥) → is_name_pending begun v ≡ true
+      pub off : (v : Waiter) → own ≡ Some v → is_name_pending begun v ≡ false
+      pub away : (v : Waiter) → subject (on_return_of r c) ≡ Some v → (is_name_pending begun v ≡ false) × (IsAmong v then.woken → ⊥)
+
+    quiet : Quiet (status r) (status begun) own (on_return_of r c) (asks r c) (order_begun c) → Begun
+    quiet k =
         record {
-          starts = lends_by r order (at op.0 r.operations);
-          ends = leaves_by r order (names_begun r (call.SendIsTerminated op)) (at op.0 r.operations);
+          woken = ap (λ (o : WakeOrder). o.woken) (k.order b.order) ∙ ap (λ (x : Option Waiter). but_for x b.order.woken) (sym k.keeps);
+          places = λ v e.
+              let h = pending_waits begun v (λ bad. sane v (sym (k.same v) ∙ bad)) e in
+              subst (λ (o : WakeOrder). IsAmong v o.places) (sym (k.order b.order)) (placed_then v h.0 (sym (k.same v) ∙ h.1));
+          others = λ v h e other. waits_pending begun v h (k.same v ∙ e);
+          off = λ v e. absurd (let no : None ≡ Some v = sym k.keeps ∙ e in cc);
+          away = λ v e. absurd (let no : None ≡ Some v = sym k.nobody ∙ e in cc);
         }
-    goes (call.PollNext receiver) a =
-        record { starts = nexts r order receiver; ends = nexts_end r order (names_begun r (call.PollNext receiver)) receiver }
-    goes (call.Drop handle) a =
-        let k : stream_of handle (at handle.0 (names_of r).handles) ≡ keeper s (call.Drop handle) =
-        sym (ap (λ (n : Names T). stream_of handle (at handle.0 n.handles)) same) in
-        let d = subst (Drops r order handle) k (drops r order handle) in
-        record { starts = d.0; ends = d.1 }
-    goes (call.TryClone handle new) a =
-        let m = makes_handle r order handle new (λ k. k) (at handle.0 (names_of r).handles) a.new in record { starts = m.0; ends = m.1 }
-    goes (call.Downgrade handle new) a =
-        let m = makes_handle r order handle new weak_of (at handle.0 (names_of r).handles) a.new in record { starts = m.0; ends = m.1 }
-    goes (call.Upgrade weak new) a =
-        let m = makes_handle r order weak new strong_of (at weak.0 (names_of r).handles) a.new in record { starts = m.0; ends = m.1 }
-    goes (call.SameChannel x y) a =
-        record {
-          starts = lends_both r order x y;
-          ends = λ z kept new ws p. left_woken (with_given_back x new) y ws ∙ left_woken new x ws;
-        }
-    goes c a = record { starts = lends r order (handle_through (plan_of c)); ends = leaves_through r order (handle_through (plan_of c)) }
 
-  -- whoever was woken when the call began is woken after it, and then those whom it woke, in order, but for its own name
-  pub woken_follows : (r : NameTable T) (c : Call T) (s : State T) (o : Outcome T Waiter) (order : List Waiter)
-      → s.names ≡ names_of r → s.waiting.woken ≡ woken_in r order → Admitted r c
-      → ((w : Waiter) (h : ListenerRef) (b : Bool) → status r w ≡ waits h b → IsAmong w order)
-      → ((v : Waiter) → is_among v (but_for (keeper s c) o.woken) ≡ true → (h : ListenerRef) × (b : Bool) × (status r v ≡ waits h b))
-      → ((v : Waiter) → times v (but_for (keeper s c) (woken_in r order ++ o.woken)) ≤ 1)
-      → woken_in (names_alone r c o.reply o.kept o.woken) (order_alone r c o.kept o.woken order) ≡ woken_after s c o
-  woken_follows r c s o order same woken fine places named once =
-      let k = keeper s c in
-      let begun = names_begun r c in
-      let then = order_begun c order in
-      g.ends o.reply o.kept (all_woken o.woken begun) (all_moved_last o.woken then) (all_pending o.woken begun)
-      ∙ (all_last k begun then o.woken have wakes fewer ∙ (joined ∙ (left_of k (woken_in r order ++ o.woken)
-      ∙ ap (λ (ws : List Waiter). option_map_or (λ (w : Waiter). without_waiter w (ws ++ o.woken)) k (ws ++ o.woken)) (sym woken))))
-    where
-      g : Goes r c order (keeper s c)
-      g = goes r s order same c fine
+    touching : Touches (status r) (status begun) own (on_return_of r c) (asks r c) (order_begun c) → Begun
+    touching k = record { woken = left k.keeps k.order; places = places; others = others; off = off; away = away }
+      where
+        now_off : is_name_pending begun k.name ≡ false
+        now_off = false_from_ne_true (is_name_pending begun k.name) (λ e.
+            let busy : IsBusy (status begun k.name) = subst IsBusy (sym k.sets.there) k.busy in
+            let h = pending_waits begun k.name (λ bad. subst IsBusy bad busy) e in
+            busy_waits (status begun k.name) h.0 busy h.1)
 
-      have : HavePlaces (names_begun r c) (order_begun c order)
-      have v on =
-          let other = g.starts.own v on in
-          let before : is_pending (status r v) ≡ true = sym (g.starts.others v other) ∙ on in
-          let pends = pending_is (status r v) before in
-          g.starts.places v before other (is_there v order (places v pends.0 pends.1 pends.2))
+        not_name : (v : Waiter) → is_name_pending begun v ≡ true → v ≡ k.name → ⊥
+        not_name v e same = absurd (let no : true ≡ false = sym e ∙ (ap (is_name_pending begun) same ∙ now_off) in cc)
 
-      wakes : (v : Waiter) → is_among v (but_for (keeper s c) o.woken) ≡ true → is_pending (status (names_begun r c) v) ≡ true
-      wakes v e =
-          let pends = named v e in
-          g.starts.others v (other_left (keeper s c) v o.woken e) ∙ ap is_pending pends.2
+        -- a name that isn't pending was not woken
+        unheld : held_in (status r k.name) ≡ None → IsAmong k.name b.order.woken → ⊥
+        unheld none i = let h = pending_then k.name i in absurd (let no : None ≡ Some h.0 = sym none ∙ ap held_in h.1 in cc)
 
-      joined : but_for (keeper s c) (woken_in (names_begun r c) (order_begun c order) ++ o.woken)
-          ≡ but_for (keeper s c) (woken_in r order ++ o.woken)
-      joined =
-          let k = keeper s c in
-          but_append k (woken_in (names_begun r c) (order_begun c order)) o.woken
-          ∙ (ap (λ (ws : List Waiter). ws ++ but_for k o.woken) g.starts.woken ∙ sym (but_append k (woken_in r order) o.woken))
+        of_free : status r k.name ≡ free → held_in (status r k.name) ≡ None
+        of_free e = ap held_in e
 
-      fewer : (v : Waiter)
-          → times v (but_for (keeper s c) (woken_in (names_begun r c) (order_begun c order) ++ o.woken)) ≤ 1
-      fewer v = subst (λ (ws : List Waiter). times v ws ≤ 1) (sym joined) (once v)
+        without : Keeps own k.name (status r k.name) → without_waiter k.name b.order.woken ≡ but_for own b.order.woken
+        without (inl e) = ap (λ (x : Option Waiter). but_for x b.order.woken) (sym e)
+        without (inr e) = absent k.name b.order.woken (unheld e.1) ∙ ap (λ (x : Option Waiter). but_for x b.order.woken) (sym e.0)
+
+        left : Keeps own k.name (status r k.name) → Ordered k.name (status r k.name) k.now (order_begun c) → then.woken ≡ but_for own b.order.woken
+        left keeps (inl x) = ap (λ (o : WakeOrder). o.woken) (x.2 b.order)
+            ∙ (sym (absent k.name b.order.woken (unheld (of_free x.0))) ∙ without keeps)
+        left keeps (inr (inl x)) = ap (λ (o : WakeOrder). o.woken) (x b.order) ∙ without keeps
+        left keeps (inr (inr x)) = ap (λ (o : WakeOrder). o.woken) (x.1 b.order) ∙ without keeps
+
+        stays : (v : Waiter) → (v ≡ k.name → ⊥) → IsAmong v b.order.places
+            → Ordered k.name (status r k.name) k.now (order_begun c) → IsAmong v then.places
+        stays v other i (inl x) = subst (λ (o : WakeOrder). IsAmong v o.places) (sym (x.2 b.order)) i
+        stays v other i (inr (inl x)) =
+            subst (λ (o : WakeOrder). IsAmong v o.places) (sym (x b.order)) (inr (stays_among k.name v b.order.places other i))
+        stays v other i (inr (inr x)) =
+            subst (λ (o : WakeOrder). IsAmong v o.places) (sym (x.1 b.order)) (stays_among k.name v b.order.places other i)
+
+        places : HavePlaces begun then
+        places v e =
+            let other = not_name v e in
+            let same = k.sets.others v other in
+            let h = pending_waits begun v (λ bad. sane v (sym same ∙ bad)) e in
+            stays v other (placed_then v h.0 (sym same ∙ h.1)) k.order
+
+        -- a name of which the listener isn't kept is another, if it was pending
+        apart : (v : Waiter) (h : ListenerRef) → status r v ≡ waits h → (own ≡ Some v → ⊥) → Keeps own k.name (status r k.name)
+            → v ≡ k.name → ⊥
+        apart v h e other (inl x) same = other (x ∙ ap (λ (w : Waiter). let o : Option Waiter = Some w in o) (sym same))
+        apart v h e other (inr x) same =
+            absurd (let no : None ≡ Some h = sym x.1 ∙ (ap (λ (w : Waiter). held_in (status r w)) (sym same) ∙ ap held_in e) in cc)
+
+        others : (v : Waiter) (h : ListenerRef) → status r v ≡ waits h → (own ≡ Some v → ⊥) → is_name_pending begun v ≡ true
+        others v h e other = waits_pending begun v h (k.sets.others v (apart v h e other k.keeps) ∙ e)
+
+        off : (v : Waiter) → own ≡ Some v → is_name_pending begun v ≡ false
+        off v e = by k.keeps
+          where
+            by : Keeps own k.name (status r k.name) → is_name_pending begun v ≡ false
+            by (inl x) = ap (is_name_pending begun) (inner v k.name (sym e ∙ x)) ∙ now_off
+            by (inr x) = absurd (let no : None ≡ Some v = sym x.0 ∙ e in cc)
+
+        gone : Keeps own k.name (status r k.name) → IsAmong k.name (but_for own b.order.woken) → ⊥
+        gone (inl x) i = is_out k.name b.order.woken (subst (λ (o : Option Waiter). IsAmong k.name (but_for o b.order.woken)) x i)
+        gone (inr x) i = unheld x.1 (subst (λ (o : Option Waiter). IsAmong k.name (but_for o b.order.woken)) x.0 i)
+
+        away : (v : Waiter) → subject (on_return_of r c) ≡ Some v → (is_name_pending begun v ≡ false) × (IsAmong v then.woken → ⊥)
+        away v e = by k.whose
+          where
+            by : (subject (on_return_of r c) ≡ None) ⊎ (subject (on_return_of r c) ≡ Some k.name)
+                → (is_name_pending begun v ≡ false) × (IsAmong v then.woken → ⊥)
+            by (inl none) = absurd (let no : None ≡ Some v = sym none ∙ e in cc)
+            by (inr some) =
+                let same : v ≡ k.name = inner v k.name (sym e ∙ some) in (
+                  ap (is_name_pending begun) same ∙ now_off,
+                  λ i. gone k.keeps (subst (λ (ws : List Waiter). IsAmong k.name ws) (left k.keeps k.order)
+                      (subst (λ (w : Waiter). IsAmong w then.woken) same i)),
+                )
+
+    begins : Begun
+    begins = by (begins_so r c sane fine)
+      where
+        by : BeginsSo r c → Begun
+        by (inl k) = quiet k
+        by (inr k) = touching k
+
+    -- whoever was woken when the call began is woken after it, and then those whom it woke, in order, but for its own name
+    pub woken_follows : (o : Outcome T Waiter)
+        → ((v : Waiter) → is_among v (but_for own o.woken) ≡ true → (h : ListenerRef) × (status r v ≡ waits h))
+        → ((v : Waiter) → times v (but_for own (b.order.woken ++ o.woken)) ≤ 1)
+        → (order_alone r c o.kept o.woken b.order).woken ≡ but_for own (b.order.woken ++ o.woken)
+    woken_follows o named once =
+        settled_same (on_return_of r c) o.kept.key (all_woken begun o.woken then) nobody ∙ (last ∙ joined)
+      where
+        g : Begun
+        g = begins
+
+        another : (k : Option Waiter) (v : Waiter) → is_among v (but_for k o.woken) ≡ true → k ≡ Some v → ⊥
+        another None v i e = absurd (let no : None ≡ Some v = e in cc)
+        another (Some w) v i e = is_out v o.woken
+            (subst (λ (x : Waiter). IsAmong v (without_waiter x o.woken)) (inner w v e) (among_is v (without_waiter w o.woken) i))
+
+        those : wakes begun o.woken ≡ but_for own o.woken
+        those =
+            passing own (is_name_pending begun) o.woken
+            (λ v i. let h = named v i in g.others v h.0 h.1 (another own v i)) g.off
+
+        joined : then.woken ++ wakes begun o.woken ≡ but_for own (b.order.woken ++ o.woken)
+        joined =
+            ap (λ (ws : List Waiter). ws ++ wakes begun o.woken) g.woken
+            ∙ (ap (λ (ws : List Waiter). but_for own b.order.woken ++ ws) those ∙ sym (but_append own b.order.woken o.woken))
+
+        last : (all_woken begun o.woken then).woken ≡ then.woken ++ wakes begun o.woken
+        last =
+            all_last begun o.woken then g.places
+            (λ v. subst (λ (ws : List Waiter). times v ws ≤ 1) (sym joined) (once v))
+
+        nobody : (w : Waiter) → subject (on_return_of r c) ≡ Some w → IsAmong w (all_woken begun o.woken then).woken → ⊥
+        nobody w e i = by (all_come begun o.woken w then i)
+          where
+            by : IsAmong w then.woken ⊎ (IsAmong w o.woken × (is_name_pending begun w ≡ true)) → ⊥
+            by (inl j) = (g.away w e).1 j
+            by (inr (j, p)) = absurd (let no : true ≡ false = sym p ∙ (g.away w e).0 in cc)

@@ -1,5 +1,5 @@
 -- A channel at rest shows a state of the model: on each list, those who hold its listeners, and the woken in their order.
-use Rattle.channel_world_runs.proofs.rest.Words.{is_line, line_at, count_of, free_places, line_refl, decided, tasks_are, if◌then◌else◌, ◌≡◌, ◌≤◌, ◌+◌, ℕ, Bool, true, false, List, [], ◌++◌, length, Option, None, Some, IsSome, ◌⊎◌, inl, inr, refl, sym, ap, ◌∙◌, subst, arith, keys_of, Notice, Key, WaitList, Sends, Receives, Streams, Closings, told_of, Any, count_append, Kind, Enough, times, times_in, Placed, AwakeIn, Waiting, same_waiter, is_among, untold, State, Waiter, ActiveCall, Configuration, IsAmong, waits, status, holding, keys, IsListed, Holder, named, calling, AnyOf, HoldsIn, Owned, WorldInvariant, names_of, held_of, NameState, key_of_entry, state_at, IsWorld, RestIsAWorld, NeedsPlace, was_woken, Within, woken_keys, of_line, ShowsLine, ShowsLines, KeysFit, Refines, AreUntold, AreTold}
+use Rattle.channel_world_runs.proofs.rest.Words.{among_counts, absent_counts, is_line, line_at, count_of, free_places, line_refl, decided, tasks_are, if◌then◌else◌, ◌≡◌, ◌≤◌, ◌+◌, ℕ, true, false, List, [], ◌++◌, length, Option, None, Some, IsSome, ◌⊎◌, inl, inr, refl, sym, ap, ◌∙◌, subst, arith, keys_of, Notice, Key, ListenerRef, WaitList, Sends, Receives, Streams, Closings, told_of, Any, count_append, Kind, Enough, times, times_in, Placed, AwakeIn, Waiting, same_waiter, is_among, untold, State, Waiter, ActiveCall, Configuration, IsAmong, waits, status, holding, keys, IsListed, Holder, named, calling, AnyOf, HoldsIn, Owned, WorldInvariant, names_of, held_of, NameState, key_of_entry, state_at, IsWorld, RestIsAWorld, WokenSound, of_line, ShowsLine, ShowsLines, KeysFit, Refines, AreUntold, AreSame}
 use Rattle.channel_steps.specs.every_run.Waits.{Waits}
 use Rattle.channel_calls.specs.Parts.{listeners}
 use Rattle.channel_steps.specs.every_run.Amounts.{total, HoldsListener}
@@ -10,13 +10,16 @@ use Rattle.channel_steps.specs.every_run.Sound.{WakeInvariant}
 use Rattle.channel_steps.specs.every_run.Streams.{AnswersFor}
 use Rattle.channel_world_runs.proofs.refinement.Calls.{calls_over}
 use Rattle.channel_steps.specs.Moments.{Shut}
-use Rattle.channel_world_runs.specs.OwnerWoken.{WokenAreTold}
-use Rattle.channel_world_runs.proofs.OwedCounts.{in_woken}
+use Rattle.channel_world_runs.specs.OwnerWoken.{IsMarked}
+use Rattle.channel_world_runs.proofs.NoLonger.{no_longer}
 use Rattle.channel_world_runs.proofs.OwnerLists.{among_left, among_right, none_parts}
 use Rattle.channel_world_runs.proofs.OwnerSteps.{named_is}
 use Rattle.channel_world_runs.proofs.rest.Lists.{same_entry, all_keys, Stand, named_all, stand_join, stand_length, stand_none, stand_once, stand_there, some_waits, stand_kind, are_untold, are_told}
 use Rattle.channel_world_runs.proofs.rest.Names.{on, same_held, Pends, line_is, holds_it, pends}
-use Rattle.channel_world_runs.proofs.rest.Woken.{within_all, stand_same, among_filter, by_lines, woken_waits, woken_stand}
+use Rattle.channel_world_runs.proofs.rest.Woken.{none_twice_times, by_lines}
+use Rattle.channel_world_runs.proofs.refinement.Names.{among_of_line, among_its_line}
+use Rattle.channel_world_runs.proofs.refinement.Standing.{times_of_line}
+use Rattle.channel_world_runs.proofs.OwnerOrderNames.{among_is, is_there}
 
 fits : (capacity : Option ℕ) (m t : ℕ) → HasPlaces capacity (m + t + 0) → free_places capacity m ≤ t
 fits None m t h = absurd h
@@ -26,17 +29,8 @@ module _ {T : Type 0} (b : NameState T) (s : Configuration T Waiter) (kept : Wor
   abbrev owned : Owned b s
   owned = kept.owned
 
-  abbrev order : List Waiter
-  order = b.order
-
-  woken : WokenAreTold b s
-  woken = let w = kept.woken in w.told
-
-  in_order : (line : WaitList) → Within (woken_keys line b.name_table order) (keys_of (told_of line s.now))
-  in_order = let o = kept.order in o.lines
-
-  has_place : (w : Waiter) → NeedsPlace (status b.name_table w) → IsAmong w order
-  has_place = let o = kept.order in o.placed
+  marks : WokenSound b s
+  marks = kept.woken
 
   abbrev sound : WakeInvariant s
   sound = kept.sound
@@ -53,7 +47,7 @@ module _ {T : Type 0} (b : NameState T) (s : Configuration T Waiter) (kept : Wor
   -- ---- who holds what
 
   abbrev Has : WaitList → Key → Waiter → Type 0
-  Has line key w = (is_woken : Bool) × (status b.name_table w ≡ waits (on line key) is_woken)
+  Has line key w = status b.name_table w ≡ waits (on line key)
 
   holder : (line : WaitList) (key : Key) → IsListed (on line key) s.now → (w : Waiter) × Has line key w
   holder line key i = let held = owned.held (on line key) i in by held.0 held.1
@@ -68,13 +62,13 @@ module _ {T : Type 0} (b : NameState T) (s : Configuration T Waiter) (kept : Wor
   one_name line key v w h g = named_is v w (owned.alone (named v) (named w) (on line key) h g)
 
   one_key : (line : WaitList) (w : Waiter) (j k : Key) → Has line j w → Has line k w → j ≡ k
-  one_key line w j k h g = ap (λ x. x.key) (same_held (on line j) (on line k) h.0 g.0 (sym h.1 ∙ g.1))
+  one_key line w j k h g = ap (λ x. x.key) (same_held (on line j) (on line k) (sym h ∙ g))
 
   of_its_line : (line : WaitList) (key : Key) (w : Waiter) → Has line key w → kind w ≡ Some line
-  of_its_line line key w h = line_is b.name_table w (on line key) h.0 h.1
+  of_its_line line key w h = line_is b.name_table w (on line key) h
 
   its_key : (line : WaitList) (key : Key) (w : Waiter) → Has line key w → held_of b.name_table w ≡ Some key
-  its_key line key w h = holds_it b.name_table w (on line key) h.0 h.1
+  its_key line key w h = holds_it b.name_table w (on line key) h
 
   told_names : (line : WaitList) → (ws : List Waiter) × Stand (Has line) (keys_of (told line)) ws
   told_names line = named_all (Has line) (keys_of (told line))
@@ -104,14 +98,16 @@ module _ {T : Type 0} (b : NameState T) (s : Configuration T Waiter) (kept : Wor
 
   -- whoever holds a waiting listener waits for his own name
   his_task : (line : WaitList) (e : Key × Option Waiter) (w : Waiter) → IsAmong e (waiting line) → Has line e.0 w → e.1 ≡ Some w
-  his_task line e w i (false, p) =
-      let parts = none_parts (keys_of (told line)) (keys_of (waiting line)) (owned.once line) in
-      let same : e ≡ (e.0, Some w) =
-      same_entry e (e.0, Some w) (waiting line) parts.right refl i (owned.unwoken w (on line e.0) p) in
-      ap (λ (x : Key × Option Waiter). x.1) same
-  his_task line e w i (true, p) =
-      let parts = none_parts (keys_of (told line)) (keys_of (waiting line)) (owned.once line) in
-      absurd (parts.apart e.0 (woken w (on line e.0) p) (key_of_entry e (waiting line) i))
+  his_task line e w i p = by (marks.stands w (on line e.0) p)
+    where
+      by : IsMarked w who.woken (on line e.0) s.now → e.1 ≡ Some w
+      by (inl m) =
+          let parts = none_parts (keys_of (told line)) (keys_of (waiting line)) (owned.once line) in
+          absurd (parts.apart e.0 m.1 (key_of_entry e (waiting line) i))
+      by (inr m) =
+          let parts = none_parts (keys_of (told line)) (keys_of (waiting line)) (owned.once line) in
+          let same : e ≡ (e.0, Some w) = same_entry e (e.0, Some w) (waiting line) parts.right refl i m.1 in
+          ap (λ (x : Key × Option Waiter). x.1) same
 
   are_waiting : (line : WaitList) → AreUntold (held_of b.name_table) (waiting line) (U line)
   are_waiting line =
@@ -121,25 +117,53 @@ module _ {T : Type 0} (b : NameState T) (s : Configuration T Waiter) (kept : Wor
   untold_are Sends = tasks_are (held_of b.name_table) (waiting Sends) (U Sends) (are_waiting Sends)
   untold_are line = tasks_are (held_of b.name_table) (waiting line) (U line) (are_waiting line)
 
-  -- the listener of whoever was told is one of those of the woken
-  told_woken : (line : WaitList) (key : Key) → IsAmong key (keys_of (told line)) → IsAmong key (woken_keys line b.name_table order)
-  told_woken line key i = by (holder line key (among_left key (keys_of (told line)) (keys_of (waiting line)) i))
-    where
-      by : (w : Waiter) × Has line key w → IsAmong key (woken_keys line b.name_table order)
-      by (w, (true, p)) = in_woken line key b.name_table w order (has_place w (inl (on line key, true, p))) p
-      by (w, (false, p)) =
-          let parts = none_parts (keys_of (told line)) (keys_of (waiting line)) (owned.once line) in
-          absurd (parts.apart key i (key_of_entry (key, Some w) (waiting line) (owned.unwoken w (on line key) p)))
+  once_woken : (w : Waiter) (line : WaitList) → times w (of_line kind line who.woken) ≤ 1
+  once_woken w line =
+      let all = none_twice_times w who.woken marks.once in omega (arith, all, times_of_line kind line w who.woken)
 
-  -- on each list those who were woken are just those who were told
-  woken_are : (line : WaitList) → of_line kind line who.woken ≡ D line
-  woken_are line =
+  once_told : (w : Waiter) (line : WaitList) → times w (D line) ≤ 1
+  once_told w line =
       let parts = none_parts (keys_of (told line)) (keys_of (waiting line)) (owned.once line) in
-      let same : woken_keys line b.name_table order ≡ keys_of (told line) =
-      within_all (woken_keys line b.name_table order) (keys_of (told line)) (in_order line) parts.left (told_woken line) in
-      let stand = woken_stand b.name_table kind line (λ w h g p. line_is b.name_table w h g p) order in
-      stand_same (Has line) (keys_of (told line)) (of_line kind line who.woken) (D line) (one_name line)
-      (subst (λ (ks : List Key). Stand (Has line) ks (of_line kind line who.woken)) same stand) (told_names line).1
+      stand_once (Has line) (keys_of (told line)) (D line) w parts.left (one_key line w) (told_names line).1
+
+  -- whoever was woken is pending
+  is_woken : (w : Waiter) → is_among w who.woken ≡ true → (h : ListenerRef) × (status b.name_table w ≡ waits h)
+  is_woken w i = marks.pending w (among_is w who.woken i)
+
+  -- and told
+  is_told : (w : Waiter) (line : WaitList) → is_among w (of_line kind line who.woken) ≡ true → 1 ≤ times w (D line)
+  is_told w line i =
+      let among = among_of_line kind line w who.woken i in
+      let h = is_woken w among.0 in
+      let same : Some h.0.line ≡ Some line = sym (line_is b.name_table w h.0 h.1) ∙ among.1 in
+      let there : h.0.line ≡ line = ap (λ (o : Option WaitList). elim o [ None ↦ line | Some l ↦ l ]) same in
+      let has : Has line h.0.key w = h.1 ∙ ap (λ (l : WaitList). waits (on l h.0.key)) there in
+      stand_there (Has line) (keys_of (told line)) (D line) w h.0.key (λ v g. one_name line h.0.key v w g has) (told_names line).1
+      (marked_told line h.0.key among.0 (marks.stands w (on line h.0.key) has))
+    where
+      marked_told : (line : WaitList) (key : Key) → is_among w who.woken ≡ true → IsMarked w who.woken (on line key) s.now
+          → IsAmong key (keys_of (told line))
+      marked_told line key among (inl m) = m.1
+      marked_told line key among (inr m) = absurd (m.0 (among_is w who.woken among))
+
+  -- and whoever is told was woken
+  not_told : (w : Waiter) (line : WaitList) → is_among w (of_line kind line who.woken) ≡ false → times w (D line) ≡ 0
+  not_told w line out = stand_none (Has line) (keys_of (told line)) (D line) w (told_names line).1
+      (λ key i p. by key i p (marks.stands w (on line key) p))
+    where
+      by : (key : Key) → IsAmong key (keys_of (told line)) → Has line key w → IsMarked w who.woken (on line key) s.now → ⊥
+      by key i p (inl m) =
+          cc (sym out ∙ (among_its_line kind line w who.woken (of_its_line line key w p) ∙ is_there w who.woken m.0))
+      by key i p (inr m) =
+          let parts = none_parts (keys_of (told line)) (keys_of (waiting line)) (owned.once line) in
+          parts.apart key i (key_of_entry (key, Some w) (waiting line) m.1)
+
+  -- on each list those who were told are just those who were woken
+  told_are : (line : WaitList) → AreSame (D line) (of_line kind line who.woken)
+  told_are line w = elim (decided (is_among w (of_line kind line who.woken))) [
+    | inl t ↦ omega (arith, is_told w line t, once_told w line, once_woken w line, among_counts w (of_line kind line who.woken) t)
+    | inr f ↦ omega (arith, not_told w line f, absent_counts w (of_line kind line who.woken) f)
+  ]
 
   -- ---- the lines
 
@@ -148,10 +172,12 @@ module _ {T : Type 0} (b : NameState T) (s : Configuration T Waiter) (kept : Wor
       record {
         untold = subst (λ (ws : List Waiter). AreUntold (held_of b.name_table) (waiting line) ws) (sym (untold_are line))
             (are_waiting line);
-        told = subst (λ (ws : List Waiter). AreTold (held_of b.name_table) s.now.queue.closed line (told line) ws)
-            (sym (woken_are line))
-            (are_told (Has line) (held_of b.name_table) (its_key line) s.now.queue.closed line (told line) (D line)
-            (sound.tellings.while_open line) (told_names line).1);
+        told = (
+          D line,
+          are_told (Has line) (held_of b.name_table) (its_key line) s.now.queue.closed line (told line) (D line)
+              (sound.tellings.while_open line) (told_names line).1,
+          told_are line,
+        );
       }
 
   shows_lines : ShowsLines kind (held_of b.name_table) s.now.queue.closed s.now.wait_lists who
@@ -191,13 +217,11 @@ module _ {T : Type 0} (b : NameState T) (s : Configuration T Waiter) (kept : Wor
 
   -- who was woken belongs to a line
   wakes : (w : Waiter) → is_among w who.woken ≡ true → IsSome (kind w)
-  wakes w i =
-      let h = woken_waits b.name_table w (among_filter (λ v. was_woken (status b.name_table v)) w order i) in
-      subst (λ (o : Option WaitList). IsSome o) (sym (line_is b.name_table w h.0 true h.1)) refl
+  wakes w i = let h = is_woken w i in subst (λ (o : Option WaitList). IsSome o) (sym (line_is b.name_table w h.0 h.1)) refl
 
   -- each list has the names of its line as often as they stand there
   times_woken : (w : Waiter) (line : WaitList) → times w (of_line kind line who.woken) ≡ times w (D line)
-  times_woken w line = ap (λ (ws : List Waiter). times w ws) (woken_are line)
+  times_woken w line = sym (told_are line w)
 
   times_untold : (w : Waiter) (line : WaitList) → times w (untold line who) ≡ times w (U line)
   times_untold w line = ap (λ (ws : List Waiter). times w ws) (untold_are line)
@@ -247,7 +271,7 @@ module _ {T : Type 0} (b : NameState T) (s : Configuration T Waiter) (kept : Wor
     where
       by : Pends (status b.name_table w) key → (line : WaitList) × Has line key w
       by (inl bad) = absurd (owned.none_amiss w bad)
-      by (inr h) = (h.0, (h.1, h.2))
+      by (inr h) = h
 
   keys_fit : KeysFit kind (held_of b.name_table) who
   keys_fit = record { holds = holds; apart = apart }
@@ -282,9 +306,13 @@ module _ {T : Type 0} (b : NameState T) (s : Configuration T Waiter) (kept : Wor
   abbrev many : ℕ
   many = length s.now.queue.items
 
-  told_many : (line : WaitList) → count_of kind line who.woken ≡ length (told line)
-  told_many line = ap (λ (ws : List Waiter). length ws) (woken_are line) ∙
-      (stand_length (Has line) (keys_of (told line)) (D line) (told_names line).1 ∙ all_keys (told line))
+  told_many : (line : WaitList) → length (told line) ≤ count_of kind line who.woken
+  told_many line =
+      let names : length (D line) ≡ length (told line) =
+      stand_length (Has line) (keys_of (told line)) (D line) (told_names line).1 ∙ all_keys (told line) in
+      let fewer : length (D line) ≤ count_of kind line who.woken = no_longer (D line) (of_line kind line who.woken) (λ w. once_told w line)
+      (λ w i. omega (arith, told_are line w, among_counts w (D line) i)) in
+      omega (arith, names, fewer)
 
   nobody_or : (line : WaitList) → (U line ≡ []) ⊎ ((key : Key) × Waits line key s.now)
   nobody_or line = some_waits (Has line) (waiting line) (U line) (waiting_names line).1
@@ -322,8 +350,8 @@ module _ {T : Type 0} (b : NameState T) (s : Configuration T Waiter) (kept : Wor
       by (inl none) = inl (untold_are Receives ∙ none)
       by (inr some) =
           let few : many ≤ length (told Receives) + 0 = receives_owed some.0 some.1 in
-          let same = told_many Receives in
-          inr (omega (arith, few, same))
+          let woken = told_many Receives in
+          inr (omega (arith, few, woken))
 
   sends_awake : s.now.queue.closed ≡ false → Enough kind Sends (free_places s.now.queue.capacity many) who
   sends_awake opened = by (nobody_or Sends)
@@ -335,8 +363,10 @@ module _ {T : Type 0} (b : NameState T) (s : Configuration T Waiter) (kept : Wor
       by : (U Sends ≡ []) ⊎ ((key : Key) × Waits Sends key s.now)
           → Enough kind Sends (free_places s.now.queue.capacity many) who
       by (inl none) = inl (untold_are Sends ∙ none)
-      by (inr some) = inr (subst (λ (n : ℕ). free_places s.now.queue.capacity many ≤ n) (sym (told_many Sends))
-          (enough (sends_owed some.0 some.1)))
+      by (inr some) =
+          let few = enough (sends_owed some.0 some.1) in
+          let woken = told_many Sends in
+          inr (omega (arith, few, woken))
 
   unbounded : s.now.queue.capacity ≡ None → who.sends ≡ []
   unbounded bare = untold_are Sends ∙ by (nobody_or Sends)

@@ -10,7 +10,7 @@ use Rattle.channel_calls.specs.declared.stage.WaitList.TheVariants as list
 use Rattle.channel_world_model.specs.Asked.{KeysHeld}
 use Rattle.channel_world_model.specs.Lines.{Waiting, same_waiter, untold}
 use Rattle.channel_world_model.specs.Laws.{is_line, line_at}
-use Rattle.channel_world_model.specs.Awake.{Kind, times_in}
+use Rattle.channel_world_model.specs.Awake.{Kind, times, times_in}
 use Rattle.channel_world_model.specs.State.{State}
 use Rattle.channel_world_model.specs.declared.name.Waiter.{Waiter}
 use Rattle.channel_calls.specs.declared.stage.WaitList.{WaitList}
@@ -42,18 +42,25 @@ IsToldSo Receives additional = additional ≡ true
 IsToldSo Streams additional = additional ≡ false
 IsToldSo Closings additional = ⊥
 
--- a told listener is this name; and told ones are these names, in the order in which they were told
+-- a told listener is this name; and told ones are these names one by one, or in any order
 abbrev pub ShowsTold : KeysHeld → Bool → WaitList → Key × Notice Unit → Waiter → Type 0
 ShowsTold held closed line e w = (held w ≡ Some e.0) × (closed ≡ false → IsToldSo line e.1.additional)
 
+abbrev pub AreToldInTurn : KeysHeld → Bool → WaitList → List (Key × Notice Unit) → List Waiter → Type 0
+AreToldInTurn held closed line es ws = AllZip (ShowsTold held closed line) es ws
+
+-- each name stands in both as often
+abbrev pub AreSame : List Waiter → List Waiter → Type 0
+AreSame vs ws = (w : Waiter) → times w vs ≡ times w ws
+
 abbrev pub AreTold : KeysHeld → Bool → WaitList → List (Key × Notice Unit) → List Waiter → Type 0
-AreTold held closed line es ws = AllZip (ShowsTold held closed line) es ws
+AreTold held closed line es ws = (vs : List Waiter) × AreToldInTurn held closed line es vs × AreSame vs ws
 
 -- those among these names who belong to the line
 abbrev pub of_line : Kind → WaitList → List Waiter → List Waiter
 of_line kind line ws = filter (λ w. is_line line (kind w)) ws
 
--- one list of listeners shows one line
+-- one list of listeners shows one line: its waiting ones in order, its told ones in any
 pub record ShowsLine (kind : Kind) (held : KeysHeld) (closed : Bool) (line : WaitList) (l : Listeners Waiter) (waiting : Waiting)
     : Type 0 where
   pub untold : AreUntold held l.waiting (untold line waiting)

@@ -5,7 +5,6 @@ use Rattle.channel_steps.specs.solo.Alone.{Outcome, Alone}
 use Rattle.channel_world_runs.specs.Bookkeeping.{asks}
 use Rattle.channel_world_runs.specs.WorldInvariant.{WorldInvariant}
 use Rattle.channel_world_runs.specs.Lone.{name_state_alone}
-use Rattle.channel_world_runs.specs.OwnerOrder.{woken_in}
 use Rattle.channel_world_runs.specs.Owners.{polled, status}
 use Rattle.channel_world_runs.specs.Refusal.{begin_refusal}
 use Rattle.channel_world_runs.specs.Run.{NameState}
@@ -50,7 +49,7 @@ LoneCallsAnswer T =
 abbrev pub PollsAnswer : Type 0 → Type 0
 PollsAnswer T =
     (b : NameState T) (s t : Configuration T Waiter) (w : Waiter) (o : Outcome T Waiter)
-    → WorldInvariant b s → b.agents ≡ [] → s.under_way ≡ [] → is_among w (woken_in b.name_table b.order) ≡ true
+    → WorldInvariant b s → b.agents ≡ [] → s.under_way ≡ [] → is_among w b.order.woken ≡ true
     → Alone (asks b.name_table (poll_of w)) s.now o → t.now ≡ o.channel
     → Answers (state_at b s) (poll_of w)
     (record { woken = o.woken; after = state_at (name_state_alone b (poll_of w) o) t; reply = o.reply })

@@ -3,7 +3,6 @@ use Rattle.std.specs.Prelude.{◌≡◌, [], None}
 use Rattle.event_listener.specs.Lists.{tasks_of}
 use Rattle.channel_steps.specs.solo.Alone.{Outcome, Alone}
 use Rattle.channel_world_runs.specs.WorldInvariant.{WorldInvariant}
-use Rattle.channel_world_runs.specs.OwnerOrder.{woken_in}
 use Rattle.channel_world_runs.specs.NameTable.{names_of, held_of}
 use Rattle.channel_world_runs.specs.Run.{NameState}
 use Rattle.channel_world_model.specs.Awake.{AwakeIn}
@@ -34,7 +33,7 @@ module _ {T : Type 0} where
       receives = tasks_of s.now.wait_lists.receives.waiting;
       streams = tasks_of s.now.wait_lists.streams.waiting;
       closings = tasks_of s.now.wait_lists.closings.waiting;
-      woken = woken_in b.name_table b.order;
+      woken = b.order.woken;
     };
   }
 

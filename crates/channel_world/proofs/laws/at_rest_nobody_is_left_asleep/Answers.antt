@@ -8,11 +8,10 @@ returns g c =
     let w = (world_state_of c.args.world.now) in
     let k = c.keeps_names.ensures.stands in
     let rests = c.a_channel_at_rest_is_a_world.ensures.as_in_the_world in
-    let apart = c.keeps_names.ensures.apart in
     record {
       state = left_at_rest w k rests;
-      receives = no_receive_left w k rests apart;
-      sends = no_send_left w k rests apart;
+      receives = no_receive_left w k rests;
+      sends = no_send_left w k rests;
       streams = no_stream_left w k rests;
       closing = left_on_a_closed w k rests;
     }

@@ -14,5 +14,5 @@ returns g c =
       calls = calls_at_rest w;
       messages = messages_at_rest w k;
       pending = pending_at_rest w k rests apart;
-      woken = woken_at_rest w k rests apart;
+      woken = woken_at_rest w k;
     }

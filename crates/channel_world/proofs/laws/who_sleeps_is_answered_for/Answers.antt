@@ -8,21 +8,20 @@ pub returns : goal.returns
 returns g c =
     let w = (world_state_of c.args.world.now) in
     let k = c.keeps_names.ensures.stands in
-    let apart = c.keeps_names.ensures.apart in
     record {
       owed = k.stands.owed;
-      receives = receives_answered w k apart;
-      sends = sends_answered w k apart;
-      streams = streams_answered w k apart;
-      closing = closing_answered w k apart;
-      receive_beside = no_receive_beside_a_message w k apart;
-      stream_beside = no_stream_beside_a_message w k apart;
-      beside_a_place = no_send_beside_a_place w k apart;
-      on_a_closed = nobody_on_a_closed w k apart;
-      awake = all_awake w k apart;
-      receive_by_kind = no_receive_sleeps w k apart;
-      send_by_kind = no_send_sleeps w k apart;
-      stream_by_kind = no_stream_sleeps w k apart;
-      closing_by_kind = none_where_closed w k apart;
-      line_by_line = a_line_awake w k apart;
+      receives = receives_answered w k;
+      sends = sends_answered w k;
+      streams = streams_answered w k;
+      closing = closing_answered w k;
+      receive_beside = no_receive_beside_a_message w k;
+      stream_beside = no_stream_beside_a_message w k;
+      beside_a_place = no_send_beside_a_place w k;
+      on_a_closed = nobody_on_a_closed w k;
+      awake = all_awake w k;
+      receive_by_kind = no_receive_sleeps w k;
+      send_by_kind = no_send_sleeps w k;
+      stream_by_kind = no_stream_sleeps w k;
+      closing_by_kind = none_where_closed w k;
+      line_by_line = a_line_awake w k;
     }

@@ -2,6 +2,7 @@
 use Rattle.std.proofs.Common.{sym}
 use Rattle.channel_world_runs.specs.Settle.{PollsAlone}
 use Rattle.channel_world_runs.proofs.Interface.{stands_led}
+use Rattle.channel_world_runs.specs.WorldState.{name_state_of}
 use Rattle.channel_world_runs.proofs.LoneFacts.{call_leads}
 use Rattle.channel_world_runs.proofs.WokenPolls.{woken_admitted}
 use Rattle.channel_world_model.specs.Settling.{poll_of}
@@ -31,7 +32,8 @@ invariant_of-self g c =
     = rw (sym (inside_is c.self.inside.world_state c.args.self.now c.self.view_is)) a.polled in
     stands_led old c.poll_alone.new.self _ c.keeps_names.ensures.stands
     (call_leads (poll_of c.args.name) old c.poll_alone.new.self c.poll_alone.result.reply p.woken c.requires.quiet
-    (woken_admitted old.name_table old.order c.args.name c.requires.woken) p.called)
+    (woken_admitted (name_state_of old) c.keeps_names.ensures.stands.configuration c.args.name c.keeps_names.ensures.stands.stands.kept.owned
+    c.keeps_names.ensures.stands.stands.kept.woken c.requires.woken) p.called)
 
 pub returns-clause-polled : goal.returns-clause-polled
 returns-clause-polled g c =
@@ -47,4 +49,5 @@ returns-clause-leads g c =
     let p : PollsAlone c.args.name old c.args.names.items c.poll_alone.result.reply c.poll_alone.result.names.items c.poll_alone.new.self
     = rw (sym (inside_is c.self.inside.world_state c.args.self.now c.self.view_is)) a.polled in
     call_leads (poll_of c.args.name) old c.poll_alone.new.self c.poll_alone.result.reply p.woken c.requires.quiet
-    (woken_admitted old.name_table old.order c.args.name c.requires.woken) p.called
+    (woken_admitted (name_state_of old) c.keeps_names.ensures.stands.configuration c.args.name c.keeps_names.ensures.stands.stands.kept.owned
+    c.keeps_names.ensures.stands.stands.kept.woken c.requires.woken) p.called

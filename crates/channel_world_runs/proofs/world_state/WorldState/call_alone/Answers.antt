@@ -20,6 +20,6 @@ returns-clause-ok g c =
     subst (λ (ws : List Waiter). CallsAlone c.args.call c.args.self.now c.finish.result.reply (drop (length ws) c.finish.result.woken.items) c.finish.new.self)
     c.in-Ok.ensures.items
     (is_called c.args.call c.args.self.now _ _ _ _ _ _ _ c.args.room c.finish.ensures c.in_ok-begun.ensures.ok
-    (on_ok _ _ c.if-is_err.ensures.value c.begin.ensures.ok) c.brings-brings.ensures c.requires.quiet
+    (λ s all. on_ok _ _ c.if-is_err.ensures.value c.begin.ensures.ok) c.brings-brings.ensures c.requires.quiet
     (brings_within c.args.call c.args.self.now (c.if-not-has_position.ensures.enough refl)) (omega (arith, start, c.in-Ok.ensures.capacity))
     c.requires.room)

@@ -3,10 +3,11 @@ use Rattle.channel_world_model.specs.Settling.{poll_of}
 use Rattle.channel_world_model.specs.declared.call.Call.{Call}
 use Rattle.channel_world_runs.specs.Bookkeeping.{BeginsByName}
 use Rattle.channel_world_runs.specs.Positions.{brings}
+use Rattle.channel_world_runs.specs.WorldState.{name_state_of}
 use Rattle.channel_world_runs.proofs.LoneFacts.{is_at_rest, is_called}
 use Rattle.channel_world_runs.proofs.NodeFacts.{is_ample}
 use Rattle.channel_world_runs.proofs.PollFacts.{Heard, names_heard}
-use Rattle.channel_world_runs.proofs.WokenPolls.{poll_keeps_order}
+use Rattle.channel_world_runs.proofs.WokenPolls.{poll_keeps_place}
 use Rattle.channel_world_runs.proofs.world_state.WorldState.poll_alone.Given.{Over}
 use Rattle.channel_world_runs.proofs.world_state.WorldState.poll_alone.Goals as goal
 
@@ -37,7 +38,7 @@ returns-clause-polled g c =
       names = h.names;
       called = is_called (poll_of c.args.name) old c.finish-reply.new.self _ _ _ _ _ c.finish-reply.result
           (vec_capacity c.args.names - vec_len c.args.names) c.finish-reply.ensures (begins g c)
-          (sym (poll_keeps_order old.name_table old.order c.args.name c.requires.woken))
+          (λ s all. c.rest.ensures ∙ poll_keeps_place (name_state_of old) s c.args.name all.woken c.requires.woken)
           (c.brings-brings.ensures ∙ ap (λ (x : Call g.row.T.Denot). brings old.name_table x) c.poll_of-poll.ensures)
           c.requires.quiet c.requires.limit (omega (arith, start)) c.requires.room;
     }
