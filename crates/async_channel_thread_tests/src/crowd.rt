@@ -4,7 +4,9 @@ use crate::checks::expect_equal;
 use crate::jobs::{Job, all_done};
 use crate::tally::Tally;
 use async_channel::{Receiver, Sender, TryRecvError};
-use channel_test_helpers::{Ends, next_message, next_of_stream, opened, sent};
+use channel_test_helpers::{Ends, opened};
+use futures::StreamExt;
+use futures::executor::block_on;
 use std::alloc::AllocGlobal;
 use std::random::RandomSource;
 use std::sync::Wait;
@@ -18,28 +20,24 @@ where
     R: Wait + Copy + RandomSource + AllocGlobal,
 {
     for i in 0..COUNT {
-        if !sent(rt, s, i) {
+        if !matches!(&block_on(&rt, s.send(i)), Ok(Ok(()))) {
             return false;
         }
     }
     true
 }
 
-/// Whether a message came and is noted.
-fn is_noted(message: Option<u64>, tally: &Tally) -> bool {
-    match message {
-        Some(number) => tally.note(number),
-        None => false,
-    }
-}
-
-/// Whether as many messages came as one thread sends.
+/// Whether as many messages came as one thread sends, and are noted.
 fn receive_all<R>(rt: R, r: &Receiver<u64, R>, tally: &Tally) -> bool
 where
     R: Wait + Copy + RandomSource + AllocGlobal,
 {
     for _ in 0..COUNT {
-        if !is_noted(next_message(rt, r), tally) {
+        let noted = match &block_on(&rt, r.recv()) {
+            Ok(Ok(message)) => tally.note(*message),
+            _ => false,
+        };
+        if !noted {
             return false;
         }
     }
@@ -52,12 +50,15 @@ where
     R: Wait + Copy + RandomSource + AllocGlobal,
 {
     let mut stream = own;
+    let mut right = true;
     for _ in 0..COUNT {
-        if !is_noted(next_of_stream(rt, &mut stream), tally) {
-            return false;
-        }
+        right = right
+            & match &block_on(&rt, stream.next()) {
+                Ok(Some(Ok(message))) => tally.note(*message),
+                _ => false,
+            };
     }
-    true
+    right
 }
 
 /// What one thread does with the messages of the crowd.
@@ -100,20 +101,30 @@ fn jobs_of_eight<'a, R: Wait + Copy + AllocGlobal>(
     Some(jobs)
 }
 
-/// Whether eight threads at once did what they were to do: each message came four times, and no other.
+/// Whether eight threads at once did what they were to do. `None` where memory or a handle was refused.
+fn all_did<R>(rt: R, ends: &Ends<R>, tally: &Tally, is_streamed: bool) -> Option<bool>
+where
+    R: Wait + Threads + Copy + RandomSource + AllocGlobal + Send + Sync,
+{
+    let jobs = jobs_of_eight(rt, ends, tally, is_streamed)?;
+    let done = all_done(rt, jobs).ok()?;
+    let mut right = done.len() == 8;
+    for each in done.iter() {
+        right = right & *each;
+    }
+    Some(right)
+}
+
+/// Whether they did, and each message came four times, and no other.
 fn each_four_times<R>(rt: R, capacity: usize, is_streamed: bool) -> Option<bool>
 where
     R: Wait + Threads + Copy + RandomSource + AllocGlobal + Send + Sync,
 {
     let tally = Tally::new(rt.alloc(), COUNT)?;
     let ends = opened(rt, rt.alloc(), capacity)?;
-    let jobs = jobs_of_eight(rt, &ends, &tally, is_streamed)?;
-    let done = all_done(rt, jobs).ok()?;
-    let mut right = done.len() == 8 && tally.all_are(4);
-    for each in done.iter() {
-        right = right & *each;
-    }
-    Some(right && ends.1.try_recv() == Err(TryRecvError::Empty))
+    let did = all_did(rt, &ends, &tally, is_streamed);
+    let is_empty = ends.1.try_recv() == Err(TryRecvError::Empty);
+    Some(did == Some(true) && tally.all_are(4) && is_empty)
 }
 
 #[test]

@@ -11,46 +11,25 @@ use std::thread;
 
 type Token = Arc<u64>;
 
-/// Sends tokens through a sender of its own.
+/// What one thread does with its handle or operation.
 #[derive(Drop)]
-struct SendTokens<'a, R: Wait + Copy> {
-    sender: Sender<Token, R>,
-    token: &'a Token,
-    task: MockTask,
+enum Work<'a, R: Wait + Copy> {
+    Send(Sender<Token, R>, &'a Token, MockTask),
+    Receive(Receiver<Token, R>, MockTask),
+    DropSend(Sending<'a, Token, R>),
+    DropReceiver(Receiver<Token, R>),
 }
 
-impl<R: Wait + Copy> Job<R> for SendTokens<'_, R> {
+impl<R: Wait + Copy> Job<R> for Work<'_, R> {
+    /// How many tokens were accepted or received, and how many displaced.
     type Done = (u64, u64);
 
     fn run(self, _rt: R) -> (u64, u64) {
-        send_tokens(&self.sender, self.token, &self.task)
-    }
-}
-
-/// Receives tokens through a receiver of its own.
-#[derive(Drop)]
-struct ReceiveTokens<R: Wait + Copy> {
-    receiver: Receiver<Token, R>,
-    task: MockTask,
-}
-
-impl<R: Wait + Copy> Job<R> for ReceiveTokens<R> {
-    type Done = u64;
-
-    fn run(self, _rt: R) -> u64 {
-        receive_tokens(&self.receiver, &self.task)
-    }
-}
-
-/// Drops this.
-#[derive(Drop)]
-struct Discard<T>(T);
-
-impl<R: Copy, T: Drop> Job<R> for Discard<T> {
-    type Done = ();
-
-    fn run(self, _rt: R) {
-        drop(self.0);
+        match self {
+            Work::Send(sender, token, task) => send_tokens(&sender, token, &task),
+            Work::Receive(receiver, task) => (receive_tokens(&receiver, &task), 0),
+            Work::DropSend(_) | Work::DropReceiver(_) => (0, 0),
+        }
     }
 }
 
@@ -114,18 +93,12 @@ fn each_message_is_let_go_once(rt: HostRuntime) {
     let (s, r) = bounded(rt, rt.alloc(), 2, &mut EventIds::new()).expect(&rt, "memory");
     let own_s = s.try_clone().expect(&rt, "handles");
     let own_r = r.try_clone().expect(&rt, "handles");
-    let ((accepted, displaced), received) = both(
+    let ((accepted, displaced), (received, _)) = both(
         rt,
-        SendTokens {
-            sender: own_s,
-            token: &token,
-            task: new_task(&rt),
-        },
-        ReceiveTokens {
-            receiver: own_r,
-            task: new_task(&rt),
-        },
-    );
+        Work::Send(own_s, &token, new_task(&rt)),
+        Work::Receive(own_r, new_task(&rt)),
+    )
+    .expect(&rt, "memory");
     let left = r.len();
     let gone = received.wrapping_add(displaced).wrapping_add(left as u64);
     expect_equal(&rt, &accepted, &gone);
@@ -149,7 +122,8 @@ fn a_pending_send_and_the_receiver_are_dropped_elsewhere(rt: HostRuntime) {
     let mut send = s.send(third);
     expect_true(&rt, new_task(&rt).poll(&mut send).is_pending());
     expect_equal(&rt, &Arc::strong_count(&token), &4);
-    both(rt, Discard(send), Discard(r));
+    let dropped = both(rt, Work::DropSend(send), Work::DropReceiver(r));
+    expect_true(&rt, dropped.is_some());
     expect_equal(&rt, &tries(&s, &token), &Some(false));
     expect_equal(&rt, &Arc::strong_count(&token), &3);
     drop(s);
@@ -167,7 +141,8 @@ fn two_last_receivers_are_dropped_at_once(rt: HostRuntime) {
         let task = new_task(&rt);
         let mut closed = s.closed();
         expect_true(&rt, task.poll(&mut closed).is_pending());
-        both(rt, Discard(r), Discard(other));
+        let dropped = both(rt, Work::DropReceiver(r), Work::DropReceiver(other));
+        expect_true(&rt, dropped.is_some());
         expect_equal(&rt, &(s.receiver_count(), s.is_closed()), &(0, true));
         expect_true(&rt, task.is_woken());
         expect_true(&rt, task.poll(&mut closed).is_ready());

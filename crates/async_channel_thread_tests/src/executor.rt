@@ -105,7 +105,7 @@ fn tasks_of_two_executors(rt: HostRuntime) {
                 sum: &sum,
             },
         );
-        expect_equal(&rt, &run, &(true, true));
+        expect_equal(&rt, &run, &Some((true, true)));
         let found = (sent.load(Ordering::SeqCst), sum.load(Ordering::SeqCst));
         expect_equal(&rt, &found, &(10, 55));
     }

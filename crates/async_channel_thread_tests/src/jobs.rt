@@ -1,14 +1,9 @@
-//! Threads that each do one job at once. A job is opaque to the functions here: the closures that threads run are proved once, over a type
-//! parameter, and their proofs don't grow with the types of the handles that a job has.
+//! Threads that each do one job at once. A job is opaque to the functions here: the one closure that threads run is proved once, over a type
+//! parameter, and its proof doesn't grow with the types of the handles that a job has. Jobs that are done together are of one type.
 
-ghost use denote.Param.Send.{IsSend, IsSync};
-
-use std::alloc::AllocError;
+use std::alloc::{AllocError, AllocGlobal};
 use std::thread;
 use std::thread::Threads;
-
-/// Two of each.
-pub(crate) type Pairs<X, Y> = ((X, X), (Y, Y));
 
 /// What one thread does.
 pub(crate) trait Job<R> {
@@ -37,39 +32,18 @@ where
     )
 }
 
-/// Does two jobs at once, in two threads: what came of each.
-pub(crate) fn both<R, A, B>(rt: R, first: A, second: B) -> (A::Done, B::Done)
+/// Does two jobs at once: what came of each. `None` where memory was refused.
+pub(crate) fn both<R, J>(rt: R, first: J, second: J) -> Option<(J::Done, J::Done)>
 where
-    R: Threads + Copy + Send + Sync,
-    A: Job<R> + Send + Drop,
-    B: Job<R> + Drop,
-    A::Done: Send,
+    R: Threads + AllocGlobal + Copy + Send + Sync,
+    J: Job<R> + Send + Drop,
+    J::Done: Send + Drop,
 {
-    thread::join(&rt, move || first.run(rt), move || second.run(rt))
-}
-
-/// Does two jobs of one kind and two of another at once, in four threads: what came of each.
-///
-/// The closures' clauses repeat the bounds by which a thread may start two more.
-pub(crate) fn both_pairs<R, A, B>(rt: R, first: (A, A), second: (B, B)) -> Pairs<A::Done, B::Done>
-where
-    R: Threads + Copy + Send + Sync,
-    A: Job<R> + Send + Drop,
-    B: Job<R> + Send + Drop,
-    A::Done: Send,
-    B::Done: Send,
-{
-    let (a, b) = first;
-    let (c, d) = second;
-    thread::join(
-        &rt,
-        move ||
-            requires { IsSync R.row × IsSend R.row × IsSend A.row × IsSend A.Done.row }
-            ensures { Unit }
-        { both(rt, a, b) },
-        move ||
-            requires { IsSync R.row × IsSend R.row × IsSend B.row × IsSend B.Done.row }
-            ensures { Unit }
-        { both(rt, c, d) },
-    )
+    let mut jobs = Vec::new(rt.alloc());
+    jobs.push(first).ok()?;
+    jobs.push(second).ok()?;
+    let mut done = all_done(rt, jobs).ok()?;
+    let second = done.pop()?;
+    let first = done.pop()?;
+    Some((first, second))
 }

@@ -2,13 +2,14 @@
 
 use crate::checks::{expect_equal, expect_true};
 use crate::jobs::{Job, both};
-use async_channel::{Calls, Receiver, Sender, Telling, TryRecvError, WaitList};
+use async_channel::{Calls, Telling, TryRecvError, WaitList};
 use channel_test_helpers::log::{
     Did, Log, close_logged, recv_blocking_logged, try_recv_logged, try_send_logged,
 };
 use channel_test_helpers::{Ends, opened};
-use std::alloc::Global;
+use std::alloc::{AllocGlobal, Global};
 use std::sync::Wait;
+use std::thread::Threads;
 
 /// Those who wait for a message are told.
 const SENT: [Did; 3] = [
@@ -39,12 +40,12 @@ const CLOSED: [Did; 5] = [
 /// Nothing came of it but the answer.
 const ASKED: [Did; 1] = [Did::Operated];
 
-/// A call that is made alone.
+/// A call of a channel.
 #[derive(Clone, Copy)]
 enum Call {
     Send,
     Receive,
-    /// A receive that would block.
+    /// A receive that blocks its thread.
     Wait,
     Close,
 }
@@ -62,8 +63,21 @@ const ALONE: [(Call, &[Did]); 9] = [
     (Call::Wait, &ASKED),
 ];
 
-/// What a call does to its channel. `None` of one with a bound, as everywhere here.
-fn log_of<R: Wait + Copy>(call: Call, ends: &Ends<R>, alloc: Global) -> Option<Log> {
+/// What a call came to: it was done, it found nothing to do, or it was refused.
+#[derive(Clone, Copy, PartialEq, Eq)]
+enum Came {
+    Done,
+    Idle,
+    Refused,
+}
+
+/// Done where this is so, and else this.
+fn done_or(is_done: bool, else_came: Came) -> Came {
+    if is_done { Came::Done } else { else_came }
+}
+
+/// What a call came to, and what it did to its channel. `None` of one with a bound, as everywhere here.
+fn log_of<R: Wait + Copy>(call: Call, ends: &Ends<R>, alloc: Global) -> Option<(Came, Log)> {
     let Calls::Traced(sends) = ends.0.calls() else {
         return None;
     };
@@ -72,10 +86,24 @@ fn log_of<R: Wait + Copy>(call: Call, ends: &Ends<R>, alloc: Global) -> Option<L
     };
     let log = Log::new(alloc);
     Some(match call {
-        Call::Send => try_send_logged(&sends, 7, log).1,
-        Call::Receive => try_recv_logged(&receives, log).1,
-        Call::Wait => recv_blocking_logged(&receives, log).1,
-        Call::Close => close_logged(&sends, log).1,
+        Call::Send => {
+            let (sent, log) = try_send_logged(&sends, 7, log);
+            (done_or(sent.is_ok(), Came::Refused), log)
+        }
+        Call::Receive => {
+            let (received, log) = try_recv_logged(&receives, log);
+            let is_empty = received == Err(TryRecvError::Empty);
+            let missed = if is_empty { Came::Idle } else { Came::Refused };
+            (done_or(received.is_ok(), missed), log)
+        }
+        Call::Wait => {
+            let (received, log) = recv_blocking_logged(&receives, log);
+            (done_or(received.is_ok(), Came::Refused), log)
+        }
+        Call::Close => {
+            let (closed, log) = close_logged(&sends, log);
+            (done_or(closed, Came::Idle), log)
+        }
     })
 }
 
@@ -83,130 +111,90 @@ fn log_of<R: Wait + Copy>(call: Call, ends: &Ends<R>, alloc: Global) -> Option<L
 fn logs_of_calls_alone(rt: HostRuntime) {
     let ends = opened(rt, rt.alloc(), 0).expect(&rt, "memory");
     for (call, lines) in ALONE {
-        let log = log_of(call, &ends, rt.alloc()).expect(&rt, "no bound");
+        let (_, log) = log_of(call, &ends, rt.alloc()).expect(&rt, "no bound");
         expect_true(&rt, log.has(lines));
     }
 }
 
-/// Whether a send wrote the lines of one that is accepted.
-fn log_send<R: Wait + Copy>(s: &Sender<u64, R>, alloc: Global) -> bool {
-    let Calls::Traced(channel) = s.calls() else {
-        return false;
-    };
-    let (sent, log) = try_send_logged(&channel, 7, Log::new(alloc));
-    drop(sent);
-    log.has(&SENT)
+/// Whether a receive that blocked ended as one by a message: it told one who waits for a place, and left no listener behind. A call that
+/// slept had asked for a task.
+fn ends_by_a_message(log: &Log) -> bool {
+    let lines = log.lines.as_slice();
+    let slept = lines.contains(&Did::Slept);
+    let parked = lines.contains(&Did::Parked);
+    let listened = lines.contains(&Did::Inserted(WaitList::Receives));
+    let last = lines.ends_with(&RECEIVED) || listened && lines.ends_with(&RECEIVED_LISTENING);
+    last && (parked || !slept)
 }
 
-/// How many calls each of two threads makes.
-const CALLS: u64 = 500;
-
-/// How many sends were refused, or wrote other lines than those of one that is accepted.
-fn log_sends<R: Wait + Copy>(s: &Sender<u64, R>, alloc: Global) -> u64 {
-    let Calls::Traced(channel) = s.calls() else {
-        return CALLS;
-    };
-    let mut wrong = 0u64;
-    for message in 0..CALLS {
-        let (sent, log) = try_send_logged(&channel, message, Log::new(alloc));
-        let right = sent.is_ok() && log.has(&SENT);
-        wrong = wrong.wrapping_add(u64::from(!right));
-        drop((sent, log));
+/// Whether a call that came to this wrote the lines of it, on a channel that is open at first and without a bound.
+fn is_right(call: Call, came: Came, log: &Log) -> bool {
+    match (call, came) {
+        (Call::Send, Came::Done) => log.has(&SENT),
+        (Call::Receive, Came::Done) => log.has(&RECEIVED),
+        (Call::Wait, Came::Done) => ends_by_a_message(log),
+        (Call::Close, Came::Done) => log.has(&CLOSED),
+        (_, Came::Idle) => log.has(&ASKED),
+        (_, Came::Refused) => false,
     }
-    wrong
 }
 
-/// How many receives wrote other lines than those of what they answered.
-fn log_receives<R: Wait + Copy>(r: &Receiver<u64, R>, alloc: Global) -> u64 {
-    let Calls::Traced(channel) = r.calls() else {
-        return CALLS;
-    };
-    let mut wrong = 0u64;
-    for _ in 0..CALLS {
-        let (received, log) = try_recv_logged(&channel, Log::new(alloc));
-        let right = match &received {
-            Ok(_) => log.has(&RECEIVED),
-            Err(TryRecvError::Empty) => log.has(&ASKED),
-            Err(TryRecvError::Closed) => false,
-        };
-        wrong = wrong.wrapping_add(u64::from(!right));
-        drop((received, log));
-    }
-    wrong
-}
-
-/// Makes sends that write what they did: how many were wrong.
+/// Makes so many calls, which write what they did.
 #[derive(Drop)]
-struct Sends<'a, R: Wait + Copy> {
-    sender: &'a Sender<u64, R>,
+struct Logged<'a, R: Wait + Copy> {
+    ends: &'a Ends<R>,
     alloc: Global,
+    call: Call,
+    calls: u64,
 }
 
-impl<R: Wait + Copy> Job<R> for Sends<'_, R> {
-    type Done = u64;
+impl<R: Wait + Copy> Job<R> for Logged<'_, R> {
+    /// How many of them were done, and how many were refused or wrote other lines than those of what they came to.
+    type Done = (u64, u64);
 
-    fn run(self, _rt: R) -> u64 {
-        log_sends(self.sender, self.alloc)
+    fn run(self, _rt: R) -> (u64, u64) {
+        let (mut done, mut wrong) = (0u64, 0u64);
+        for _ in 0..self.calls {
+            let (is_done, right) = match log_of(self.call, self.ends, self.alloc) {
+                Some((came, log)) => (came == Came::Done, is_right(self.call, came, &log)),
+                None => (false, false),
+            };
+            done = done.wrapping_add(u64::from(is_done));
+            wrong = wrong.wrapping_add(u64::from(!right));
+        }
+        (done, wrong)
     }
 }
 
-/// Makes receives that write what they did: how many were wrong.
-#[derive(Drop)]
-struct Receives<'a, R: Wait + Copy> {
-    receiver: &'a Receiver<u64, R>,
-    alloc: Global,
+/// Two threads at once on a channel of their own, each with so many of these calls: what came of each. `None` where memory was refused.
+fn logged_at_once<R>(rt: R, first: Call, second: Call, calls: u64) -> Option<[(u64, u64); 2]>
+where
+    R: Wait + Threads + Copy + AllocGlobal + Send + Sync,
+{
+    let ends = opened(rt, rt.alloc(), 0)?;
+    let job = Logged {
+        ends: &ends,
+        alloc: rt.alloc(),
+        call: first,
+        calls,
+    };
+    let other = Logged {
+        ends: &ends,
+        alloc: rt.alloc(),
+        call: second,
+        calls,
+    };
+    let (came, came_too) = both(rt, job, other)?;
+    Some([came, came_too])
 }
 
-impl<R: Wait + Copy> Job<R> for Receives<'_, R> {
-    type Done = u64;
-
-    fn run(self, _rt: R) -> u64 {
-        log_receives(self.receiver, self.alloc)
-    }
-}
-
-/// Two threads at once: each log is that of one call with its answer.
+/// Each log is that of one call with its answer.
 #[test]
 fn logs_of_calls_at_once(rt: HostRuntime) {
     for _ in 0..3u8 {
-        let (s, r) = opened(rt, rt.alloc(), 0).expect(&rt, "memory");
-        let wrong = both(
-            rt,
-            Sends {
-                sender: &s,
-                alloc: rt.alloc(),
-            },
-            Receives {
-                receiver: &r,
-                alloc: rt.alloc(),
-            },
-        );
-        expect_equal(&rt, &wrong, &(0, 0));
-    }
-}
-
-/// Whether a closing says that it closed the channel, and whether it wrote the lines of what it says.
-fn log_closing<R: Wait + Copy>(s: &Sender<u64, R>, alloc: Global) -> (bool, bool) {
-    let Calls::Traced(channel) = s.calls() else {
-        return (false, false);
-    };
-    let (closed, log) = close_logged(&channel, Log::new(alloc));
-    let lines: &[Did] = if closed { &CLOSED } else { &ASKED };
-    (closed, log.has(lines))
-}
-
-/// Makes a closing that writes what it did.
-#[derive(Drop)]
-struct Closing<'a, R: Wait + Copy> {
-    sender: &'a Sender<u64, R>,
-    alloc: Global,
-}
-
-impl<R: Wait + Copy> Job<R> for Closing<'_, R> {
-    type Done = (bool, bool);
-
-    fn run(self, _rt: R) -> (bool, bool) {
-        log_closing(self.sender, self.alloc)
+        let logged = logged_at_once(rt, Call::Send, Call::Receive, 500);
+        let [(sent, wrong), (_, wrong_too)] = logged.expect(&rt, "memory");
+        expect_equal(&rt, &(sent, wrong, wrong_too), &(500, 0, 0));
     }
 }
 
@@ -214,68 +202,9 @@ impl<R: Wait + Copy> Job<R> for Closing<'_, R> {
 #[test]
 fn logs_of_two_closings(rt: HostRuntime) {
     for _ in 0..100u8 {
-        let (s, r) = opened(rt, rt.alloc(), 0).expect(&rt, "memory");
-        let (first, second) = both(
-            rt,
-            Closing {
-                sender: &s,
-                alloc: rt.alloc(),
-            },
-            Closing {
-                sender: &s,
-                alloc: rt.alloc(),
-            },
-        );
-        let one_closed = first.0 != second.0;
-        expect_equal(&rt, &(one_closed, first.1, second.1), &(true, true, true));
-        drop(r);
-    }
-}
-
-/// Whether a receive that blocked ended by a message: it told one who waits for a place, and left no listener behind. A call that slept
-/// had asked for a task.
-fn log_receive_that_blocks<R: Wait + Copy>(r: &Receiver<u64, R>, alloc: Global) -> bool {
-    let Calls::Traced(channel) = r.calls() else {
-        return false;
-    };
-    let (received, log) = recv_blocking_logged(&channel, Log::new(alloc));
-    let lines = log.lines.as_slice();
-    let slept = lines.contains(&Did::Slept);
-    let parked = lines.contains(&Did::Parked);
-    let listened = lines.contains(&Did::Inserted(WaitList::Receives));
-    let last = lines.ends_with(&RECEIVED) || listened && lines.ends_with(&RECEIVED_LISTENING);
-    let came = received.is_ok();
-    drop((received, log));
-    came && last && (parked || !slept)
-}
-
-/// Makes a receive that blocks, and that writes what it did.
-#[derive(Drop)]
-struct BlockingReceive<'a, R: Wait + Copy> {
-    receiver: &'a Receiver<u64, R>,
-    alloc: Global,
-}
-
-impl<R: Wait + Copy> Job<R> for BlockingReceive<'_, R> {
-    type Done = bool;
-
-    fn run(self, _rt: R) -> bool {
-        log_receive_that_blocks(self.receiver, self.alloc)
-    }
-}
-
-/// Makes a send that writes what it did.
-#[derive(Drop)]
-struct OneSend<'a, R: Wait + Copy> {
-    sender: &'a Sender<u64, R>,
-    alloc: Global,
-}
-
-impl<R: Wait + Copy> Job<R> for OneSend<'_, R> {
-    type Done = bool;
-
-    fn run(self, _rt: R) -> bool {
-        log_send(self.sender, self.alloc)
+        let logged = logged_at_once(rt, Call::Close, Call::Close, 1);
+        let [(first, wrong), (second, wrong_too)] = logged.expect(&rt, "memory");
+        expect_equal(&rt, &(first ^ second, wrong, wrong_too), &(1, 0, 0));
     }
 }
 
@@ -283,18 +212,7 @@ impl<R: Wait + Copy> Job<R> for OneSend<'_, R> {
 #[test]
 fn logs_of_a_receive_that_blocks(rt: HostRuntime) {
     for _ in 0..100u8 {
-        let (s, r) = opened(rt, rt.alloc(), 0).expect(&rt, "memory");
-        let found = both(
-            rt,
-            BlockingReceive {
-                receiver: &r,
-                alloc: rt.alloc(),
-            },
-            OneSend {
-                sender: &s,
-                alloc: rt.alloc(),
-            },
-        );
-        expect_equal(&rt, &found, &(true, true));
+        let logged = logged_at_once(rt, Call::Wait, Call::Send, 1);
+        expect_equal(&rt, &logged, &Some([(1, 0), (1, 0)]));
     }
 }

@@ -18,7 +18,8 @@ use crate::jobs::{Job, both};
 use crate::pair_rows::PAIRS;
 use async_channel::{Receiver, Sender};
 use channel_test_helpers::calls::{MEMORY, polled, sender_says, write_received};
-use channel_test_helpers::{capacity_of, closes, opened, receives, sends, told_of_closing};
+use channel_test_helpers::{capacity_of, closes, opened, receives, sends};
+use futures::executor::block_on;
 use futures::test::MockTask;
 use std::alloc::{AllocError, AllocGlobal, Global};
 use std::random::RandomSource;
@@ -34,6 +35,9 @@ enum Hand<R: Wait + Copy> {
     Sender(Sender<u64, R>),
     Receiver(Receiver<u64, R>),
 }
+
+/// What a line with several calls answers; `ok` where there are fewer.
+type Answers = [Said; 4];
 
 /// The gates of a row, of which the first has this number.
 #[derive(Clone, Copy)]
@@ -54,48 +58,44 @@ impl RowGates<'_> {
     }
 }
 
+/// Both polls, whether the first was woken between them, and whether another wait was told.
 fn wait_for_closing<R>(
     rt: R,
     s: &Sender<u64, R>,
     gates: RowGates<'_>,
     words: &mut Words<'_>,
-    answer: &mut String,
-) -> Result<(), AllocError>
+) -> Answers
 where
     R: Wait + Copy + RandomSource + AllocGlobal,
 {
     let Ok(task) = MockTask::new(&rt) else {
-        return MEMORY.write(answer);
+        return [MEMORY; 4];
     };
     let mut closed = s.closed();
-    polled(closes(&task, &mut closed)).write(answer)?;
+    let first = polled(closes(&task, &mut closed));
     gates.open(&rt, words);
     gates.pass(&rt, words);
-    Said::flag(task.is_woken()).write(answer)?;
-    polled(closes(&task, &mut closed)).write(answer)?;
-    Said::flag(told_of_closing(rt, s)).write(answer)
+    let woken = Said::flag(task.is_woken());
+    let second = polled(closes(&task, &mut closed));
+    drop((closed, task));
+    let told = matches!(&block_on(&rt, s.closed()), Ok(Ok(())));
+    [first, woken, second, Said::flag(told)]
 }
 
-fn forget_send<R>(
-    rt: R,
-    s: &Sender<u64, R>,
-    gates: RowGates<'_>,
-    words: &mut Words<'_>,
-    answer: &mut String,
-) -> Result<(), AllocError>
+fn forget_send<R>(rt: R, s: &Sender<u64, R>, gates: RowGates<'_>, words: &mut Words<'_>) -> Answers
 where
     R: Wait + Copy + RandomSource + AllocGlobal,
 {
     let (Ok(task), Ok(other)) = (MockTask::new(&rt), s.try_clone()) else {
-        return MEMORY.write(answer);
+        return [MEMORY; 4];
     };
     let mut forgotten = s.send(words.number());
-    polled(sends(&task, &mut forgotten)).write(answer)?;
+    let first = polled(sends(&task, &mut forgotten));
     gates.open(&rt, words);
-    sender_says(rt, &other, "send_to_end", words).write(answer)?;
+    let said = sender_says(rt, &other, "send_to_end", words);
     gates.open(&rt, words);
     gates.pass(&rt, words);
-    Ok(())
+    [first, said, Said::Ok, Said::Ok]
 }
 
 fn forget_receive<R>(
@@ -103,20 +103,32 @@ fn forget_receive<R>(
     r: &Receiver<u64, R>,
     gates: RowGates<'_>,
     words: &mut Words<'_>,
-    answer: &mut String,
-) -> Result<(), AllocError>
+) -> Answers
 where
     R: Wait + Copy + RandomSource + AllocGlobal,
 {
     let (Ok(task), Ok(other)) = (MockTask::new(&rt), r.try_clone()) else {
-        return MEMORY.write(answer);
+        return [MEMORY; 4];
     };
     let mut forgotten = r.recv();
-    polled(receives(&task, &mut forgotten)).write(answer)?;
+    let first = polled(receives(&task, &mut forgotten));
     gates.open(&rt, words);
-    write_received(rt, &other, "recv_to_end", words, answer)?;
+    let said = match &block_on(&rt, other.recv()) {
+        Ok(Ok(message)) => Said::Both("received", *message),
+        _ => MEMORY,
+    };
     gates.open(&rt, words);
     gates.pass(&rt, words);
+    [first, said, Said::Ok, Said::Ok]
+}
+
+/// Writes these answers.
+fn write_all(said: Answers, answer: &mut String) -> Result<(), AllocError> {
+    for one in said {
+        if one != Said::Ok {
+            one.write(answer)?;
+        }
+    }
     Ok(())
 }
 
@@ -131,10 +143,16 @@ impl<R: Wait + Copy + RandomSource + AllocGlobal> Hand<R> {
         answer: &mut String,
     ) -> Result<(), AllocError> {
         match (self, verb) {
-            (Hand::Sender(s), "wait_for_closing") => wait_for_closing(rt, s, gates, words, answer),
-            (Hand::Sender(s), "forget_send") => forget_send(rt, s, gates, words, answer),
+            (Hand::Sender(s), "wait_for_closing") => {
+                write_all(wait_for_closing(rt, s, gates, words), answer)
+            }
+            (Hand::Sender(s), "forget_send") => {
+                write_all(forget_send(rt, s, gates, words), answer)
+            }
             (Hand::Sender(s), verb) => sender_says(rt, s, verb, words).write(answer),
-            (Hand::Receiver(r), "forget_receive") => forget_receive(rt, r, gates, words, answer),
+            (Hand::Receiver(r), "forget_receive") => {
+                write_all(forget_receive(rt, r, gates, words), answer)
+            }
             (Hand::Receiver(r), verb) => write_received(rt, r, verb, words, answer),
         }
     }
@@ -320,7 +338,8 @@ fn rows(rt: HostRuntime) {
             text: receives.as_str(),
             side: Side::new(rt, &place, receivers),
         },
-    );
+    )
+    .expect(&rt, "memory");
     expect_played(&rt, &sent, 19);
     expect_played(&rt, &received, 19);
 }

@@ -2,7 +2,7 @@
 //! pending whom a message or a place lets go on, and each message that was accepted was received once or is left.
 
 use crate::checks::expect_true;
-use crate::jobs::{Job, both_pairs};
+use crate::jobs::{Job, all_done};
 use crate::tally::Tally;
 use async_channel::{Receiver, Recv, Send as Sending, Sender};
 use channel_test_helpers::{Ends, Said, opened, receives, sends};
@@ -54,20 +54,28 @@ impl Went {
     }
 }
 
-/// What a sender had accepted, and its last send with its task.
+/// What one thread polls: sends from this message on, or receives.
 #[derive(Drop)]
-struct LastSend<'a, R: Wait + Copy> {
-    went: Went,
-    task: MockTask,
-    send: Sending<'a, u64, R>,
+enum Polls<'a, R: Wait + Copy> {
+    Sends(&'a Sender<u64, R>, u64, MockTask),
+    Receives(&'a Receiver<u64, R>, &'a Tally, MockTask),
 }
 
-/// What a receiver got, and its last receive with its task.
+/// An operation.
 #[derive(Drop)]
-struct LastRecv<'a, R: Wait + Copy> {
+enum Operation<'a, R: Wait + Copy> {
+    Send(Sending<'a, u64, R>),
+    Recv(Recv<'a, u64, R>),
+}
+
+/// What a thread had accepted or got, the first message of one that sends, its last operation with its task, and whether that is done.
+#[derive(Drop)]
+struct Last<'a, R: Wait + Copy> {
     went: Went,
+    from: u64,
     task: MockTask,
-    recv: Recv<'a, u64, R>,
+    operation: Operation<'a, R>,
+    is_done: bool,
 }
 
 /// A task for the next operation in the place of this one: whether one was to be had.
@@ -81,7 +89,7 @@ fn renews<R: RandomSource + AllocGlobal>(rt: &R, task: &mut MockTask) -> bool {
     }
 }
 
-fn poll_sends<R>(rt: R, s: &Sender<u64, R>, from: u64, task: MockTask) -> LastSend<'_, R>
+fn poll_sends<R>(rt: R, s: &Sender<u64, R>, from: u64, task: MockTask) -> Last<'_, R>
 where
     R: Wait + Copy + RandomSource + AllocGlobal,
 {
@@ -98,7 +106,13 @@ where
             thread::yield_now();
         }
     }
-    LastSend { went, task, send }
+    Last {
+        went,
+        from,
+        task,
+        operation: Operation::Send(send),
+        is_done: false,
+    }
 }
 
 fn poll_receives<'a, R>(
@@ -106,7 +120,7 @@ fn poll_receives<'a, R>(
     r: &'a Receiver<u64, R>,
     tally: &Tally,
     task: MockTask,
-) -> LastRecv<'a, R>
+) -> Last<'a, R>
 where
     R: Wait + Copy + RandomSource + AllocGlobal,
 {
@@ -123,62 +137,42 @@ where
             thread::yield_now();
         }
     }
-    LastRecv { went, task, recv }
-}
-
-/// Polls sends from this message on.
-#[derive(Drop)]
-struct PollSends<'a, R: Wait + Copy> {
-    sender: &'a Sender<u64, R>,
-    from: u64,
-    task: MockTask,
-}
-
-impl<'a, R: Wait + Copy + RandomSource + AllocGlobal> Job<R> for PollSends<'a, R> {
-    type Done = LastSend<'a, R>;
-
-    fn run(self, rt: R) -> LastSend<'a, R> {
-        poll_sends(rt, self.sender, self.from, self.task)
+    Last {
+        went,
+        from: 0,
+        task,
+        operation: Operation::Recv(recv),
+        is_done: false,
     }
 }
 
-/// Polls receives.
-#[derive(Drop)]
-struct PollReceives<'a, R: Wait + Copy> {
-    receiver: &'a Receiver<u64, R>,
-    tally: &'a Tally,
-    task: MockTask,
-}
+impl<'a, R: Wait + Copy + RandomSource + AllocGlobal> Job<R> for Polls<'a, R> {
+    type Done = Last<'a, R>;
 
-impl<'a, R: Wait + Copy + RandomSource + AllocGlobal> Job<R> for PollReceives<'a, R> {
-    type Done = LastRecv<'a, R>;
-
-    fn run(self, rt: R) -> LastRecv<'a, R> {
-        poll_receives(rt, self.receiver, self.tally, self.task)
+    fn run(self, rt: R) -> Last<'a, R> {
+        match self {
+            Polls::Sends(sender, from, task) => poll_sends(rt, sender, from, task),
+            Polls::Receives(receiver, tally, task) => poll_receives(rt, receiver, tally, task),
+        }
     }
 }
 
-/// Polls a send that was woken, unless it is done.
-fn settle_send<R: Wait + Copy>(sent: &mut LastSend<'_, R>, from: u64, done: &mut bool) {
-    if *done || !sent.task.is_woken() {
+/// Polls an operation that was woken, unless it is done.
+fn settle<R: Wait + Copy>(last: &mut Last<'_, R>, tally: &Tally) {
+    if last.is_done || !last.task.is_woken() {
         return;
     }
-    if sends(&sent.task, &mut sent.send) == Said::Done {
-        *done = true;
-        let count = sent.went.count;
-        sent.went.note(from.wrapping_add(count));
-    }
-}
-
-/// Polls a receive that was woken, unless it is done.
-fn settle_receive<R: Wait + Copy>(got: &mut LastRecv<'_, R>, tally: &Tally, done: &mut bool) {
-    if *done || !got.task.is_woken() {
-        return;
-    }
-    if let Said::Got(message) = receives(&got.task, &mut got.recv) {
-        *done = true;
-        got.went.note(message);
-        tally.note(message);
+    match &mut last.operation {
+        Operation::Send(send) => if sends(&last.task, send) == Said::Done {
+            last.is_done = true;
+            let message = last.from.wrapping_add(last.went.count);
+            last.went.note(message);
+        },
+        Operation::Recv(recv) => if let Said::Got(message) = receives(&last.task, recv) {
+            last.is_done = true;
+            last.went.note(message);
+            tally.note(message);
+        },
     }
 }
 
@@ -197,82 +191,59 @@ fn drain<R: Wait + Copy>(r: &Receiver<u64, R>, tally: &Tally) -> Went {
     left
 }
 
-/// Whether each message that was sent was received once or is left, and those of each sender went in order.
-fn adds_up(sent: [Went; 2], got: [Went; 2], left: Went, tally: &Tally) -> bool {
-    let ordered = got[0].right && got[1].right && left.right;
-    ordered && tally.are_once(sent[0].count, SECOND, sent[1].count)
-}
-
-/// The last operations of two who send and two who receive.
-#[derive(Drop)]
-struct Last<'a, R: Wait + Copy> {
-    sends: (LastSend<'a, R>, LastSend<'a, R>),
-    receives: (LastRecv<'a, R>, LastRecv<'a, R>),
-}
-
-/// Polls whom was woken until nobody is. Then nobody who isn't done could go on, and nothing was lost or doubled.
-fn settles<R: Wait + Copy>(last: &mut Last<'_, R>, r: &Receiver<u64, R>, tally: &Tally) -> bool {
-    let sent = &mut last.sends;
-    let got = &mut last.receives;
-    let mut done = [false; 4];
-    for _ in 0..100 {
-        settle_send(&mut sent.0, 0, &mut done[0]);
-        settle_send(&mut sent.1, SECOND, &mut done[1]);
-        settle_receive(&mut got.0, tally, &mut done[2]);
-        settle_receive(&mut got.1, tally, &mut done[3]);
+/// What is known of the last operations: whether each that isn't done was not woken, and has nothing that lets it go on; whether what went by
+/// each thread went in order; and how many messages each of two senders had accepted.
+fn rests<R: Wait + Copy>(all: &Vec<Last<'_, R>>, r: &Receiver<u64, R>) -> (bool, [u64; 2]) {
+    let (is_full, is_empty) = (r.is_full(), r.is_empty());
+    let mut right = all.len() == 4;
+    let (mut first, mut second) = (0u64, 0u64);
+    for last in all.iter() {
+        right = right && last.went.right && (last.is_done || !last.task.is_woken());
+        match &last.operation {
+            Operation::Send(_) => {
+                right = right && (last.is_done || is_full);
+                if last.from == SECOND {
+                    second = last.went.count;
+                } else {
+                    first = last.went.count;
+                }
+            }
+            Operation::Recv(_) => right = right && (last.is_done || is_empty),
+        }
     }
-    let senders_still = (done[0] || !sent.0.task.is_woken())
-        && (done[1] || !sent.1.task.is_woken());
-    let receivers_still = (done[2] || !got.0.task.is_woken())
-        && (done[3] || !got.1.task.is_woken());
-    let sends_rest = done[0] && done[1] || r.is_full();
-    let receives_rest = done[2] && done[3] || r.is_empty();
+    (right, [first, second])
+}
+
+/// Polls whom was woken until nobody is. Then nobody who isn't done could go on, and each message that was sent was received once or is left,
+/// those of each sender in order.
+fn settles<R: Wait + Copy>(
+    all: &mut Vec<Last<'_, R>>,
+    r: &Receiver<u64, R>,
+    tally: &Tally,
+) -> bool {
+    for _ in 0..100 {
+        for last in all.iter_mut() {
+            settle(last, tally);
+        }
+    }
+    let (right, [first, second]) = rests(all, r);
     let left = drain(r, tally);
-    let whole = adds_up(
-        [sent.0.went, sent.1.went],
-        [got.0.went, got.1.went],
-        left,
-        tally,
-    );
-    senders_still && receivers_still && sends_rest && receives_rest && whole
+    right && left.right && tally.are_once(first, SECOND, second)
 }
 
-/// A job that polls sends from this message on. Nothing where memory was refused.
-fn sends_from<R>(rt: R, sender: &Sender<u64, R>, from: u64) -> Option<PollSends<'_, R>>
-where
-    R: Wait + Copy + RandomSource + AllocGlobal,
-{
-    let task = MockTask::new(&rt).ok()?;
-    Some(PollSends { sender, from, task })
-}
-
-/// A job that polls receives. Nothing where memory was refused.
-fn receives_of<'a, R>(
-    rt: R,
-    receiver: &'a Receiver<u64, R>,
-    tally: &'a Tally,
-) -> Option<PollReceives<'a, R>>
-where
-    R: Wait + Copy + RandomSource + AllocGlobal,
-{
-    let task = MockTask::new(&rt).ok()?;
-    Some(PollReceives {
-        receiver,
-        tally,
-        task,
-    })
-}
-
-/// Two threads poll sends, and two poll receives: the last operations of each. Nothing where memory was refused.
-fn poll_all<'a, R>(rt: R, ends: &'a Ends<R>, tally: &'a Tally) -> Option<Last<'a, R>>
+/// Two threads poll sends, and two poll receives: the last operations of each. `None` where memory was refused.
+fn poll_all<'a, R>(rt: R, ends: &'a Ends<R>, tally: &'a Tally) -> Option<Vec<Last<'a, R>>>
 where
     R: Wait + Threads + Copy + RandomSource + AllocGlobal + Send + Sync,
 {
-    let (s, r) = (&ends.0, &ends.1);
-    let two_senders = (sends_from(rt, s, 0)?, sends_from(rt, s, SECOND)?);
-    let two_receivers = (receives_of(rt, r, tally)?, receives_of(rt, r, tally)?);
-    let (sends, receives) = both_pairs(rt, two_senders, two_receivers);
-    Some(Last { sends, receives })
+    let mut jobs = Vec::new(rt.alloc());
+    for from in [0, SECOND] {
+        let task = MockTask::new(&rt).ok()?;
+        jobs.push(Polls::Sends(&ends.0, from, task)).ok()?;
+        let task = MockTask::new(&rt).ok()?;
+        jobs.push(Polls::Receives(&ends.1, tally, task)).ok()?;
+    }
+    all_done(rt, jobs).ok()
 }
 
 #[test]

@@ -1,17 +1,15 @@
 //! A channel that is watched: the calls of all its handles, on whatever thread, are told to one log.
 
 use crate::checks::expect_equal;
+use crate::jobs::{Job, both};
 use async_channel::{
     EventIds, Receiver, Sender, Shown, Sight, Trace, Witness, bounded_watched, unbounded_watched,
 };
 use concurrent_queue::cells::Slot;
 use concurrent_queue::seen as queue;
 use std::alloc::AllocGlobal;
-use std::process::Abort;
-use std::random::RandomSource;
 use std::sync::Wait;
 use std::sync::atomic::{AtomicUsize, Ordering};
-use std::thread;
 use std::thread::Threads;
 
 /// How many calls began, how many operations were made on cells of the queue, how many sections were made on lists, and how often a count
@@ -115,22 +113,41 @@ impl Trace<u64> for Watcher<'_> {
 /// The first two handles of a channel that is watched.
 type Ends<'a, R> = (Sender<u64, R, Watcher<'a>>, Receiver<u64, R, Watcher<'a>>);
 
+/// A call that is made beside another one: a send, or a question for the count of senders.
+#[derive(Drop)]
+enum Call<'b, 'a, R: Wait + Copy> {
+    Send(&'b Sender<u64, R, Watcher<'a>>),
+    Count(&'b Receiver<u64, R, Watcher<'a>>),
+}
+
+impl<R: Wait + Copy> Job<R> for Call<'_, '_, R> {
+    type Done = usize;
+
+    /// The count, or 1 of a send that was accepted.
+    fn run(self, _rt: R) -> usize {
+        match self {
+            Call::Send(s) => usize::from(s.try_send(7).is_ok()),
+            Call::Count(r) => r.sender_count(),
+        }
+    }
+}
+
 /// What the calls answered: a send and a question at once, a send that was given up, a receive, and a closing.
-type Answers = ((bool, usize), Option<u64>, Option<u64>, bool);
+type Answers = (Option<(usize, usize)>, Option<u64>, Option<u64>, bool);
 
 /// What they answer: what was sent was received, one sender was counted, what was given up came back, and the channel was open.
-const ANSWERS: Answers = ((true, 1), Some(9), Some(7), true);
+const ANSWERS: Answers = (Some((1, 1)), Some(9), Some(7), true);
 
 /// Makes seven calls on a channel: a send that nobody polled is given up, a message is sent while the senders are counted, it is received,
 /// the channel is closed, and both handles are dropped. A receive that nobody polled is dropped too, which is no call: it has no listener.
 fn seven_calls<R>(rt: R, ends: Ends<'_, R>) -> Answers
 where
-    R: Wait + Threads + Copy + RandomSource + AllocGlobal + Abort + Send + Sync,
+    R: Wait + Threads + Copy + AllocGlobal + Send + Sync,
 {
     let (s, r) = ends;
     let unsent = s.send(9).give_up();
     drop(r.recv());
-    let at_once = thread::join(&rt, || s.try_send(7).is_ok(), || r.sender_count());
+    let at_once = both(rt, Call::Send(&s), Call::Count(&r));
     let (got, closed) = (r.try_recv().ok(), s.close());
     drop((s, r));
     (at_once, unsent, got, closed)

@@ -79,14 +79,36 @@ impl Ended {
     }
 }
 
-/// Waits for threads to end, and adds their logs to these.
-pub fn join_all<R: Threads>(
+/// What one thread does.
+pub trait Job<R> {
+    /// What comes of it.
+    type Done;
+
+    /// Does it.
+    fn run(self, rt: R) -> Self::Done;
+}
+
+/// Starts a thread with this job, and keeps its handle.
+pub fn start<R, J>(rt: R, job: J, started: &mut Vec<JoinHandle<J::Done>>) -> Result<(), Failure>
+where
+    R: Threads + Copy + Send + 'static,
+    J: Job<R> + Send + Drop + 'static,
+    J::Done: Send + Drop + 'static,
+{
+    match thread::spawn(&rt, move || job.run(rt)) {
+        Ok(one) => started.push(one).ok().ok_or(Failure::Memory),
+        Err(_) => Err(Failure::Thread),
+    }
+}
+
+/// Waits for threads to end, and adds what came of them to this.
+pub fn join_all<R: Threads, D: Drop>(
     rt: &R,
-    threads: Vec<JoinHandle<Log>>,
-    logs: &mut Vec<Log>,
+    threads: Vec<JoinHandle<D>>,
+    done: &mut Vec<D>,
 ) -> Result<(), Failure> {
     for thread in threads {
-        if logs.push(thread.join(rt)).is_err() {
+        if done.push(thread.join(rt)).is_err() {
             return Err(Failure::Memory);
         }
     }

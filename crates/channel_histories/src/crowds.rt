@@ -1,5 +1,5 @@
 //! More threads than processors send and receive through channels of each form, all messages being counted when they are received and
-//! when they are let go; a thousand tasks wait; ten thousand handles are made and dropped. A run in which nothing moves any more is
+//! when they are let go; ten thousand tasks wait; ten thousand handles are made and dropped. A run in which nothing moves any more is
 //! ended, and says what was under way then.
 
 mod clones;
@@ -64,7 +64,9 @@ where
     R: Wait + Threads + Copy + RandomSource + AllocGlobal + Print + Send + Sync,
 {
     let woken = waiting::wakes_each_once(rt, alloc) == Some(true);
-    println!(&rt; "a thousand tasks are woken in order, and each once: {woken}")?;
+    println!(&rt;
+        "of ten thousand that wait half leave, and the others are woken in order, each once: {woken}"
+    )?;
     let counted = clones::end_with_one(rt, alloc) == Some(true);
     println!(&rt; "ten thousand handles on eight threads leave one of each kind: {counted}")?;
     Ok(woken && counted)

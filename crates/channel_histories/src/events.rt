@@ -1,7 +1,7 @@
 //! A history over one event: threads listen, wait with a timeout or leave, and tell. Whoever a telling counts takes its notice, so
 //! as many are taken as were counted.
 
-use crate::crew::{Ended, Failure};
+use crate::crew::{Ended, Failure, Job, start};
 use crate::gate::Gate;
 use crate::random::Random;
 use async_channel::Runtime;
@@ -138,6 +138,22 @@ where
     tally
 }
 
+/// What one thread is given.
+#[derive(Drop)]
+struct Calls {
+    shared: Arc<Shared>,
+    thread: usize,
+    seed: u64,
+}
+
+impl<R: Wait + Clock + Copy> Job<R> for Calls {
+    type Done = Tally;
+
+    fn run(self, rt: R) -> Tally {
+        make_calls(rt, &self.shared, self.thread, self.seed)
+    }
+}
+
 /// Starts so many threads.
 fn start_all<R>(
     rt: R,
@@ -149,16 +165,19 @@ where
     R: Runtime + 'static,
 {
     for thread in 0..shared.threads {
-        let Ok(mine) = Arc::try_clone(shared) else {
+        let Ok(shared) = Arc::try_clone(shared) else {
             return Err(Failure::Memory);
         };
-        let work = move || make_calls(rt, &mine, thread as usize, seed);
-        let Ok(one) = thread::spawn(&rt, work) else {
-            return Err(Failure::Thread);
-        };
-        if started.push(one).is_err() {
-            return Err(Failure::Memory);
-        }
+        let thread = thread as usize;
+        start(
+            rt,
+            Calls {
+                shared,
+                thread,
+                seed,
+            },
+            started,
+        )?;
     }
     Ok(())
 }

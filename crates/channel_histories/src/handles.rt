@@ -1,9 +1,9 @@
 //! A history over the handles of one channel.
 
-use crate::crew::{Ended, Failure, Outcome, join_all, log_with_room};
+use crate::crew::{Ended, Failure, Outcome, join_all, log_with_room, start};
 use crate::form::Form;
 use crate::gate::Gate;
-use crate::job::{CALLS, Job, MOMENTS, Shared, may_block, run_job};
+use crate::job::{CALLS, MOMENTS, Shared, Work, may_block};
 use crate::party::{Hands, Kept};
 use crate::place::Place;
 use crate::referee::Referee;
@@ -15,7 +15,6 @@ use history_checker::plain::Plain;
 use std::alloc::{AllocGlobal, Global};
 use std::random::RandomSource;
 use std::sync::{Arc, Wait};
-use std::thread;
 use std::thread::JoinHandle;
 
 /// The two handles of a channel that was just opened.
@@ -43,7 +42,13 @@ fn new_place<R: RandomSource + AllocGlobal>(
 }
 
 /// The job of one thread; the referee sees its place.
-fn new_job<R>(rt: R, alloc: Global, referee: &mut Referee<R>, seed: u64) -> Option<Job<R>>
+fn new_job<R>(
+    rt: R,
+    alloc: Global,
+    shared: &Arc<Shared>,
+    referee: &mut Referee<R>,
+    seed: u64,
+) -> Option<Work<R>>
 where
     R: Wait + Copy + RandomSource + AllocGlobal,
 {
@@ -51,7 +56,8 @@ where
     let hands = Hands::of(&referee.sender, &referee.receiver)?;
     let stream = referee.receiver.try_clone().ok()?;
     let place = new_place(&rt, alloc, &mut referee.places)?;
-    Some(Job {
+    Some(Work {
+        shared: Arc::try_clone(shared).ok()?,
         thread,
         seed,
         place,
@@ -59,18 +65,6 @@ where
         kept: Kept::new(stream, alloc, CALLS)?,
         log: log_with_room(alloc, MOMENTS).ok()?,
     })
-}
-
-/// Starts a thread with this job.
-fn start<R>(rt: R, shared: &Arc<Shared>, job: Job<R>) -> Result<JoinHandle<Log>, Failure>
-where
-    R: Runtime + 'static,
-{
-    let Ok(shared) = Arc::try_clone(shared) else {
-        return Err(Failure::Memory);
-    };
-    let work = move || run_job(rt, &shared, job);
-    thread::spawn(&rt, work).ok().ok_or(Failure::Thread)
 }
 
 /// Starts so many threads. None of them makes a call before all have begun.
@@ -86,11 +80,8 @@ where
     R: Runtime + 'static,
 {
     for _ in 0..shared.threads {
-        let job = new_job(rt, alloc, referee, seed).ok_or(Failure::Memory)?;
-        let one = start(rt, shared, job)?;
-        if started.push(one).is_err() {
-            return Err(Failure::Memory);
-        }
+        let job = new_job(rt, alloc, shared, referee, seed).ok_or(Failure::Memory)?;
+        start(rt, job, started)?;
     }
     Ok(())
 }

@@ -1,6 +1,6 @@
 //! What a thread of a history over handles does.
 
-use crate::crew::Ended;
+use crate::crew::{Ended, Job};
 use crate::gate::Gate;
 use crate::leaving::{leave_receiving, leave_sending};
 use crate::party::{Hands, Kept, Party};
@@ -32,7 +32,8 @@ pub struct Shared {
 
 /// What a thread of a history is given.
 #[derive(Drop)]
-pub struct Job<R: Wait + Copy> {
+pub struct Work<R: Wait + Copy> {
+    pub shared: Arc<Shared>,
     pub thread: usize,
     pub seed: u64,
     pub place: Arc<Place>,
@@ -107,24 +108,28 @@ fn run_party<R: Wait + Copy>(
     make_calls(&rt, &mut party, shared, may_block(seed));
 }
 
-/// What one thread does: it drops its sender before its receiver, or after it.
-pub fn run_job<R: Wait + Copy>(rt: R, shared: &Shared, job: Job<R>) -> Log {
-    let Job {
-        thread,
-        seed,
-        place,
-        hands,
-        kept,
-        log,
-    } = job;
-    let mut log = log;
-    let message = first_message(thread);
-    let mut random = Random::new(seed, thread);
-    let sends_last = random.once_in(2);
-    run_party(
-        rt, shared, &hands, &place, kept, random, seed, message, &mut log,
-    );
-    leave(shared, hands, sends_last, message, &mut log);
-    shared.ended.note();
-    log
+impl<R: Wait + Copy> Job<R> for Work<R> {
+    type Done = Log;
+
+    /// What one thread does: it drops its sender before its receiver, or after it.
+    fn run(self, rt: R) -> Log {
+        let Work {
+            shared,
+            thread,
+            seed,
+            place,
+            hands,
+            kept,
+            mut log,
+        } = self;
+        let message = first_message(thread);
+        let mut random = Random::new(seed, thread);
+        let sends_last = random.once_in(2);
+        run_party(
+            rt, &shared, &hands, &place, kept, random, seed, message, &mut log,
+        );
+        leave(&shared, hands, sends_last, message, &mut log);
+        shared.ended.note();
+        log
+    }
 }

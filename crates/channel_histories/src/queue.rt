@@ -1,7 +1,7 @@
 //! A history over a queue that threads share.
 
 use crate::answers::{closed, forced_push, is_closed, popped, pushed};
-use crate::crew::{Ended, Failure, Outcome, join_all, log_with_room};
+use crate::crew::{Ended, Failure, Job, Outcome, join_all, log_with_room, start};
 use crate::form::Form;
 use crate::gate::Gate;
 use crate::random::Random;
@@ -115,6 +115,39 @@ fn open(alloc: Global, form: Form) -> Option<ConcurrentQueue<u64>> {
     }
 }
 
+/// What one thread is given.
+#[derive(Drop)]
+struct Calls {
+    shared: Arc<Shared>,
+    log: Log,
+    thread: usize,
+    seed: u64,
+}
+
+impl<R: Wait + Copy> Job<R> for Calls {
+    type Done = Log;
+
+    fn run(self, rt: R) -> Log {
+        let Calls {
+            shared,
+            log,
+            thread,
+            seed,
+        } = self;
+        make_calls(&rt, &shared, log, thread, seed)
+    }
+}
+
+/// What the thread of this number is given. `None` where memory was refused.
+fn new_calls(alloc: Global, shared: &Arc<Shared>, thread: usize, seed: u64) -> Option<Calls> {
+    Some(Calls {
+        shared: Arc::try_clone(shared).ok()?,
+        log: log_with_room(alloc, MOMENTS).ok()?,
+        thread,
+        seed,
+    })
+}
+
 /// Starts so many threads.
 fn start_all<R>(
     rt: R,
@@ -127,19 +160,8 @@ where
     R: Runtime + 'static,
 {
     for thread in 0..shared.threads {
-        let Ok(mine) = Arc::try_clone(shared) else {
-            return Err(Failure::Memory);
-        };
-        let Ok(log) = log_with_room(alloc, MOMENTS) else {
-            return Err(Failure::Memory);
-        };
-        let work = move || make_calls(&rt, &mine, log, thread as usize, seed);
-        let Ok(one) = thread::spawn(&rt, work) else {
-            return Err(Failure::Thread);
-        };
-        if started.push(one).is_err() {
-            return Err(Failure::Memory);
-        }
+        let calls = new_calls(alloc, shared, thread as usize, seed).ok_or(Failure::Memory)?;
+        start(rt, calls, started)?;
     }
     Ok(())
 }

@@ -29,17 +29,26 @@ mod witnesses;
 
 use async_channel::Runtime;
 use event_listener::EventIds;
+use std::alloc::Global;
 use std::io;
 use std::process::ExitCode;
 
-/// Queues, an event, a list of listeners, and channels by their handles. False where one came to no number. It may wait.
-fn show<R: Runtime + Print>(rt: R, ids: &mut EventIds) -> io::Result<bool> {
-    let alloc = rt.alloc();
-    let lines = [
+/// What an example is called, and the number that it came to, if it came to one.
+type Line = (&'static str, Option<u64>);
+
+/// Queues, an event and a list of listeners.
+fn below_channels<R: Runtime>(rt: R, alloc: Global, ids: &mut EventIds) -> [Line; 4] {
+    [
         ("a queue between two threads", shared_queue::came(rt, alloc)),
         ("a queue of one owner", one_owner::first(1, alloc)),
         ("an event", waiting::taken(rt, alloc, ids)),
         ("a semaphore", semaphore::order(alloc)),
+    ]
+}
+
+/// What programs of two and three threads do with channels.
+fn patterns<R: Runtime>(rt: R, alloc: Global, ids: &mut EventIds) -> [Line; 7] {
+    [
         ("two threads", two_threads::sum(rt, alloc, ids)),
         ("worker pool", pool::sum(rt, alloc, ids)),
         ("request and reply", request::sum(rt, alloc, ids)),
@@ -47,6 +56,12 @@ fn show<R: Runtime + Print>(rt: R, ids: &mut EventIds) -> io::Result<bool> {
         ("actor", actor::sum(rt, alloc, ids)),
         ("two receivers", choose::sum(rt, alloc, ids)),
         ("orders", orders::portions(rt, alloc, ids)),
+    ]
+}
+
+/// What one call or two are for.
+fn single_tasks<R: Runtime>(rt: R, alloc: Global, ids: &mut EventIds) -> [Line; 6] {
+    [
         ("one source of identities", identities::count(rt, alloc)),
         ("stream", stream::sum(rt, alloc, ids)),
         ("several at once", several::sum(rt, alloc, ids)),
@@ -56,23 +71,43 @@ fn show<R: Runtime + Print>(rt: R, ids: &mut EventIds) -> io::Result<bool> {
             "time limits",
             timeouts::refused_and_received(rt, alloc, ids),
         ),
+    ]
+}
+
+/// Operations that are given up, a hub, the calls by name, and what witnesses show.
+fn calls_and_witnesses<R: Runtime>(rt: R, alloc: Global, ids: &mut EventIds) -> [Line; 4] {
+    [
         ("giving up", cancel::right(rt, alloc, ids)),
         ("hub", hub::reached(rt, alloc, ids)),
         ("single calls", calls::right(rt, alloc, ids)),
         ("witnesses", witnesses::came(rt, alloc, ids)),
-    ];
+    ]
+}
+
+/// Prints these. False where one came to no number.
+fn print_all<R: Print>(rt: &R, lines: &[Line]) -> io::Result<bool> {
     for (name, number) in lines {
         let Some(number) = number else {
             return Ok(false);
         };
-        println!(&rt; "{name}: {number}")?;
+        println!(rt; "{name}: {number}")?;
     }
     Ok(true)
 }
 
+/// Makes and prints all examples, but for the clients of waybills. False where one came to no number. It may wait.
+fn show<R: Runtime + Print>(rt: R, alloc: Global, ids: &mut EventIds) -> io::Result<bool> {
+    Ok(
+        print_all(&rt, &below_channels(rt, alloc, ids))?
+            && print_all(&rt, &patterns(rt, alloc, ids))?
+            && print_all(&rt, &single_tasks(rt, alloc, ids))?
+            && print_all(&rt, &calls_and_witnesses(rt, alloc, ids))?,
+    )
+}
+
 fn main(rt: HostRuntime) -> io::Result<ExitCode> {
     let mut ids = EventIds::new();
-    let all = show(rt, &mut ids)? && waybills::show(rt, rt.alloc(), &mut ids)?;
+    let all = show(rt, rt.alloc(), &mut ids)? && waybills::show(rt, rt.alloc(), &mut ids)?;
     Ok(if all {
         ExitCode::SUCCESS
     } else {

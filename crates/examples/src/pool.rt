@@ -45,18 +45,26 @@ fn work_all<R: Runtime>(rt: R, workers: Vec<(Receiver<u64, R>, Sender<u64, R>)>)
     Some(done)
 }
 
-/// That sum where three workers do the jobs.
-pub(crate) fn sum<R: Runtime>(rt: R, alloc: Global, ids: &mut EventIds) -> Option<u64> {
-    let (jobs, todo) = bounded(rt, alloc, 4, ids).ok()?;
-    let (done, results) = bounded(rt, alloc, 4, ids).ok()?;
+/// What three workers have each: a receiver of jobs and a sender of results. They alone have these, so with the last of them the results
+/// end, and jobs are refused.
+fn workers<R: Wait + Copy>(
+    alloc: Global,
+    todo: Receiver<u64, R>,
+    done: Sender<u64, R>,
+) -> Option<Vec<(Receiver<u64, R>, Sender<u64, R>)>> {
     let mut workers = Vec::new(alloc);
     for _ in 0..3 {
         let worker = (todo.try_clone().ok()?, done.try_clone().ok()?);
         workers.push(worker).ok()?;
     }
-    // The workers alone have these: with the last of them the results end, and jobs are refused.
-    drop(todo);
-    drop(done);
+    Some(workers)
+}
+
+/// That sum where three workers do the jobs.
+pub(crate) fn sum<R: Runtime>(rt: R, alloc: Global, ids: &mut EventIds) -> Option<u64> {
+    let (jobs, todo) = bounded(rt, alloc, 4, ids).ok()?;
+    let (done, results) = bounded(rt, alloc, 4, ids).ok()?;
+    let workers = workers(alloc, todo, done)?;
     let (given, worked, sum) = join_three(
         &rt,
         move || give(jobs),

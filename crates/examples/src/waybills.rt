@@ -3,7 +3,6 @@
 pub mod handles;
 pub mod line;
 pub mod ordered;
-pub mod pipeline;
 pub mod pool;
 pub mod relay;
 pub mod sums;
@@ -61,7 +60,6 @@ fn print_lines<R: Threads + Wait + Copy + Send + Sync + Print>(
 struct Came {
     relayed: usize,
     pooled: usize,
-    piped: usize,
     received: u64,
     back: u64,
 }
@@ -75,12 +73,10 @@ fn over_channels<R: Threads + Wait + Copy + Send + Sync + RandomSource + AllocGl
     let all = [3, 1, 4, 1, 5, 9, 2, 6, 5, 3];
     let relayed = relay::relay(rt, alloc, ids, 2, &all)?.len();
     let pooled = pool::pool(rt, alloc, ids, &all)?.len();
-    let piped = pipeline::pipeline(rt, alloc, ids, &all)?.len();
     let (received, back) = handles::each_way(rt, alloc, ids)?;
     Some(Came {
         relayed,
         pooled,
-        piped,
         received,
         back,
     })
@@ -90,7 +86,6 @@ fn over_channels<R: Threads + Wait + Copy + Send + Sync + RandomSource + AllocGl
 fn print_channels<R: Print>(rt: &R, came: Came) -> io::Result<()> {
     println!(rt; "waybills, relay: {}", came.relayed)?;
     println!(rt; "waybills, pool: {}", came.pooled)?;
-    println!(rt; "waybills, pipeline: {}", came.piped)?;
     println!(rt; "waybills, each way, received: {}", came.received)?;
     println!(rt; "waybills, each way, taken back: {}", came.back)
 }

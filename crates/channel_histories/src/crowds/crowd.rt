@@ -1,15 +1,15 @@
 //! Crowds: more threads than processors, which send and receive through one channel.
 
+use crate::crew::start;
 use crate::crowds::token::Token;
 use crate::crowds::watch::Watch;
-use crate::crowds::work::{Got, Job, Receiving, Sending, Sent, receive_all, send_all};
+use crate::crowds::work::{Counts, Orders, Plan, Receives, Receiving, Sending, Sends};
 use async_channel::{Receiver, Sender, TryRecvError, bounded, unbounded};
 use event_listener::id::EventIds;
 use std::alloc::{AllocGlobal, Global};
 use std::random::RandomSource;
 use std::rt::Clock;
 use std::sync::{Arc, Wait};
-use std::thread;
 use std::thread::{JoinHandle, Threads};
 
 /// How large a crowd is.
@@ -86,9 +86,9 @@ fn receiving(kind: Kind, number: usize) -> Receiving {
 }
 
 /// What the sender of this number is to do.
-fn job(kind: Kind, size: Size, number: usize) -> Job {
+fn plan(kind: Kind, size: Size, number: usize) -> Plan {
     let closes = kind == Kind::Closes && number == 0;
-    Job {
+    Plan {
         from: number,
         messages: size.messages,
         way: sending(kind, number),
@@ -108,57 +108,27 @@ fn open<R: Wait + Copy>(rt: R, alloc: Global, capacity: usize) -> Option<Ends<R>
     }
 }
 
-/// Starts a thread that sends.
-fn start_sender<R>(
-    rt: R,
-    sender: &Sender<Token, R>,
-    watch: &Arc<Watch>,
-    job: Job,
-) -> Option<JoinHandle<Sent>>
-where
-    R: Wait + Threads + Copy + RandomSource + AllocGlobal + Send + Sync + 'static,
-{
-    let mine = sender.try_clone().ok()?;
-    let seen = Arc::try_clone(watch).ok()?;
-    thread::spawn(&rt, move || send_all(rt, mine, &seen, job)).ok()
-}
-
 /// Starts the threads that send.
 fn start_senders<R>(
     rt: R,
-    alloc: Global,
     sender: &Sender<Token, R>,
     watch: &Arc<Watch>,
     size: Size,
     kind: Kind,
-) -> Option<Vec<JoinHandle<Sent>>>
+    started: &mut Vec<JoinHandle<Counts>>,
+) -> Option<()>
 where
     R: Wait + Threads + Copy + RandomSource + AllocGlobal + Send + Sync + 'static,
 {
-    let mut started = Vec::new(alloc);
     for number in 0..size.senders {
-        let job = job(kind, size, number);
-        started.push(start_sender(rt, sender, watch, job)?).ok()?;
+        let sends = Sends {
+            sender: sender.try_clone().ok()?,
+            watch: Arc::try_clone(watch).ok()?,
+            plan: plan(kind, size, number),
+        };
+        start(rt, sends, started).ok()?;
     }
-    Some(started)
-}
-
-/// Starts a thread that receives.
-fn start_receiver<R>(
-    rt: R,
-    alloc: Global,
-    receiver: &Receiver<Token, R>,
-    watch: &Arc<Watch>,
-    senders: usize,
-    way: Receiving,
-) -> Option<JoinHandle<Got>>
-where
-    R: Wait + Threads + Copy + RandomSource + AllocGlobal + Send + Sync + 'static,
-{
-    let mine = receiver.try_clone().ok()?;
-    let seen = Arc::try_clone(watch).ok()?;
-    let work = move || receive_all(rt, mine, &seen, senders, alloc, way);
-    thread::spawn(&rt, work).ok()
+    Some(())
 }
 
 /// Starts the threads that receive.
@@ -169,40 +139,35 @@ fn start_receivers<R>(
     watch: &Arc<Watch>,
     size: Size,
     kind: Kind,
-) -> Option<Vec<JoinHandle<Got>>>
+    started: &mut Vec<JoinHandle<Counts>>,
+) -> Option<()>
 where
     R: Wait + Threads + Copy + RandomSource + AllocGlobal + Send + Sync + 'static,
 {
-    let mut started = Vec::new(alloc);
     for number in 0..size.receivers {
-        let way = receiving(kind, number);
-        let one = start_receiver(rt, alloc, receiver, watch, size.senders, way)?;
-        started.push(one).ok()?;
+        let receives = Receives {
+            receiver: receiver.try_clone().ok()?,
+            watch: Arc::try_clone(watch).ok()?,
+            way: receiving(kind, number),
+            orders: Orders::new(alloc, size.senders)?,
+        };
+        start(rt, receives, started).ok()?;
     }
-    Some(started)
-}
-
-/// The threads of a crowd.
-#[derive(Drop)]
-struct Started {
-    senders: Vec<JoinHandle<Sent>>,
-    receivers: Vec<JoinHandle<Got>>,
+    Some(())
 }
 
 /// Adds up what the threads did, which have all ended.
-fn add_up<R: Threads>(rt: &R, watch: &Watch, started: Started) -> End {
-    let Started { senders, receivers } = started;
-    let (mut accepted, mut displaced, mut received, mut in_order) = (0u64, 0u64, 0u64, true);
-    for sender in senders {
-        let sent = sender.join(rt);
-        accepted = accepted.wrapping_add(sent.accepted);
-        displaced = displaced.wrapping_add(sent.displaced);
+fn add_up<R: Threads>(rt: &R, watch: &Watch, started: Vec<JoinHandle<Counts>>) -> End {
+    let mut all = Counts::none();
+    for one in started {
+        all = all.plus(one.join(rt));
     }
-    for receiver in receivers {
-        let got = receiver.join(rt);
-        received = received.wrapping_add(got.received);
-        in_order = in_order && got.in_order;
-    }
+    let Counts {
+        accepted,
+        displaced,
+        received,
+        in_order,
+    } = all;
     let (made, gone) = (watch.made.get(), watch.gone.get());
     if in_order && made == gone && accepted == received.wrapping_add(displaced) {
         End::Right
@@ -216,24 +181,6 @@ fn add_up<R: Threads>(rt: &R, watch: &Watch, started: Started) -> End {
             in_order,
         }
     }
-}
-
-/// Starts all threads of a crowd.
-fn start<R>(
-    rt: R,
-    alloc: Global,
-    ends: &Ends<R>,
-    watch: &Arc<Watch>,
-    size: Size,
-    kind: Kind,
-) -> Option<Started>
-where
-    R: Wait + Threads + Copy + RandomSource + AllocGlobal + Send + Sync + 'static,
-{
-    let (sender, receiver) = ends;
-    let receivers = start_receivers(rt, alloc, receiver, watch, size, kind)?;
-    let senders = start_senders(rt, alloc, sender, watch, size, kind)?;
-    Some(Started { senders, receivers })
 }
 
 /// Waits until all messages have left the channel, unless a sender closes it in the midst. False once nothing moves.
@@ -280,7 +227,9 @@ where
 {
     let watch = Arc::new(alloc, Watch::new()).ok()?;
     let ends = open(rt, alloc, capacity)?;
-    let started = start(rt, alloc, &ends, &watch, size, kind)?;
+    let mut started = Vec::new(alloc);
+    start_receivers(rt, alloc, &ends.1, &watch, size, kind, &mut started)?;
+    start_senders(rt, &ends.0, &watch, size, kind, &mut started)?;
     let asleep = see_end(rt, ends, &watch, size, kind);
     if asleep.is_some() {
         return asleep;

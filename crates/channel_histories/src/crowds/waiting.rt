@@ -1,4 +1,4 @@
-//! A thousand tasks that wait on one thread: who is woken, in which order, and how often.
+//! Ten thousand tasks that wait on one thread: who is woken, in which order, and how often, where half of those that receive are dropped.
 
 use async_channel::{Closed, Receiver, Recv, Sender, unbounded};
 use event_listener::id::EventIds;
@@ -10,10 +10,10 @@ use std::rt::Clock;
 use std::sync::Wait;
 use std::time::Instant;
 
-/// How many receive, and how many wait for the closing; and how many messages come.
-const TASKS: usize = 1_000;
+/// How many receive, of which every other one is dropped while it waits, and how many wait for the closing; and how many messages come.
+const TASKS: usize = 10_000;
 
-const MESSAGES: u64 = 500;
+const MESSAGES: u64 = 2_500;
 
 /// How many messages are timed.
 const TIMED: u64 = 10;
@@ -32,8 +32,21 @@ struct Closing<'a, R: Wait + Copy> {
     closed: Closed<'a, u64, R>,
 }
 
+/// A task whose receive is pending.
+fn receive<'a, R>(rt: &R, receiver: &'a Receiver<u64, R>) -> Option<Receiving<'a, R>>
+where
+    R: Wait + Copy + RandomSource + AllocGlobal,
+{
+    let task = MockTask::new(rt).ok()?;
+    let mut recv = receiver.recv();
+    if task.poll(&mut recv).is_ready() {
+        return None;
+    }
+    Some(Receiving { task, recv })
+}
+
 /// So many tasks whose receives are pending.
-fn receive<'a, R>(
+fn receive_all<'a, R>(
     rt: &R,
     alloc: Global,
     receiver: &'a Receiver<u64, R>,
@@ -44,14 +57,25 @@ where
 {
     let mut tasks = Vec::new(alloc);
     for _ in 0..count {
-        let task = MockTask::new(rt).ok()?;
-        let mut recv = receiver.recv();
-        if task.poll(&mut recv).is_ready() {
-            return None;
-        }
-        tasks.push(Receiving { task, recv }).ok()?;
+        tasks.push(receive(rt, receiver)?).ok()?;
     }
     Some(tasks)
+}
+
+/// Every other of these tasks; the rest is dropped, with receives that are pending.
+fn every_other<'a, R: Wait + Copy>(
+    alloc: Global,
+    tasks: Vec<Receiving<'a, R>>,
+) -> Option<Vec<Receiving<'a, R>>> {
+    let mut stay = Vec::new(alloc);
+    let mut stays = false;
+    for one in tasks {
+        stays = !stays;
+        if stays {
+            stay.push(one).ok()?;
+        }
+    }
+    Some(stay)
 }
 
 /// So many tasks whose waits for the closing are pending.
@@ -151,8 +175,9 @@ fn wakes<R>(
 where
     R: Wait + Copy + RandomSource + AllocGlobal,
 {
-    let mut receives = receive(rt, alloc, receiver, TASKS)?;
+    let all = receive_all(rt, alloc, receiver, TASKS)?;
     let mut closings = await_closing(rt, alloc, sender)?;
+    let mut receives = every_other(alloc, all)?;
     let in_order = wakes_in_order(sender, receives.as_slice());
     let asleep = all_sleep(closings.as_slice());
     let closed = sender.close();
@@ -161,8 +186,8 @@ where
     Some(in_order && asleep && closed && received && told)
 }
 
-/// Whether so many messages wake so many tasks in the order in which they came, and a closing all others, each once. `None`
-/// where memory was refused.
+/// Whether so many messages wake so many of the tasks that stay, in the order in which they came, and a closing all others, each once.
+/// `None` where memory was refused.
 pub fn wakes_each_once<R>(rt: R, alloc: Global) -> Option<bool>
 where
     R: Wait + Copy + RandomSource + AllocGlobal,
@@ -187,7 +212,7 @@ where
     R: Wait + Copy + RandomSource + AllocGlobal + Clock,
 {
     let (sender, receiver) = unbounded(rt, alloc, &mut EventIds::new()).ok()?;
-    let tasks = receive(&rt, alloc, &receiver, waiting)?;
+    let tasks = receive_all(&rt, alloc, &receiver, waiting)?;
     let taken = time_sends(&rt, &sender);
     drop(tasks);
     taken

@@ -1,5 +1,6 @@
 //! What the threads of a crowd do.
 
+use crate::crew::Job;
 use crate::crowds::token::Token;
 use crate::crowds::watch::Watch;
 use async_channel::{Receiver, Refused, Sender, TryRecvError, TrySendError};
@@ -28,18 +29,36 @@ pub enum Receiving {
     Tried,
 }
 
-/// What a sending thread did: how many messages were accepted, and how many others its displacing sends handed out.
+/// What threads did: how many messages were accepted, how many others their displacing sends handed out, how many came, and whether
+/// each sender's came in its order.
 #[derive(Clone, Copy)]
-pub struct Sent {
+pub struct Counts {
     pub accepted: u64,
     pub displaced: u64,
-}
-
-/// What a receiving thread did: how many messages came, and whether each sender's came in its order.
-#[derive(Clone, Copy)]
-pub struct Got {
     pub received: u64,
     pub in_order: bool,
+}
+
+impl Counts {
+    /// Nothing.
+    pub fn none() -> Counts {
+        Counts {
+            accepted: 0,
+            displaced: 0,
+            received: 0,
+            in_order: true,
+        }
+    }
+
+    /// What these did and those.
+    pub fn plus(self, other: Counts) -> Counts {
+        Counts {
+            accepted: self.accepted.wrapping_add(other.accepted),
+            displaced: self.displaced.wrapping_add(other.displaced),
+            received: self.received.wrapping_add(other.received),
+            in_order: self.in_order && other.in_order,
+        }
+    }
 }
 
 /// Tries until there is a place: whether the message was accepted.
@@ -77,7 +96,7 @@ where
 
 /// What a sending thread is to do.
 #[derive(Clone, Copy)]
-pub struct Job {
+pub struct Plan {
     /// Which one it is.
     pub from: usize,
     /// How many messages it has.
@@ -88,24 +107,29 @@ pub struct Job {
     pub closes_at: Option<u64>,
 }
 
-/// Sends its messages, until one is refused, and lets the sender go.
-pub fn send_all<R>(rt: R, sender: Sender<Token, R>, watch: &Arc<Watch>, job: Job) -> Sent
+/// A sending thread.
+#[derive(Drop)]
+pub struct Sends<R: Wait + Copy> {
+    pub sender: Sender<Token, R>,
+    pub watch: Arc<Watch>,
+    pub plan: Plan,
+}
+
+/// Sends the messages of this plan, until one is refused.
+fn send_all<R>(rt: R, sender: &Sender<Token, R>, watch: &Arc<Watch>, plan: Plan) -> Counts
 where
     R: Wait + Copy + RandomSource + AllocGlobal,
 {
-    let mut all = Sent {
-        accepted: 0,
-        displaced: 0,
-    };
-    for number in 0..job.messages {
-        if job.closes_at == Some(number) {
+    let mut all = Counts::none();
+    for number in 0..plan.messages {
+        if plan.closes_at == Some(number) {
             sender.close();
         }
-        let Some(token) = Token::new(number, job.from, watch) else {
+        let Some(token) = Token::new(number, plan.from, watch) else {
             break;
         };
         watch.sends_begun.raise();
-        let (accepted, displaced) = send(rt, &sender, token, job.way);
+        let (accepted, displaced) = send(rt, sender, token, plan.way);
         watch.sends_ended.raise();
         if !accepted {
             break;
@@ -116,9 +140,24 @@ where
             watch.taken.raise();
         }
     }
-    drop(sender);
-    watch.threads_ended.raise();
     all
+}
+
+impl<R: Wait + Copy + RandomSource + AllocGlobal> Job<R> for Sends<R> {
+    type Done = Counts;
+
+    /// Sends its messages, and lets the sender go.
+    fn run(self, rt: R) -> Counts {
+        let Sends {
+            sender,
+            watch,
+            plan,
+        } = self;
+        let all = send_all(rt, &sender, &watch, plan);
+        drop(sender);
+        watch.threads_ended.raise();
+        all
+    }
 }
 
 /// Tries until there is a message; none where the channel is closed and empty.
@@ -148,11 +187,17 @@ where
 
 /// The least number that each sender's next message may have.
 #[derive(Drop)]
-struct Orders {
+pub struct Orders {
     least: Vec<u64>,
 }
 
 impl Orders {
+    /// Of so many senders, none of which has sent. `None` where memory was refused.
+    pub fn new(alloc: Global, senders: usize) -> Option<Orders> {
+        let least = Vec::from_elem(alloc, 0, senders).ok()?;
+        Some(Orders { least })
+    }
+
     /// Notes a message: whether it comes behind those of its sender that came before.
     fn note(&mut self, token: &Token) -> bool {
         match self.least.get_mut(token.from) {
@@ -166,31 +211,30 @@ impl Orders {
     }
 }
 
+/// A receiving thread.
+#[derive(Drop)]
+pub struct Receives<R: Wait + Copy> {
+    pub receiver: Receiver<Token, R>,
+    pub watch: Arc<Watch>,
+    pub way: Receiving,
+    pub orders: Orders,
+}
+
 /// Receives in this way until the channel is closed and empty.
-pub fn receive_all<R>(
+fn receive_all<R>(
     rt: R,
-    receiver: Receiver<Token, R>,
+    receiver: &mut Receiver<Token, R>,
     watch: &Watch,
-    senders: usize,
-    alloc: Global,
     way: Receiving,
-) -> Got
+    orders: &mut Orders,
+) -> Counts
 where
     R: Wait + Copy + RandomSource + AllocGlobal,
 {
-    let mut receiver = receiver;
-    let mut all = Got {
-        received: 0,
-        in_order: true,
-    };
-    let mut least = Vec::new(alloc);
-    for _ in 0..senders {
-        all.in_order = least.push(0).is_ok() && all.in_order;
-    }
-    let mut orders = Orders { least };
+    let mut all = Counts::none();
     for _ in rt.forever() {
         watch.receives_begun.raise();
-        let token = receive(rt, &mut receiver, way);
+        let token = receive(rt, receiver, way);
         watch.receives_ended.raise();
         let Some(token) = token else {
             break;
@@ -199,7 +243,23 @@ where
         all.received = all.received.wrapping_add(1);
         all.in_order = orders.note(&token) && all.in_order;
     }
-    drop(receiver);
-    watch.threads_ended.raise();
     all
+}
+
+impl<R: Wait + Copy + RandomSource + AllocGlobal> Job<R> for Receives<R> {
+    type Done = Counts;
+
+    /// Receives all that comes, and lets the receiver go.
+    fn run(self, rt: R) -> Counts {
+        let Receives {
+            mut receiver,
+            watch,
+            way,
+            mut orders,
+        } = self;
+        let all = receive_all(rt, &mut receiver, &watch, way, &mut orders);
+        drop(receiver);
+        watch.threads_ended.raise();
+        all
+    }
 }

@@ -208,6 +208,55 @@ fn count(found: &[Option<u32>]) -> u64 {
     count
 }
 
+/// Sends that find two places of a channel and one of a queue: how many messages were taken back.
+fn sends<B: Room, R: Wait + Copy + RandomSource + AllocGlobal>(
+    rt: R,
+    office: &Office<u32, B>,
+    sender: &Sender<Parcel<u32, B>, R>,
+    queue: &ConcurrentQueue<Parcel<u32, B>>,
+    pass: &mut Pass<u32, B>,
+) -> u64 {
+    count(&[
+        send::<B, R>(rt, office, sender, pass, 1),
+        try_send::<B, R>(office, sender, pass, 2),
+        try_send::<B, R>(office, sender, pass, 3),
+        force_send::<B, R>(office, sender, pass, 4),
+        push::<B, R>(&rt, office, queue, pass, 5),
+        push::<B, R>(&rt, office, queue, pass, 6),
+    ])
+}
+
+/// Receives of these: how many messages came.
+fn receives<B: Room, R: Wait + Copy + RandomSource + AllocGlobal>(
+    rt: R,
+    office: &Office<u32, B>,
+    receiver: &Receiver<Parcel<u32, B>, R>,
+    queue: &ConcurrentQueue<Parcel<u32, B>>,
+    pass: &mut Pass<u32, B>,
+) -> u64 {
+    count(&[
+        recv::<B, R>(rt, office, receiver, pass),
+        try_recv::<B, R>(office, receiver, pass),
+        try_recv::<B, R>(office, receiver, pass),
+        pop::<B, R>(&rt, office, queue, pass),
+        pop::<B, R>(&rt, office, queue, pass),
+    ])
+}
+
+/// By calls that block, and two messages more: how many were received, and how many taken back.
+fn blocks<B: Room, R: Wait + Copy>(
+    office: &Office<u32, B>,
+    sender: &Sender<Parcel<u32, B>, R>,
+    receiver: &Receiver<Parcel<u32, B>, R>,
+    pass: &mut Pass<u32, B>,
+) -> (u64, u64) {
+    let seventh = send_blocking::<B, R>(office, sender, pass, 7);
+    let came = recv_blocking::<B, R>(office, receiver, pass);
+    let eighth = try_send::<B, R>(office, sender, pass, 8);
+    let ninth = try_send::<B, R>(office, sender, pass, 9);
+    (count(&[came]), count(&[seventh, eighth, ninth]))
+}
+
 fn each_way_in<B: Room, R: Wait + Copy + RandomSource + AllocGlobal>(
     rt: R,
     alloc: Global,
@@ -220,31 +269,16 @@ fn each_way_in<B: Room, R: Wait + Copy + RandomSource + AllocGlobal>(
     let queue = ConcurrentQueue::bounded(alloc, 1).ok()?;
     let (office, mut pass) = opened.enter::<B>();
     let inbox = Inbox::new(alloc, office.another(&mut pass));
-    let back = [
-        send::<B, R>(rt, &office, &sender, &mut pass, 1),
-        try_send::<B, R>(&office, &sender, &mut pass, 2),
-        try_send::<B, R>(&office, &sender, &mut pass, 3),
-        force_send::<B, R>(&office, &sender, &mut pass, 4),
-        push::<B, R>(&rt, &office, &queue, &mut pass, 5),
-        push::<B, R>(&rt, &office, &queue, &mut pass, 6),
-    ];
-    let came = [
-        recv::<B, R>(rt, &office, &receiver, &mut pass),
-        try_recv::<B, R>(&office, &receiver, &mut pass),
-        try_recv::<B, R>(&office, &receiver, &mut pass),
-        pop::<B, R>(&rt, &office, &queue, &mut pass),
-        pop::<B, R>(&rt, &office, &queue, &mut pass),
-    ];
-    let back_too = send_blocking::<B, R>(&office, &sender, &mut pass, 7);
-    let came_too = recv_blocking::<B, R>(&office, &receiver, &mut pass);
-    let _ = try_send::<B, R>(&office, &sender, &mut pass, 8);
-    let _ = try_send::<B, R>(&office, &sender, &mut pass, 9);
+    let back = sends::<B, R>(rt, &office, &sender, &queue, &mut pass);
+    let came = receives::<B, R>(rt, &office, &receiver, &queue, &mut pass);
+    let (came_too, back_too) = blocks::<B, R>(&office, &sender, &receiver, &mut pass);
     let (_, many) = recv_many::<B, R>(&office, &receiver, 1, inbox);
-    let last = next::<B, R>(rt, &office, &mut receiver, &mut pass);
-    let received = count(&came)
+    let last = count(&[next::<B, R>(rt, &office, &mut receiver, &mut pass)]);
+    let received = came
+        .wrapping_add(came_too)
         .wrapping_add(many.len() as u64)
-        .wrapping_add(count(&[came_too, last]));
-    Some((received, count(&back).wrapping_add(count(&[back_too]))))
+        .wrapping_add(last);
+    Some((received, back.wrapping_add(back_too)))
 }
 
 /// How many of nine messages were received, and how many were taken back, where they go each way once. `None` where there is no memory.

@@ -7,7 +7,7 @@ ghost use Rattle.waybill.specs.Order.{numbered, IsRising, IsGapless, AreBeginnin
 ghost use Rattle.waybill.specs.Sides.{sends, takes};
 ghost use Rattle.waybill.specs.declared.numbered.Numbered.{Numbered};
 
-use crate::waybills::line::{Handles, Kind, Queue};
+use crate::waybills::line::{Kind, Way};
 use event_listener::id::EventIds;
 use std::alloc::Global;
 use std::marker::Brand;
@@ -60,7 +60,7 @@ type Account<B> = (Pass<Numbered<u32>, B>, Vec<Numbered<u32>>);
 
 type Received<B> = Result<Account<B>, Stopped<Message<B>>>;
 
-/// Two senders and the only receiver at once: the senders' passes, and what the receiver has. `None` where that one stopped early.
+/// Two senders and the only receiver at once: the senders' passes, and what the receiver has.
 fn exchange_sole<
     B: Room + Send + Sync,
     L: Line<Message<B>> + Sync,
@@ -70,19 +70,17 @@ fn exchange_sole<
     alloc: Global,
     office: &Office<Numbered<u32>, B>,
     line: &L,
-    whole: &mut Pass<Numbered<u32>, B>,
+    sink: Sink<u32, B>,
+    passes: Passes<B>,
     all: (&[u32], &[u32]),
-) -> Option<(Passes<B>, Account<B>)>
-    requires { whole.old ≡ fresh all_parts }
-    ensures whole { IfSome result (λ r. whole.new ≡ fresh (all_parts - 3)) }
-    ensures first { IfSome result (λ r. r.0.0 ≡ account 1 (numbered 0 0 all.entry.0.now) [] []) }
-    ensures second { IfSome result (λ r. r.0.1 ≡ account 1 (numbered 1 0 all.entry.1.now) [] []) }
-    ensures received { IfSome result (λ r. r.1.0 ≡ account 1 [] r.1.1.items []) }
-    ensures gapless { IfSome result (λ r. IsGapless r.1.1.items) }
+) -> (Passes<B>, Received<B>)
+    requires sink { sink ≡ takes true 2 [] }
+    requires passes { (passes.0 ≡ fresh 1) × (passes.1 ≡ fresh 1) }
+    ensures first { result.0.0 ≡ account 1 (numbered 0 0 all.entry.0.now) [] [] }
+    ensures second { result.0.1 ≡ account 1 (numbered 1 0 all.entry.1.now) [] [] }
+    ensures received { IfOk result.1 (λ r. (r.0 ≡ account 1 [] r.1.items []) × IsGapless r.1.items) }
 {
-    let sink = Sink::sole(alloc, office.another(whole), 2).ok()?;
-    let passes = (office.another(whole), office.another(whole));
-    let (sent, received) = thread::join(
+    thread::join(
         &rt,
         move ||
             requires { (passes.0 ≡ fresh 1) × (passes.1 ≡ fresh 1) }
@@ -92,8 +90,7 @@ fn exchange_sole<
             requires { sink ≡ takes true 2 [] }
             ensures { IfOk result (λ r. (r.0 ≡ account 1 [] r.1.items []) × IsGapless r.1.items) }
         { sink.receive_all(&rt, alloc, office, line) },
-    );
-    Some((sent, received.ok()?))
+    )
 }
 
 /// What the only receiver got of two senders, over a line.
@@ -106,19 +103,20 @@ fn sole_over<
     alloc: Global,
     line: &L,
     opened: Opened<Numbered<u32>>,
-    first: &[u32],
-    second: &[u32],
+    all: (&[u32], &[u32]),
 ) -> Option<Vec<Numbered<u32>>>
     requires { opened ≡ B.table }
-    ensures { IfSome result (λ got. AreBeginnings got.items (first.now ∷ second.now ∷ [])) }
+    ensures { IfSome result (λ got. AreBeginnings got.items (all.entry.0.now ∷ all.entry.1.now ∷ [])) }
 {
     let (office, mut whole) = opened.enter::<B>();
-    let all = (first, second);
-    let ((one, other), (pass, got)) = exchange_sole::<B, L, R>(
-        rt, alloc, &office, line, &mut whole, all,
-    )?;
+    let sink = Sink::sole(alloc, office.another(&mut whole), 2).ok()?;
+    let passes = (office.another(&mut whole), office.another(&mut whole));
+    let ((one, other), received) = exchange_sole::<B, L, R>(
+        rt, alloc, &office, line, sink, passes, all,
+    );
     office.absorb(&mut whole, one);
     office.absorb(&mut whole, other);
+    let (pass, got) = received.ok()?;
     office.absorb(&mut whole, pass);
     office.learn(&mut whole);
     Some(got)
@@ -136,12 +134,8 @@ fn sole_in<B: Room + Send + Sync, R: Threads + Wait + Copy + Send + Sync>(
     requires { opened ≡ B.table }
     ensures { IfSome result (λ got. AreBeginnings got.items (first.now ∷ second.now ∷ [])) }
 {
-    if let Kind::Handles = kind {
-        let line = Handles::new(rt, alloc, ids)?;
-        return sole_over::<B, _, R>(rt, alloc, &line, opened, first, second);
-    }
-    let line = Queue::new(rt, alloc, kind.bound())?;
-    sole_over::<B, _, R>(rt, alloc, &line, opened, first, second)
+    let line = Way::new(rt, alloc, ids, kind)?;
+    sole_over::<B, _, R>(rt, alloc, &line, opened, (first, second))
 }
 
 /// What the only receiver got of two senders, who sent at once through a line of this kind: of each a beginning of what it sent.
@@ -190,7 +184,7 @@ fn receive_both<
     )
 }
 
-/// Two senders and two receivers at once: the senders' passes, and what each receiver has. `None` where one stopped early.
+/// Two senders and two receivers at once: the senders' passes, and what each receiver has.
 fn exchange_shared<
     B: Room + Send + Sync,
     L: Line<Message<B>> + Sync,
@@ -200,21 +194,18 @@ fn exchange_shared<
     alloc: Global,
     office: &Office<Numbered<u32>, B>,
     line: &L,
-    whole: &mut Pass<Numbered<u32>, B>,
+    sinks: (Sink<u32, B>, Sink<u32, B>),
+    passes: Passes<B>,
     all: (&[u32], &[u32]),
-) -> Option<(Passes<B>, (Account<B>, Account<B>))>
-    requires { whole.old ≡ fresh all_parts }
-    ensures whole { IfSome result (λ r. whole.new ≡ fresh (all_parts - 4)) }
-    ensures first { IfSome result (λ r. r.0.0 ≡ account 1 (numbered 0 0 all.entry.0.now) [] []) }
-    ensures second { IfSome result (λ r. r.0.1 ≡ account 1 (numbered 1 0 all.entry.1.now) [] []) }
-    ensures one { IfSome result (λ r. (r.1.0.0 ≡ account 1 [] r.1.0.1.items []) × IsRising r.1.0.1.items) }
-    ensures other { IfSome result (λ r. (r.1.1.0 ≡ account 1 [] r.1.1.1.items []) × IsRising r.1.1.1.items) }
+) -> (Passes<B>, (Received<B>, Received<B>))
+    requires sinks { (sinks.0.received ≡ []) × (sinks.1.received ≡ []) }
+    requires passes { (passes.0 ≡ fresh 1) × (passes.1 ≡ fresh 1) }
+    ensures first { result.0.0 ≡ account 1 (numbered 0 0 all.entry.0.now) [] [] }
+    ensures second { result.0.1 ≡ account 1 (numbered 1 0 all.entry.1.now) [] [] }
+    ensures one { IfOk result.1.0 (λ r. (r.0 ≡ account 1 [] r.1.items []) × IsRising r.1.items) }
+    ensures other { IfOk result.1.1 (λ r. (r.0 ≡ account 1 [] r.1.items []) × IsRising r.1.items) }
 {
-    let sink = Sink::shared(alloc, office.another(whole), 2).ok()?;
-    let sink_too = Sink::shared(alloc, office.another(whole), 2).ok()?;
-    let passes = (office.another(whole), office.another(whole));
-    let sinks = (sink, sink_too);
-    let (sent, (one, other)) = thread::join(
+    thread::join(
         &rt,
         move ||
             requires { (passes.0 ≡ fresh 1) × (passes.1 ≡ fresh 1) }
@@ -224,8 +215,22 @@ fn exchange_shared<
             requires { (sinks.0.received ≡ []) × (sinks.1.received ≡ []) }
             ensures { IfOk result.0 (λ r. (r.0 ≡ account 1 [] r.1.items []) × IsRising r.1.items) × IfOk result.1 (λ r. (r.0 ≡ account 1 [] r.1.items []) × IsRising r.1.items) }
         { receive_both::<B, L, R>(rt, alloc, office, line, sinks) },
-    );
-    Some((sent, (one.ok()?, other.ok()?)))
+    )
+}
+
+/// The sides of two receivers, which have received nothing. `None` where there is no memory.
+fn two_sinks<B: Room>(
+    alloc: Global,
+    office: &Office<Numbered<u32>, B>,
+    whole: &mut Pass<Numbered<u32>, B>,
+) -> Option<(Sink<u32, B>, Sink<u32, B>)>
+    requires { whole.old ≡ fresh all_parts }
+    ensures whole { IfSome result (λ r. whole.new ≡ fresh (all_parts - 2)) }
+    ensures new { IfSome result (λ r. (r.0.received ≡ []) × (r.1.received ≡ [])) }
+{
+    let one = Sink::shared(alloc, office.another(whole), 2).ok()?;
+    let other = Sink::shared(alloc, office.another(whole), 2).ok()?;
+    Some((one, other))
 }
 
 /// What each of two receivers got of two senders, over a line.
@@ -238,21 +243,24 @@ fn shared_over<
     alloc: Global,
     line: &L,
     opened: Opened<Numbered<u32>>,
-    first: &[u32],
-    second: &[u32],
+    all: (&[u32], &[u32]),
 ) -> Option<(Vec<Numbered<u32>>, Vec<Numbered<u32>>)>
     requires { opened ≡ B.table }
-    ensures one { IfSome result (λ got. AreInOrder got.0.items (first.now ∷ second.now ∷ [])) }
-    ensures other { IfSome result (λ got. AreInOrder got.1.items (first.now ∷ second.now ∷ [])) }
+    ensures one { IfSome result (λ got. AreInOrder got.0.items (all.entry.0.now ∷ all.entry.1.now ∷ [])) }
+    ensures other { IfSome result (λ got. AreInOrder got.1.items (all.entry.0.now ∷ all.entry.1.now ∷ [])) }
 {
     let (office, mut whole) = opened.enter::<B>();
-    let all = (first, second);
-    let ((one, other), ((pass, got), (pass_too, got_too))) = exchange_shared::<B, L, R>(
-        rt, alloc, &office, line, &mut whole, all,
-    )?;
+    let sinks = two_sinks(alloc, &office, &mut whole)?;
+    let passes = (office.another(&mut whole), office.another(&mut whole));
+    let ((one, other), received) = exchange_shared::<B, L, R>(
+        rt, alloc, &office, line, sinks, passes, all,
+    );
     office.absorb(&mut whole, one);
     office.absorb(&mut whole, other);
+    let (received, received_too) = received;
+    let (pass, got) = received.ok()?;
     office.absorb(&mut whole, pass);
+    let (pass_too, got_too) = received_too.ok()?;
     office.absorb(&mut whole, pass_too);
     office.learn(&mut whole);
     Some((got, got_too))
@@ -271,12 +279,8 @@ fn shared_in<B: Room + Send + Sync, R: Threads + Wait + Copy + Send + Sync>(
     ensures one { IfSome result (λ got. AreInOrder got.0.items (first.now ∷ second.now ∷ [])) }
     ensures other { IfSome result (λ got. AreInOrder got.1.items (first.now ∷ second.now ∷ [])) }
 {
-    if let Kind::Handles = kind {
-        let line = Handles::new(rt, alloc, ids)?;
-        return shared_over::<B, _, R>(rt, alloc, &line, opened, first, second);
-    }
-    let line = Queue::new(rt, alloc, kind.bound())?;
-    shared_over::<B, _, R>(rt, alloc, &line, opened, first, second)
+    let line = Way::new(rt, alloc, ids, kind)?;
+    shared_over::<B, _, R>(rt, alloc, &line, opened, (first, second))
 }
 
 /// What each of two receivers got of two senders, all four at once, through a line of this kind: of each sender its messages are in

@@ -22,7 +22,7 @@ fn squared(job: u32) -> u64
 
 /// A worker: what it gave are the squares of what it took.
 #[derive(Drop)]
-pub(crate) struct Worker<B: Room, C: Room> {
+struct Worker<B: Room, C: Room> {
     took: Pass<u32, B>,
     gave: Pass<u64, C>,
 }
@@ -41,7 +41,7 @@ impl<B: Room, C: Room> Model for Worker<B, C> {
 
 impl<B: Room, C: Room> Worker<B, C> {
     /// One that did nothing yet.
-    pub(crate) fn new(took: Pass<u32, B>, gave: Pass<u64, C>) -> Worker<B, C>
+    fn new(took: Pass<u32, B>, gave: Pass<u64, C>) -> Worker<B, C>
         requires { (took ≡ fresh 1) × (gave ≡ fresh 1) }
     {
         Worker { took, gave }
@@ -59,7 +59,7 @@ impl<B: Room, C: Room> Worker<B, C> {
     }
 
     /// Both passes.
-    pub(crate) fn into_passes(self) -> (Pass<u32, B>, Pass<u64, C>)
+    fn into_passes(self) -> (Pass<u32, B>, Pass<u64, C>)
         ensures took { result.0 ≡ account 1 [] result.0.received [] }
         ensures gave { result.1 ≡ account 1 (squares result.0.received) [] [] }
     {
@@ -68,7 +68,7 @@ impl<B: Room, C: Room> Worker<B, C> {
 }
 
 /// Does jobs until there are no more.
-pub(crate) fn work<B: Room, C: Room, R: Wait + Copy>(
+fn work<B: Room, C: Room, R: Wait + Copy>(
     jobs: &Office<u32, B>,
     results: &Office<u64, C>,
     todo: Receiver<Parcel<u32, B>, R>,
@@ -85,17 +85,14 @@ pub(crate) fn work<B: Room, C: Room, R: Wait + Copy>(
 }
 
 /// Gives the jobs and lets the sender go.
-pub(crate) fn give<B: Room, R: Wait + Copy>(
-    todo: Sender<Parcel<u32, B>, R>,
-    jobs: Vec<Parcel<u32, B>>,
-) {
+fn give<B: Room, R: Wait + Copy>(todo: Sender<Parcel<u32, B>, R>, jobs: Vec<Parcel<u32, B>>) {
     for job in jobs {
         let _ = todo.send_blocking(job);
     }
 }
 
 /// Gathers results until there are no more.
-pub(crate) fn gather<C: Room, R: Wait + Copy>(
+fn gather<C: Room, R: Wait + Copy>(
     results: &Office<u64, C>,
     done: Receiver<Parcel<u64, C>, R>,
     mut inbox: Inbox<u64, C>,
@@ -134,44 +131,52 @@ fn two_workers<
     )
 }
 
-/// A channel with two receivers, by which jobs come.
-fn job_line<P: Drop, R: Wait + Copy>(
+/// A channel with two receivers, by which jobs come, and one with two senders, by which results go.
+#[derive(Drop)]
+struct Lines<B: Room, C: Room, R: Wait + Copy> {
+    jobs: Sender<Parcel<u32, B>, R>,
+    todo: (Receiver<Parcel<u32, B>, R>, Receiver<Parcel<u32, B>, R>),
+    done: (Sender<Parcel<u64, C>, R>, Sender<Parcel<u64, C>, R>),
+    results: Receiver<Parcel<u64, C>, R>,
+}
+
+/// Opens both. `None` where there is no memory.
+fn open<B: Room, C: Room, R: Wait + Copy>(
     rt: R,
     alloc: Global,
     ids: &mut EventIds,
-) -> Option<(Sender<P, R>, (Receiver<P, R>, Receiver<P, R>))> {
-    let (sender, receiver) = unbounded(rt, alloc, ids).ok()?;
-    let receiver_too = receiver.try_clone().ok()?;
-    Some((sender, (receiver, receiver_too)))
+) -> Option<Lines<B, C, R>> {
+    let (jobs, todo) = unbounded(rt, alloc, ids).ok()?;
+    let (done, results) = unbounded(rt, alloc, ids).ok()?;
+    let todo_too = todo.try_clone().ok()?;
+    let done_too = done.try_clone().ok()?;
+    Some(Lines {
+        jobs,
+        todo: (todo, todo_too),
+        done: (done, done_too),
+        results,
+    })
 }
 
-/// A channel with two senders, by which results go.
-fn result_line<P: Drop, R: Wait + Copy>(
-    rt: R,
-    alloc: Global,
-    ids: &mut EventIds,
-) -> Option<((Sender<P, R>, Sender<P, R>), Receiver<P, R>)> {
-    let (sender, receiver) = unbounded(rt, alloc, ids).ok()?;
-    let sender_too = sender.try_clone().ok()?;
-    Some(((sender, sender_too), receiver))
-}
-
-/// Both workers and the inbox after all jobs. `None` where there is no memory.
+/// Both workers and the inbox after all jobs.
 fn all_done<B: Room + Send + Sync, C: Room + Send + Sync, R: Threads + Wait + Copy + Send + Sync>(
     rt: R,
-    alloc: Global,
-    ids: &mut EventIds,
     offices: (&Office<u32, B>, &Office<u64, C>),
+    lines: Lines<B, C, R>,
     parcels: Vec<Parcel<u32, B>>,
     workers: (Worker<B, C>, Worker<B, C>),
     inbox: Inbox<u64, C>,
-) -> Option<((Worker<B, C>, Worker<B, C>), Inbox<u64, C>)> {
-    let (jobs, results) = offices;
-    let (todo_sender, todo) = job_line(rt, alloc, ids)?;
-    let (done, done_receiver) = result_line(rt, alloc, ids)?;
-    give(todo_sender, parcels);
-    let workers = two_workers(rt, jobs, results, todo, done, workers);
-    Some((workers, gather(results, done_receiver, inbox)))
+) -> ((Worker<B, C>, Worker<B, C>), Inbox<u64, C>) {
+    let (at_jobs, at_results) = offices;
+    let Lines {
+        jobs,
+        todo,
+        done,
+        results,
+    } = lines;
+    give(jobs, parcels);
+    let workers = two_workers(rt, at_jobs, at_results, todo, done, workers);
+    (workers, gather(at_results, results, inbox))
 }
 
 /// Packs all jobs and has two workers do them. `None` where there is no memory.
@@ -182,8 +187,8 @@ fn done_by_two<
 >(
     rt: R,
     alloc: Global,
-    ids: &mut EventIds,
     offices: (&Office<u32, B>, &Office<u64, C>),
+    lines: Lines<B, C, R>,
     every_job: &mut Pass<u32, B>,
     every_result: &mut Pass<u64, C>,
     all: &[u32],
@@ -198,7 +203,7 @@ fn done_by_two<
     let worker_too = Worker::new(jobs.another(every_job), results.another(every_result));
     let inbox = Inbox::new(alloc, results.another(every_result));
     let workers = (worker, worker_too);
-    all_done(rt, alloc, ids, offices, parcels, workers, inbox)
+    Some(all_done(rt, offices, lines, parcels, workers, inbox))
 }
 
 fn pool_in<B: Room + Send + Sync, C: Room + Send + Sync, R: Threads + Wait + Copy + Send + Sync>(
@@ -213,14 +218,15 @@ fn pool_in<B: Room + Send + Sync, C: Room + Send + Sync, R: Threads + Wait + Cop
     ensures part { IfSome result (λ got. IsPartOf got.items (squares all.now)) }
     ensures each { IfSome result (λ got. length got.items ≡ length all.now → IsPermutation (squares all.now) got.items) }
 {
+    let lines = open(rt, alloc, ids)?;
     let (jobs, mut every_job) = jobs.enter::<B>();
     let (results, mut every_result) = results.enter::<C>();
     let offices = (&jobs, &results);
     let ((worker, worker_too), inbox) = done_by_two(
         rt,
         alloc,
-        ids,
         offices,
+        lines,
         &mut every_job,
         &mut every_result,
         all,

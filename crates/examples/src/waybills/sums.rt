@@ -3,7 +3,7 @@
 ghost use Rattle.std.specs.Prelude.{◌≡◌, ◌+◌, ◌-◌, ◌++◌, [], length, sum, IfSome};
 ghost use Rattle.waybill.specs.Accounts.{all_parts, fresh, account};
 
-use crate::waybills::line::{Handles, Kind, Queue};
+use crate::waybills::line::{Kind, Way};
 use event_listener::id::EventIds;
 use std::alloc::Global;
 use std::marker::{Brand, Model};
@@ -203,11 +203,7 @@ fn sums_in<B: Room + Send + Sync, R: Threads + Wait + Copy + Send + Sync>(
     requires { opened ≡ B.table }
     ensures { IfSome result (λ r. r.0.count + r.1.count ≡ length first.now + length second.now → r.0.total + r.1.total ≡ sum first.now + sum second.now) }
 {
-    if let Kind::Handles = kind {
-        let line = Handles::new(rt, alloc, ids)?;
-        return sums_over::<B, _, R>(rt, alloc, &line, opened, first, second);
-    }
-    let line = Queue::new(rt, alloc, kind.bound())?;
+    let line = Way::new(rt, alloc, ids, kind)?;
     sums_over::<B, _, R>(rt, alloc, &line, opened, first, second)
 }
 
