@@ -7,7 +7,7 @@ An edit, crates/*/mutants/*.edit or one of those in must-fail/ that `rt ci` trie
 for whom, and which clause stands against it. It may stand for one of BODIES below, by a line `body: WORDS`. Lines `refuses:` or
 `no program:` say where it is refused, as tools/mutants found it. With --check nothing is written. The status is 1, and a line says why,
 where an edit has no such sentence or none of these lines, where it cites something by a number, where nothing stands for one of BODIES,
-or where a test that is named here isn't there, or one that docs/TESTED.md or a mutant in mutants/tested/ names.
+or where a test that is named here isn't there, or one that tools/planting/by_hand.txt or a mutant in mutants/tested/ names.
 """
 import glob
 import os
@@ -20,8 +20,8 @@ sys.path.insert(0, os.path.join(os.path.dirname(os.path.abspath(__file__)), "pla
 import edits as edit_files  # noqa: E402
 
 PAGE = "out/mutants.md"
-# The section with the wrong bodies that tests see, and no mutant. A row names its tests, and their crates after an "of".
-LEFT = ("docs/TESTED.md", "## Wrong bodies that the gate leaves to tests")
+# The wrong bodies that were planted by hand. Each line of the first part names its tests, and their crates after an "of".
+BY_HAND, LEFT = "tools/planting/by_hand.txt", "[left to tests"
 # The wrong bodies that a channel has to be safe from, in the order of the page, each with the tests that stand for it besides edits.
 BODIES = {
     "a send tells a receive before its message is in": [],
@@ -173,22 +173,26 @@ def has_test(name):
     return False
 
 
+def by_hand():
+    """The parts of BY_HAND: a title, and what goes wrong with what sees it."""
+    with open(BY_HAND, encoding="utf-8") as it:
+        parts = it.read().split("\n[")[1:]
+    return [("[" + part.split("\n")[0], [line.partition(" | ")[::2] for line in part.split("\n")[1:] if line]) for part in parts]
+
+
 def left_faults():
-    """The rows of LEFT that name no test, or one that isn't there in a crate that the row names."""
-    page, title = LEFT
-    with open(page, encoding="utf-8") as it:
-        section = it.read().partition(title)[2].partition("\n## ")[0]
+    """The lines of LEFT that name no test, or one that isn't there in a crate that the line names."""
     with open("crates.txt", encoding="utf-8") as it:
         crates = set(re.findall(r"(?m)^(\w+)", it.read()))
-    for row in re.findall(r"(?m)^\| (?!Wrong body|---)(.*) \| (.*) \|$", section):
-        names = re.findall(r"`([\w:]+)`", row[1])
+    for wrong, seen in (line for title, lines in by_hand() if title.startswith(LEFT) for line in lines):
+        names = re.findall(r"`([\w:]+)`", seen)
         tests = [name.split("::")[-1] for name in names if name not in crates]
         places = [name for name in names if name in crates] or crates
         if not tests:
-            yield f"{page} names no test for: {row[0]}"
+            yield f"{BY_HAND} names no test for: {wrong}"
         for test in tests:
             if not any(has_test(f"{crate}/{test}") for crate in places):
-                yield f"{page} names a test that isn't there: {test}"
+                yield f"{BY_HAND} names a test that isn't there: {test}"
 
 
 def edit_faults(edit):
@@ -242,7 +246,11 @@ def page(edits, tested):
         text += f"\n### `{crate}`\n\n| Edit | Why | Refused at |\n|---|---|---|\n"
         text += "".join(f"| `{edit.name}` | {edit.why} | {refused_at(edit)} |\n" for edit in edits if edit.crate == crate)
     text += "\n## Seen by tests alone\n\n| Edit | Why | Test |\n|---|---|---|\n"
-    return text + "".join(f"| `{edit.label}` | {edit.why} | {', '.join('/'.join(it) for it in edit.tests)} |\n" for edit in tested)
+    text += "".join(f"| `{edit.label}` | {edit.why} | {', '.join('/'.join(it) for it in edit.tests)} |\n" for edit in tested)
+    text += "\n## Planted by hand\n"
+    for title, lines in by_hand():
+        text += f"\n### {title.strip('[]').capitalize()}\n\n| Wrong body | Seen by |\n|---|---|\n" + "".join(f"| {wrong} | {seen} |\n" for wrong, seen in lines)
+    return text
 
 
 def main(words):

@@ -1,16 +1,17 @@
 #!/usr/bin/env python3
-"""Makes docs/ROWS.md, which says where each worked row stands, of the texts of rows themselves.
+"""Makes out/rows.md, which says where each worked row stands, of the texts of rows themselves.
 
 usage, at the top of the repository: tools/list_rows.py [--check]
 
-With --check nothing is written, and the status is 1 where the page is not what the texts say. Either way it is 1, and a line says why,
-where a text or its test isn't there, or where a text of rows is not among TEXTS.
+With --check nothing is written. Either way the status is 1, and a line says why, where a text or its test isn't there, or where a text of
+rows is not among TEXTS.
 """
 import glob
+import os
 import re
 import sys
 
-PAGE = "docs/ROWS.md"
+PAGE = "out/rows.md"
 # Crate, file, constant, what a line of it goes through, the test that plays it.
 TEXTS = [
     ("concurrent_queue_tests", "queue_rows", "QUEUES", "`Exclusive`, its walks, and `ConcurrentQueue` on one thread (`queues`)", "rows::queues"),
@@ -101,10 +102,9 @@ def main(words):
     wrong += [f"tools/list_rows.py doesn't know {name} of {crate}/{file}" for crate, file, name in found]
     page += TAIL
     if not words:
+        os.makedirs(os.path.dirname(PAGE), exist_ok=True)
         with open(PAGE, "w", encoding="utf-8") as it:
             it.write(page)
-    elif read(PAGE) != page:
-        wrong.append(f"{PAGE} is not what the texts say: run tools/list_rows.py")
     print("\n".join([*wrong, f"{len(TEXTS)} texts of rows"]))
     return 1 if wrong else 0
 
