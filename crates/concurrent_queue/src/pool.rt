@@ -1,4 +1,5 @@
-//! The blocks that unbounded cells of one owner have, by their numbers, and the list of those that are not in use.
+//! The blocks of unbounded cells of one owner, by their numbers, and the list of those that are not in use. The invariant: the spare list
+//! has room for every block that was made, so retiring a block takes no memory.
 
 ghost use Rattle.std.specs.Prelude.{◌≡◌, length, ◌≤◌, ◌++◌, map, take, drop, None, IfOk, vec_capacity, vec_len};
 ghost use Rattle.concurrent_queue.specs.Contents.{nones};

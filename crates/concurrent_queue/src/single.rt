@@ -1,8 +1,8 @@
 //! The steps of a queue of one slot.
 //!
-//! The word `State` has three bits: a call holds the slot, there is a message, the queue is closed. Who exchanges the word
-//! for one with the first bit set owns the slot until it clears that bit. So a push that meets a slot whose message is
-//! taken but still being read tries again, since it may not answer that the queue is full.
+//! The word `State` has three bits: a call holds the slot (`LOCKED`), there is a message (`PUSHED`), the queue is closed (`CLOSED`). The
+//! invariant: the call whose exchange set the first bit owns the slot until it clears that bit, and no other call touches the slot. So a
+//! push that finds a slot whose message is taken but still being read tries again, since `Full` would be false.
 
 ghost use Rattle.std.specs.Prelude.{◌≡◌, ℕ};
 ghost use Rattle.concurrent_queue.specs.machine.Single.{stays, marks, finishes, start};

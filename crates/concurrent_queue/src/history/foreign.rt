@@ -1,5 +1,5 @@
-//! Calls that may be no call of this queue. A `QueueCall` is a plain value, which may have been begun on another queue, so its step may be
-//! any operation at any place. The first such call sets a flag, once; from then on the guards are kept, and no history.
+//! Calls that may be no calls of this queue. A `QueueCall` is a plain value that may have been begun on another queue, so its step may be
+//! any operation on any cell. The first such call sets a flag, once; from then on the rule covers the guards alone, and no history.
 
 ghost use Rattle.std.specs.Prelude.{true, false, ◌≡◌, ◌<◌, ◌+◌, [], None, IfErr};
 ghost use Rattle.concurrent_queue.specs.history.Shared.{slots_of, words_of};
@@ -12,8 +12,8 @@ use crate::history::table::{KitTable, RuledTable, flag_index, slot_index, word_i
 use crate::{NoMemory, QueueForm};
 use atomic_table::Seat;
 
-/// A seat of the table for foreign calls, which are the cells of such a call: any operation may be made, and nothing is known of what they
-/// hold. It holds no slot.
+/// A seat of the table for foreign calls, used as the cells of such a call: every operation may be made, and nothing is known of the
+/// contents. It holds no slot.
 #[derive(Drop)]
 pub struct ForeignSeat<'a, T> {
     pub(crate) table: &'a KitTable<T, Standing<T>, OfQueue>,

@@ -1,4 +1,4 @@
-//! What a seat of the table knows, the machine whose history the table has, the rule that the table is what this history made of it, and the
+//! What a seat knows (`View`), the machine whose history the table has, the rule that the cells are what this history made of them, and the
 //! kinds of steps that keep the rule. All but `Counter` is for the proofs alone: no value of these types is made.
 
 use crate::QueueForm;
@@ -11,7 +11,7 @@ use std::marker::{Brand, PhantomData};
 pub struct View<T, A> {
     /// The party's number, which is its seat's, where the seat knows it.
     pub who: u64,
-    /// Whether it doesn't: a seat that came of another one.
+    /// Whether it doesn't know it, as a seat that was split off another one.
     pub nameless: bool,
     /// Which kind of queue the table is of.
     pub form: QueueForm,

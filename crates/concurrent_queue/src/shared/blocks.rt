@@ -1,4 +1,5 @@
-//! The blocks of a shared unbounded queue.
+//! The blocks of a shared unbounded queue. `Blocks` owns every block that was made, under its number, until the queue is dropped, and a
+//! lock guards the list of spare ones. The invariant: that list has room for each block that was made, so retiring one takes no memory.
 
 ghost use Rattle.std.specs.Prelude.{◌≡◌, ◌≤◌, ◌+◌, [], MatchResult};
 ghost use Rattle.std.specs.VecDeque.{deque_capacity};
@@ -109,9 +110,9 @@ impl<T: Drop> Blocks<T> {
         ensures spares { stock.new.spares.items ≡ with_spare stock.old.spares.items stock.old.made block }
         ensures made { stock.new.made ≡ stock.old.made }
     {
-        // Nobody sees the first of these stores without the last: only a call that won one of the block's positions touches its words,
-        // a push up to the flag of its slot and a pop up to its count of reads, and the pop that counted the last of them gives the
-        // block back. Who wins a position of it later has its number by way of `spare`, and so from behind this section of the lock.
+        // Nobody sees the first of these stores without the last: only a call that won one of the block's positions touches its words, a
+        // push up to the flag of its slot and a pop up to its count of reads, and the pop that counted the last of them retires the block.
+        // A call that wins a position of it later has its number by way of `spare`, and so after this critical section.
         if let Some(mut words) = self.seat(block) {
             words.store(NEXT, 0);
             words.store(READS, 0);

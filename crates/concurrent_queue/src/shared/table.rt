@@ -1,4 +1,5 @@
-//! Words and slots that threads share, by their indices.
+//! Words and slots that threads share, by their indices, for unbounded queues. The invariant: a slot is out of the table only while its
+//! guard is 1, and then with the seat that set it; of all other words nothing is known.
 
 ghost use Rattle.std.specs.Prelude.{◌≡◌, ◌<◌, ◌≤◌, ◌+◌, ◌*◌, [], None, IfSome, IfErr, IfOk, length};
 ghost use Rattle.concurrent_queue.specs.machine.Guarded.{AreFree};
@@ -18,8 +19,8 @@ pub(crate) const APART: usize = 16;
 /// How many words each table has at least, so that the first of them are found with no test.
 const LEAST: usize = 18;
 
-/// Words and slots of a queue or of one of its blocks. The table has a guard for each slot in front of the words, which is
-/// 1 while some seat has the slot.
+/// Words and slots of a queue or of one of its blocks. In front of the words the table has a guard for each slot, which is 1 while some
+/// seat holds the slot.
 #[derive(Drop)]
 pub(crate) struct SharedTable<T> {
     table: GuardTable<T>,
@@ -108,7 +109,7 @@ impl<'a, T> SeatedTable<'a, T> {
         }
     }
 
-    /// Writes the word where it holds `expected`; `Err` with what it holds where it does not.
+    /// Writes `next` if the word holds `expected`; otherwise `Err` with what it holds.
     #[inline(always)]
     pub(crate) fn compare_exchange(
         &mut self,
@@ -160,7 +161,7 @@ impl<'a, T> SeatedTable<'a, T> {
         }
     }
 
-    /// Fills an empty slot. `Err` hands the message back: the slot is full, or another seat has it, or there is none.
+    /// Fills an empty slot. `Err` returns the message: the slot is full, another seat holds it, or it isn't there.
     #[inline(always)]
     pub(crate) fn put(&mut self, slot: usize, value: T) -> Result<(), T>
         ensures { IfErr result (λ back. back ≡ value) }
@@ -169,15 +170,19 @@ impl<'a, T> SeatedTable<'a, T> {
             return Err(value);
         }
         let shared = &self.table.shared;
+        // An exchange from 0: only one seat wins the guard. Without a guard, a call that was begun on another queue could touch a slot together with its owner.
         if shared.compare_exchange::<Win>(&mut self.seat, slot, 0, 1) != 0 {
             return Err(value);
         }
+        // The guard is won, so this access to the slot races with none.
         match shared.exchange(&mut self.seat, slot, Some(value)) {
             None => {
+                // After the access: who wins the guard from here on finds the slot as it is left.
                 shared.store::<Give>(&mut self.seat, slot, 0);
                 Ok(())
             }
             full => {
+                // The slot was full: put the old message back before the guard is released, so that nobody sees it missing.
                 let back = shared.exchange(&mut self.seat, slot, full);
                 shared.store::<Give>(&mut self.seat, slot, 0);
                 match back {
@@ -188,17 +193,19 @@ impl<'a, T> SeatedTable<'a, T> {
         }
     }
 
-    /// Empties a slot. `None`: it is empty, or another seat has it, or there is none.
+    /// Empties a slot. `None`: it is empty, another seat holds it, or it isn't there.
     #[inline(always)]
     pub(crate) fn take(&mut self, slot: usize) -> Option<T> {
         if slot >= self.table.slot_count() {
             return None;
         }
         let shared = &self.table.shared;
+        // As in `put`.
         if shared.compare_exchange::<Win>(&mut self.seat, slot, 0, 1) != 0 {
             return None;
         }
         let found = shared.exchange(&mut self.seat, slot, None);
+        // After the access, as in `put`.
         shared.store::<Give>(&mut self.seat, slot, 0);
         found
     }

@@ -1,4 +1,4 @@
-//! What a call of an unbounded queue does next, and what one step of it leaves.
+//! The program counter of a call of an unbounded queue, and what one step of it leaves.
 
 ghost use Rattle.std.specs.Prelude.{◌≡◌, None, Some};
 
