@@ -170,7 +170,8 @@ impl<'a, T> SeatedTable<'a, T> {
             return Err(value);
         }
         let shared = &self.table.shared;
-        // An exchange from 0: only one seat wins the guard. Without a guard, a call that was begun on another queue could touch a slot together with its owner.
+        // An exchange from 0: only one seat wins the guard. Without a guard, a call that was begun on another queue could touch a slot together
+        // with its owner.
         if shared.compare_exchange::<Win>(&mut self.seat, slot, 0, 1) != 0 {
             return Err(value);
         }
