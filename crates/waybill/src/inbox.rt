@@ -35,7 +35,7 @@ impl<T: Drop, B: Room> Inbox<T, B> {
         }
     }
 
-    /// Unpacks a parcel and keeps its message, which now counts as received. `Err` hands the parcel on where there is no memory.
+    /// Unpacks a parcel and keeps its message, which now counts as received. `Err` returns the parcel if there is no memory.
     pub fn unpack(
         &mut self,
         office: &Office<T, B>,

@@ -8,7 +8,7 @@ use crate::tokens::{Office, Parcel, Pass};
 use std::alloc::{AllocError, Global};
 
 impl<T: Copy, B: Room> Office<T, B> {
-    /// These messages, packed in their order. From here on they count as sent by this pass. `Err` where there is no memory.
+    /// These messages, packed in their order. From here on they count as sent by this pass. `Err` if there is no memory.
     pub fn pack_each(
         &self,
         alloc: Global,

@@ -11,7 +11,7 @@ use crate::rule::Room;
 use crate::tokens::{Office, Parcel, Pass};
 use std::marker::Model;
 
-/// One sender, who numbers its messages from 0. Contracts see its number and what it sent.
+/// One sender, which numbers its messages from 0. Contracts see its number and what it sent.
 #[derive(Drop)]
 pub struct Source<T, B: Room> {
     pass: Pass<Numbered<T>, B>,
@@ -40,7 +40,7 @@ impl<T, B: Room> Source<T, B> {
         }
     }
 
-    /// A message that may be sent, with its number. `Err` hands the message back where the last number was given, after 2^64 - 1 messages.
+    /// A message that may be sent, with its number. `Err` returns the message once the last number was given, after 2^64 - 1 messages.
     #[inline(always)]
     pub fn pack(
         &mut self,
