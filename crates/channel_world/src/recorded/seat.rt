@@ -5,7 +5,7 @@ use std::sync::ledger::{Ledger, Share};
 
 /// The right to make calls on the recorded channel of the ledger `L`. A seat of another channel has another type.
 ///
-/// Contracts see its number and how many of its calls were accepted. Own to this project.
+/// Contracts see its number and how many of its calls were accepted.
 #[derive(Drop)]
 pub struct RecordSeat<L: Ledger> {
     pub(crate) number: u32,

@@ -117,7 +117,7 @@ fn run_opened(
     Ok(ScriptEnd::Done)
 }
 
-/// Runs a script, and adds its text, but for the last line where memory was refused.
+/// Runs a script, and adds its text, except for the last line if memory was refused.
 pub fn compose(alloc: Global, input: &[u8], out: &mut Vec<u8>) -> Result<ScriptEnd, AllocError>
     ensures { Extends (script_of_lines today (lines_of input.now)) (result_unwrap_or result ScriptEnd.Memory) out.old.items out.new.items }
 {
