@@ -27,6 +27,6 @@ pub struct Stopped {
 pub struct CallRun<T> {
     /// What the accepted calls answered, in order.
     pub done: Vec<Done<T>>,
-    /// Where the list stopped; None where every call was accepted.
+    /// Where the list stopped; `None` if every call was accepted.
     pub stopped: Option<Stopped>,
 }
