@@ -1,4 +1,4 @@
-//! The shared reference from a handle to its channel.
+//! The shared reference from a handle to its channel. It touches no count: weak handles have one too.
 
 ghost use Rattle.std.specs.Prelude.{◌≡◌, ◌↔◌, IsTrue, IfSome};
 ghost use Rattle.async_channel.specs.Handles.{handle_of};

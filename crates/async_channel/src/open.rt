@@ -1,4 +1,5 @@
-//! The opening of a channel.
+//! The opening of a channel. Memory is taken before identities, so a refusal takes nothing; and only an opening makes the first two
+//! handles, which the counts have from the start.
 //!
 //! # Extensions
 //!

@@ -1,4 +1,5 @@
-//! What comes after each answer of a channel's queue. These functions touch no cell.
+//! What comes after each answer of a channel's queue. These functions touch no cell. The order that they keep: whatever a call changed in
+//! the queue comes first, then its notifications, and last the removal of its own listener.
 
 ghost use Rattle.std.specs.Prelude.{◌≡◌};
 ghost use Rattle.channel_calls.specs.Several.{with_one};

@@ -1,4 +1,5 @@
-//! What a call of a channel is asked for, and its first step.
+//! What a call of a channel is asked for, and its first step. An operation lends its call what it has, a listener's key or a message, and
+//! the call returns it with its answer, so it is never in two places.
 
 ghost use Rattle.std.specs.Prelude.{◌≡◌};
 ghost use Rattle.channel_calls.specs.Asks.{asks_listener, begins, first, gives_up, is_refused, lent, woken};

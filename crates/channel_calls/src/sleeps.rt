@@ -1,4 +1,4 @@
-//! What a call that blocks its thread sleeps on.
+//! What a call that blocks its thread sleeps on. Only the thread itself sleeps there; any thread may wake it.
 
 use crate::cells::ChannelCells;
 

@@ -1,4 +1,5 @@
-//! A call of a channel made up to its answer.
+//! A call of a channel made up to its answer, over any cells. Other threads may make steps between its own; nothing else of this call comes
+//! between them.
 
 ghost use Rattle.concurrent_queue.specs.declared.cells.QueueForm.{QueueForm};
 ghost use Rattle.channel_calls.specs.Asks.{first};

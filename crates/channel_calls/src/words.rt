@@ -1,4 +1,4 @@
-//! What the questions of a channel work on.
+//! What the questions of a channel work on: words alone, without locks and without the runtime, so a question never waits.
 
 use crate::stage::Side;
 use concurrent_queue::call::QueueReply;

@@ -1,4 +1,4 @@
-//! Whole lists of calls, made one at a time.
+//! Whole lists of calls, made one at a time: each call ends before the next begins, so nothing comes between its steps.
 use super::call::{Call, CallRun, Done, Stopped, WorldRefusal};
 use super::world::World;
 use std::collections::VecDeque;

@@ -1,4 +1,4 @@
-//! The names of a script.
+//! The names of a script. The invariant: a look-up by name finds what a walk over all entries would find.
 
 use channel_world_model::name::{HandleId, OpId, Waiter};
 use std::alloc::{AllocError, Global};

@@ -1,4 +1,5 @@
-//! What may be asked of a channel by the names of its handles and operations.
+//! What may be asked of a channel by the names of its handles and operations. A call is a plain value that says nothing of what lives under
+//! its names.
 use super::name::{HandleId, OpId};
 use std::alloc::AllocError;
 

@@ -1,4 +1,4 @@
-//! The handles and the operations under their names.
+//! The handles and the operations under their names. Calls change the table when they begin and when they end, never in between.
 
 use crate::names::{HandleEntry, OperationEntry, PollState};
 use channel_calls::stage::WaitList;

@@ -1,4 +1,5 @@
-//! What lives under which name, and what a call under way has to write back.
+//! What lives under which name, and what a call under way has to write back. The listener and the message of an operation are in its entry,
+//! or with the poll that is under way, never in both.
 
 use channel_world_model::name::{Handle, HandleId, HandleKind, OpId, Operation};
 use event_listener::key::Key;

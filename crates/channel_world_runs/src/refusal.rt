@@ -1,4 +1,4 @@
-//! Which calls are not begun, and why.
+//! Which calls are not begun, and why. A refusal only reads the names, so a refused call has changed nothing.
 
 use crate::name_table::NameTable;
 use crate::names::HandleEntry;

@@ -1,4 +1,4 @@
-//! Runs of many parties' steps.
+//! Runs of many parties' steps. One owner makes them all, one step after another, in the order of the list.
 
 ghost use Rattle.std.specs.Prelude.{◌≡◌, Some, vec_len};
 

@@ -1,4 +1,5 @@
-//! The parts of a channel by names with the calls of several parties under way, and one step of it.
+//! The parts of a channel by names with the calls of several parties under way, and one step of it. A step changes the channel by one
+//! operation, and the names only if it begins or ends a call.
 
 use crate::calls::{CallUnderWay, find_call, is_at_work};
 use crate::name_table::NameTable;

@@ -1,4 +1,5 @@
-//! A queue of one owner, a deque. Its contracts state each reply and each content exactly.
+//! A queue of one owner, a deque. The owner alone calls it, by `&mut`, so its contracts state each reply and each content exactly. The
+//! invariant: a bounded one holds no more messages than its capacity.
 //!
 //! # Extensions
 //!

@@ -1,4 +1,4 @@
-//! The cells of one owner, over which runs step. What they hold is known, so each operation's effect is exact.
+//! The cells of one owner, over which runs step. Nobody else touches them, so what they hold is known and each operation's effect is exact.
 
 ghost use Rattle.std.specs.Prelude.{◌≡◌, IfOk};
 ghost use Rattle.concurrent_queue.specs.machine.RingMade.{numbers_below, vacant_slots};

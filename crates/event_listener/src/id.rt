@@ -1,4 +1,4 @@
-//! Identities of events.
+//! Identities of events. Only a source makes them, and an event owns its own. The invariant: a source gives no number twice.
 //!
 //! # Extensions
 //!

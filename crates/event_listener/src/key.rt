@@ -1,4 +1,5 @@
-//! The names of listeners.
+//! The names of listeners. A key is a plain value and gives no access by itself: only its list turns it into a listener, and checks its
+//! serial number.
 //!
 //! # Extensions
 //!

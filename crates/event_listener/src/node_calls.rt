@@ -1,4 +1,5 @@
-//! The calls on nodes, each made of counted reads and writes.
+//! The calls on nodes, each made of counted reads and writes. They reach a node by its index, and compare its serial number if they have a
+//! key.
 ghost use Rattle.std.specs.Prelude.{◌≡◌, ◌≢◌, ◌+◌, ◌≤◌, IfSome, None, Some, false, true, ℕ};
 ghost use Rattle.slab.specs.Slab.{get, slab_len, with_value, ContainsKey};
 ghost use Rattle.event_listener.specs.Nodes.{found, found_looks, found_visits, stored_looks, more, more_if, Stays};

@@ -1,4 +1,5 @@
-//! Notifications: how many listeners one tells, of which kind it is, and the tags that it gives.
+//! Notifications: how many listeners one tells, of which kind it is, and the tags that it gives. A list takes a notification by value and
+//! is the only one that draws tags from it.
 ghost use Rattle.std.specs.Prelude.{◌≡◌, ℕ, Bool, Result, Ok, true, false};
 
 use crate::error::NoMemory;

@@ -1,4 +1,5 @@
-//! What is behind the lock of a recorded event, by what is done to it in a critical section.
+//! What is behind the lock of a recorded event, by what is done to it in a critical section. The recorded event reaches it by these methods
+//! alone.
 //!
 //! # Extensions
 //!

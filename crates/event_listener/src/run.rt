@@ -1,4 +1,5 @@
-//! Whole lists of calls, made one after another.
+//! Whole lists of calls on a list of one owner, made one after another. Nothing comes between them, so the run's effect and answers are
+//! those of the calls.
 //!
 //! # Extensions
 //!

@@ -1,4 +1,5 @@
-//! Listeners that live no longer than their event, and the macro that makes one.
+//! Listeners that live no longer than their event, and the macro that makes one. A listener owns its place on the list, as an
+//! `EventListener` does, and borrows the event.
 ghost use Rattle.std.specs.Prelude.{◌≡◌, ⊤, Result, ◌↔◌, Some, None, true, false, is_none, IfOk, IfErr, OnErr, Ok, Err};
 ghost use Rattle.futures.specs.Poll.{OnPending, IfReady};
 ghost use Rattle.futures.specs.Task.{Covers, IsArmed, Keeps};

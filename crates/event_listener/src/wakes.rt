@@ -1,4 +1,5 @@
-//! Where woken tasks go.
+//! Where woken tasks go. A list passes tasks to a sink in the middle of a call, for an event under the event's lock, so a sink must not use
+//! that event.
 //!
 //! # Extensions
 //!

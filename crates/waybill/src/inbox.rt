@@ -1,4 +1,4 @@
-//! What one thread receives, kept beside its pass.
+//! What one thread receives, kept beside its pass. The invariant: the pass has received just these messages, and sent none.
 
 ghost use Rattle.std.specs.Prelude.{◌≡◌, List, [], ◌∷◌, ◌++◌, IfOk, IfErr};
 ghost use Rattle.waybill.specs.Accounts.{fresh, account};

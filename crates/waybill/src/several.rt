@@ -1,4 +1,4 @@
-//! Several messages packed at once.
+//! Several messages packed at once, by one pass.
 
 ghost use Rattle.std.specs.Prelude.{◌≡◌, IfOk, IfErr};
 ghost use Rattle.waybill.specs.Accounts.{after_all_sent};

@@ -1,4 +1,5 @@
-//! A receiver's side, which checks the places of what comes.
+//! A receiver's side, which checks the places of what comes. The invariant: for each sender it keeps the place after the last that it
+//! accepted.
 
 ghost use Rattle.std.specs.Prelude.{◌≡◌, ◌⊎◌, ℕ, ◌<◌, ◌≤◌, true, false, [], length, slice_index, IfOk, IfErr};
 ghost use Rattle.waybill.specs.Accounts.{fresh, account};

@@ -1,4 +1,5 @@
-//! A sender's side that numbers what it sends.
+//! A sender's side that numbers what it sends. The invariant: the pass has sent the messages with the numbers below the next one, in order,
+//! and received none.
 
 ghost use Rattle.std.specs.Prelude.{◌≡◌, [], length, IfOk, IfErr};
 ghost use Rattle.waybill.specs.Accounts.{fresh, account};

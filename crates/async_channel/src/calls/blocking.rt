@@ -1,4 +1,4 @@
-//! The calls that block their thread, over cells of any kind with a bed, which a trace sees.
+//! The calls that block their thread, over cells of any kind with a bed, which a trace sees. The bed is the thread's own.
 
 ghost use Rattle.std.specs.Prelude.{◌≡◌, IfErr};
 ghost use Rattle.channel_calls.specs.Blocks.{Blocks};

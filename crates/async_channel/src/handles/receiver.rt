@@ -1,4 +1,5 @@
-//! The receiving side of a channel.
+//! The receiving side of a channel. A receiver owns one count of the channel, which only its drop lowers, and the listener that is listed
+//! for it as a stream.
 //!
 //! # Extensions
 //!

@@ -1,4 +1,4 @@
-//! The sending side of a channel.
+//! The sending side of a channel. A sender owns one count of the channel, which only its drop lowers.
 //!
 //! # Extensions
 //!

@@ -1,4 +1,4 @@
-//! A receiver as a stream of messages.
+//! A receiver as a stream of messages. The receiver owns the stream's listener, so one task at a time polls it.
 
 ghost use Rattle.std.specs.Prelude.{◌≡◌, is_some};
 ghost use Rattle.futures.specs.Poll.{OnPending};

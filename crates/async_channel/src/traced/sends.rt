@@ -1,4 +1,4 @@
-//! The calls of a sender that send.
+//! The calls of a sender that send, with a trace of the caller's.
 
 ghost use Rattle.std.specs.Prelude.{◌≡◌, None, IfOk, IfErr};
 ghost use Rattle.concurrent_queue.specs.Replies.{is_bounded, room_of};

@@ -1,4 +1,4 @@
-//! The calls of a receiver that receive.
+//! The calls of a receiver that receive, with a witness.
 
 ghost use Rattle.std.specs.Prelude.{◌≡◌, ◌≤◌, ◌<◌, [], Some, length, Err, IfOk, IfErr, OnErr};
 ghost use Rattle.std.specs.Vec.{vec_capacity, vec_ptr};

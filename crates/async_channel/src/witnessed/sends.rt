@@ -1,4 +1,4 @@
-//! The calls of a sender that send.
+//! The calls of a sender that send, with a witness.
 
 ghost use Rattle.std.specs.Prelude.{◌≡◌, [], Some, IfErr};
 ghost use Rattle.channel_calls.specs.Replies.{RefusesTrySend, RefusesForceSend};

@@ -1,4 +1,5 @@
-//! What the cells of a call do, each step as its machine does it next.
+//! What the cells of a call do, each step as its machine does it next. Queue words and counts are touched by one atomic operation each, a
+//! wait queue only in a critical section.
 
 ghost use Rattle.std.specs.Prelude.{◌≡◌};
 ghost use Rattle.channel_history.specs.Machine.{counter_of, waiters_of};

@@ -1,4 +1,4 @@
-//! What a look says of a channel's history, for any seat of one of its parties.
+//! What a look proves of a channel's history, for any seat of one of its parties. It reads one word and changes nothing.
 
 ghost use Rattle.std.specs.Prelude.{◌≡◌};
 ghost use Rattle.concurrent_queue.specs.history.Shared.{both_views};

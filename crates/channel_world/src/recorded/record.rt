@@ -1,4 +1,5 @@
-//! The record of a channel.
+//! The record of a channel. It is finished, so nothing changes it. The invariant: it replays from the opening by the definitions of one
+//! call at a time.
 
 use super::laws::{a_record_leaves_nobody_asleep, a_record_loses_nothing};
 use super::receipt::Receipt;

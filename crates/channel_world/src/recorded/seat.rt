@@ -1,4 +1,5 @@
-//! Seats of a recorded channel.
+//! Seats of a recorded channel. A seat owns one part of the ledger; the invariant is that its amount counts the seat's number and its
+//! accepted calls.
 
 use std::marker::Model;
 use std::sync::ledger::{Ledger, Share};

@@ -1,4 +1,4 @@
-//! Scripts, from bytes to bytes.
+//! Scripts, from bytes to bytes: what a script writes and how it ends, without input or output.
 ghost use Rattle.std.specs.Prelude.{◌≡◌, ◌≤◌, ◌<◌, ◌^◌, ◌++◌, ◌∷◌, [], Some, None, IfOk, OnOk, OnErr, OnSome, IfSome};
 ghost use Rattle.std.specs.Option.{option_map};
 ghost use Rattle.std.specs.Result.{result_unwrap_or};

@@ -1,4 +1,4 @@
-//! Reading a script, and writing its text.
+//! Reading a script, and writing its text. Only this module touches the reader and the writer.
 ghost use Rattle.std.specs.Prelude.{◌≡◌, ◌≤◌, ◌++◌, ℕ, List, [], IfOk, IfErr, IfSome, vec_len};
 ghost use Rattle.std.specs.Bool.{OnTrue};
 ghost use Rattle.std.specs.Io.KnownBytes.{Appends};

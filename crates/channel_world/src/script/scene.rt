@@ -1,4 +1,4 @@
-//! One command of a script.
+//! One command of a script. The scene owns the world and the table of names; the text of the script outlives both.
 ghost use Rattle.std.specs.Prelude.{◌≡◌, ◌<◌, ◌≤◌, ◌+◌, ◌^◌, length, false, Ok, Err, IfOk, IfErr, OnOk};
 ghost use Rattle.std.specs.List.{list_all};
 ghost use Rattle.channel_world_model.specs.Refusal.{refusal};

@@ -1,4 +1,5 @@
-//! The fast path of a push and of a pop, in the form of their queue.
+//! The fast path of a push and of a pop, in the form of their queue. A call that it leaves goes on in the machine at the action that
+//! failed, so no operation is made twice.
 
 ghost use Rattle.std.specs.Prelude.{◌≡◌, MatchResult};
 ghost use Rattle.concurrent_queue.specs.Replies.{MayCall, MayAnswer};

@@ -1,4 +1,5 @@
-//! The queue without a bound that threads share. It owns the words of its two ends, and its blocks.
+//! The queue without a bound that threads share. It owns the words of its two ends, and its blocks. Any thread touches them, each by a seat
+//! of its own that lasts for one call.
 
 ghost use Rattle.std.specs.Prelude.{◌≡◌};
 ghost use Rattle.concurrent_queue.specs.Replies.{AsksWords, Follows, MayAnswer, MayCall};

@@ -1,4 +1,5 @@
-//! Calls of a queue with a bound, with a witness of what they asked and what they were answered.
+//! Calls of a queue with a bound, with a witness of what they asked and what they were answered. Each call takes the witness and returns
+//! it, and nothing else makes or changes one; so its view is what its party really did, in order.
 //!
 //! # Extensions
 //!
