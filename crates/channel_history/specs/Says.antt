@@ -116,7 +116,7 @@ module _ {T W : Type 0} (form : QueueForm) (views : List (Standing T W)) (cells 
     -- and so the cells say it
     pub words : WordsSay cells says.keeps.is.parties (configuration_of says)
     -- beside one who is pending and was not told, whose listener no call has in hand, there is no message, no free place and no
-    -- closing but such as a told one or a call under way answers for
+    -- closing for which no told one and no call under way is responsible
     pub receives : PendingReceivesAreOwed (configuration_of says)
     pub sends : PendingSendsAreOwed (configuration_of says)
     pub streams : PendingStreamsAreOwed (configuration_of says)

@@ -1,4 +1,4 @@
--- Who sleeps in a world, pending and not woken since the last poll, and what answers for it: calls under way or not.
+-- Which names sleep in a world, pending and not woken since the last poll, and what is responsible for them: calls under way or not.
 use Rattle.std.specs.Prelude.{◌≡◌, ℕ, ◌+◌, ◌<◌, ◌≤◌, true, false, [], length, Option, None, Some}
 use Rattle.channel_calls.specs.declared.stage.WaitList.{WaitList}
 use Rattle.channel_calls.specs.declared.stage.WaitList.TheVariants.{Sends, Receives, Streams}
@@ -28,7 +28,7 @@ module _ {T : Type 0} where
   pub record NobodySleeps (line : WaitList) (w : WorldView T) : Type 0 where
     pub none : (name : Waiter) → IsUnwoken line name (names_in w) (woken_in w) → ⊥
 
-  -- ---- what answers for who sleeps, in the numbers that a world tells
+  -- ---- what is responsible for those that sleep, in the numbers that a world tells
 
   -- where a receive sleeps there are no more messages than woken ones and calls under way
   abbrev pub ReceivesAreAnswered : WorldView T → Type 0
@@ -100,7 +100,7 @@ module _ {T : Type 0} where
   abbrev pub AllAreAwake : WorldView T → Type 0
   AllAreAwake w = pending_in w ≡ woken_among w → (line : WaitList) → NobodySleeps line w
 
-  -- ---- the state that it is then: whom a message, a free place or a closing lets go on
+  -- ---- the state that it is then: the names that a message, a free place or a closing lets go on
 
   -- where it holds a message no receive is pending
   abbrev pub NoReceivePendsBesideAMessage : WorldView T → Type 0
@@ -119,7 +119,7 @@ module _ {T : Type 0} where
   abbrev pub NobodyPendsOnAClosed : WorldView T → Type 0
   NobodyPendsOnAClosed w = (at_rest w).channel.closed ≡ true → (line : WaitList) → untold line (at_rest w).waiting ≡ []
 
-  -- beside one who was not woken no message, free place or closing but such as the woken ones answer for
+  -- beside one who was not woken no message, free place or closing for which no woken one is responsible
   abbrev pub NobodyIsLeftAtRest : WorldView T → Type 0
   NobodyIsLeftAtRest w = IsQuiet w → NobodyIsLeft (at_rest w)
 

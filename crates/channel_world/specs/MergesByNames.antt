@@ -69,8 +69,8 @@ module _ {T S : Type 0} (wakes : S → Waiter → S → Type 0) where
     -- A call that begins has its names, and its party is at work. Who is woken comes last in the order of waking. And a call that
     -- answers has written back to its names what it left to them.
     pub name_state : IsNameStateOf x.by_name e.reply e.kept names m.name_state n.name_state
-    -- beside one who is pending and was not woken, there is no message, free place or closing but such as a woken one or a call
-    -- under way answers for
+    -- beside one who is pending and was not woken, there is no message, free place or closing for which no woken one and no call under way
+    -- is responsible
     pub owed : Owed (observation_at n.name_state n.merge.configuration)
 
   -- the run that a merge is, as its headline tells it, is one by names from the opening of a channel

@@ -45,8 +45,8 @@ module _ {T : Type 0} where
     pub stands : StandsIn world m.configuration
     -- of each call under way, the marks are the first of those that a call which asks this makes
     pub begun : Each (λ u. BeginsItsMarks u) m.configuration.under_way
-    -- beside one who is pending and was not woken, there is no message, free place or closing but such as a woken one or a call
-    -- under way answers for
+    -- beside one who is pending and was not woken, there is no message, free place or closing for which no woken one and no call under way
+    -- is responsible
     pub owed : Owed (observation_at m.name_state m.configuration)
     -- the channel is closed or not and holds so many messages as its queue's words say; and each message lies in the slot that
     -- they name for it alone, without a bound by the blocks that the queue has used, or is with the call that is yet to put it there

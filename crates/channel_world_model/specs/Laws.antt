@@ -100,7 +100,7 @@ abbrev pub free_places : Option ℕ → ℕ → ℕ
 free_places None held = 0
 free_places (Some capacity) held = capacity - held
 
--- Nobody stays pending and unwoken beside a message, a free place or a closing that no woken one answers for.
+-- Nobody stays pending and unwoken beside a message, a free place or a closing for which no woken one is responsible.
 pub record NobodyIsLeft {T : Type 0} (s : State T) : Type 0 where
   -- beside an unwoken receive there are no more messages than woken receives
   pub receives : (s.waiting.receives ≡ []) ⊎ (length s.channel.messages ≤ woken_of_line Receives s)

@@ -1,4 +1,4 @@
--- Names in the order of waking: who has a place, who was woken, and that no one was twice.
+-- Names in the order of waking: which have a place, which were woken, and that none was woken twice.
 use Rattle.std.proofs.Common.{◌≡◌, Bool, true, false, cond, not, ◌||◌, if◌then◌else◌, List, [], ◌∷◌, ◌++◌, Option, None, Some, ◌⊎◌, inl, inr, refl, sym, ap, ◌∙◌, subst}
 use Rattle.event_listener.specs.declared.key.Key.{Key}
 use Rattle.channel_world_model.specs.Lines.{same_waiter, is_among, without_waiter}

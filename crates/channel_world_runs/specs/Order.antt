@@ -13,7 +13,7 @@ use Rattle.channel_world_runs.specs.declared.names.OnReturn.TheVariants as on_re
 use Rattle.channel_world_model.specs.declared.plan.Plan.{Plan}
 use Rattle.channel_world_model.specs.declared.plan.Plan.TheVariants as plan
 
--- who has a place, and those who were woken, in the order of their waking
+-- the names that have a place, and those that were woken, in the order of their waking
 pub record WakeOrder : Type 0 where
   pub places : List Waiter
   pub woken : List Waiter

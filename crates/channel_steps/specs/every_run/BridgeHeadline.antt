@@ -46,7 +46,7 @@ module _ {T W S : Type 0} where
     -- of each call under way, the marks are the first of those that a call which asks this makes
     pub begun : Each (λ u. BeginsItsMarks u) m.configuration.under_way
     -- beside one who is pending and was not told, whose listener no call has in hand, there is no message, no free place and no
-    -- closing but such as a told one or a call under way answers for
+    -- closing for which no told one and no call under way is responsible
     pub receives : PendingReceivesAreOwed m.configuration
     pub sends : PendingSendsAreOwed m.configuration
     pub streams : PendingStreamsAreOwed m.configuration

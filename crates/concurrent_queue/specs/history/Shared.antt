@@ -239,7 +239,7 @@ module _ {T A : Type 0} where
         (found ≡ 0 → (x : Option T) × Won st.word x None (did_take (At st.word) x) m m')
         × (found ≢ 0 → m' ≡ m)
 
-    -- this message is put into a slot in the step that wins its guard, or is handed back
+    -- this message is put into a slot in the step that wins its guard, or is returned
     abbrev pub PutOn : ℕ → T → Option T → Seated T A → Seated T A → Type 0
     PutOn i v None m m' = Won i None (Some v) (did_put (At i) v (Ok tt)) m m'
     PutOn i v (Some y) m m' = Won i (Some y) (Some y) (did_put (At i) v (Err v)) m m'
