@@ -27,7 +27,7 @@ pub answer_of : {N : Type 0} (many told : ℕ) (rest : N) (r : Result ℕ Notify
 answer_of many told rest (Ok n) h = h.1
 answer_of many told rest (Err e) h = absurd (let no = h.4.0 in cc)
 
--- whatever no tag of the notice is refused
+-- whatever no tag of the notification is refused
 pub answer_by : {N : Type 0} (gives : N → Result (Unit {0}) NoMemory → N → Type 0) → ((s : N) (e : NoMemory) (t : N) → gives s (Err e) t → ⊥)
     → (many told : ℕ) (rest : N) (r : Result ℕ NotifyError) → IsAnswer gives many told rest r → told ≡ many
 answer_by gives never many told rest (Ok n) h = h.1

@@ -84,7 +84,7 @@ module _ {T W : Type 0} where
   abbrev pub registers : WaitList → Key → W → Channel T W → Effect T W
   registers line key task c = on_line line (registration key task (listeners line c.wait_lists)) [] c
 
-  -- a listener leaves, and passes on the notice that it was told
+  -- a listener leaves, and passes on the notification that it was told
   abbrev pub removes : ListenerRef → Channel T W → Effect T W
   removes h c = on_line h.line (removed h.key true (listeners h.line c.wait_lists)) (removed_wakes h.key true (listeners h.line c.wait_lists)) c
 

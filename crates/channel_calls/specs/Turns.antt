@@ -38,7 +38,7 @@ abbrev pub held_on : WaitList → Option Key → Option ListenerRef
 held_on line None = None
 held_on line (Some key) = Some (record { line = line; key = key })
 
--- who closes where the last handle of this kind is dropped
+-- which call closes if the last handle of this kind is dropped
 abbrev pub dropper : Side → Option Key → Closer
 dropper Senders key = closer.Sender
 dropper Receivers key = closer.Receiver key

@@ -1,5 +1,5 @@
--- The machine of a channel's calls: the deed that each stage does and what follows its answer; and calls walked on by it. It speaks of
--- any cells, whatever they hold, and of any relation `did` between two of their states, of which nothing is known: who shows that a
+-- The machine of a channel's calls: the deed that each stage does and what follows its answer; and calls walked on by it. It speaks of any
+-- cells, whatever they hold, and of any relation `did` between two of their states, of which nothing is known: a body that shows that a
 -- call was walked has done these deeds in this order, and no others, and has gone by their answers.
 use Rattle.std.specs.Prelude.{◌≡◌, ℕ, zero, suc, Bool, true, false, List, Option, None, Some, Result, Ok, Err}
 use Rattle.concurrent_queue.specs.Replies.{IsAsking}

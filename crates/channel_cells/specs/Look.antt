@@ -21,7 +21,7 @@ use Rattle.channel_history.specs.declared.party.Standing.{Standing}
 
 module _ {T W : Type 0} where
   -- a history is a run of the channel, of which the headline holds: each message in order and once, each reply at moments of its call, and
-  -- nobody who is pending was missed
+  -- no pending waiter was missed
   pub record RunSays (form : QueueForm) (views : List (Standing T W)) (cells : Contents T) (senders receivers : ℕ) (history : IsChannelHistory form views cells senders receivers) : Type 0 where
     pub says : HistorySays form views cells senders receivers history
     pub moment : MomentSays form views cells senders receivers history says

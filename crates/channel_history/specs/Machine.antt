@@ -105,7 +105,7 @@ module _ {T W : Type 0} where
   abbrev pub SetsFlag : QueueForm → Standing T W → Standing T W → WaitList → ℕ → Type 0
   SetsFlag form s t line n = (l : ListView Unit W) × (k : ListView Unit W) × IsSection form line l k s t × (n ≡ 0 → NobodyWaits k)
 
-  -- a notice to those who wait on a list, of whom there is none
+  -- a notification of a list on which nobody waits
   abbrev pub FindsNobody : QueueForm → Standing T W → Standing T W → WaitList → Type 0
   FindsNobody form s t line = (telling : Telling) × Makes form s (on_wait_lists (told line telling [])) t × (t.own ≡ s.own)
 

@@ -115,7 +115,7 @@ module _ {T W : Type 0} (form : QueueForm) (views : List (Standing T W)) (cells 
     pub fits : IsWithinBound (configuration_of says).now
     -- and so the cells say it
     pub words : WordsSay cells says.keeps.is.parties (configuration_of says)
-    -- beside one who is pending and was not told, whose listener no call has in hand, there is no message, no free place and no
+    -- beside one that is pending and was not told, whose listener no call has in hand, there is no message, no free place and no
     -- closing for which no told one and no call under way is responsible
     pub receives : PendingReceivesAreOwed (configuration_of says)
     pub sends : PendingSendsAreOwed (configuration_of says)

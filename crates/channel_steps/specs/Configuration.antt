@@ -85,7 +85,7 @@ module _ {T : Type 0} where
   unless_answered k None xs = xs
   unless_answered k (Some r) xs = remove xs k
 
-  -- those at work after a step of the k-th, who stands so then
+  -- those at work after a step of the k-th, which leaves it so
   abbrev pub after_step : {A : Type 0} → List A → ℕ → A → Option (Reply T) → List A
   after_step xs k x None = slice_set xs k x
   after_step xs k x (Some r) = remove xs k

@@ -119,7 +119,7 @@ module _ {T : Type 0} where
   abbrev pub NobodyPendsOnAClosed : WorldView T → Type 0
   NobodyPendsOnAClosed w = (at_rest w).channel.closed ≡ true → (line : WaitList) → untold line (at_rest w).waiting ≡ []
 
-  -- beside one who was not woken no message, free place or closing for which no woken one is responsible
+  -- beside one that was not woken no message, free place or closing for which no woken one is responsible
   abbrev pub NobodyIsLeftAtRest : WorldView T → Type 0
   NobodyIsLeftAtRest w = IsQuiet w → NobodyIsLeft (at_rest w)
 

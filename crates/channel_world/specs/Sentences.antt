@@ -45,7 +45,7 @@ module _ {T : Type 0} where
     pub stands : StandsIn world m.configuration
     -- of each call under way, the marks are the first of those that a call which asks this makes
     pub begun : Each (λ u. BeginsItsMarks u) m.configuration.under_way
-    -- beside one who is pending and was not woken, there is no message, free place or closing for which no woken one and no call under way
+    -- beside one that is pending and was not woken, there is no message, free place or closing for which no woken one and no call under way
     -- is responsible
     pub owed : Owed (observation_at m.name_state m.configuration)
     -- the channel is closed or not and holds so many messages as its queue's words say; and each message lies in the slot that
@@ -77,8 +77,8 @@ module _ {T : Type 0} where
     -- to the plain channel it does what its mark says, by touching one cell, one list or one count at most
     pub effect : plain n.configuration.now ≡ marked e.mark (brought call.ask) (plain m.configuration.now)
     pub touches : OnePlace m.parts n.parts
-    -- it wakes those whom its one telling finds waiting, in order, or him to whom a listener of its own that it drops passes its
-    -- notice on, and nobody else
+    -- it wakes those that its one notification finds waiting, in order, or the one to which a listener of its own that it drops passes its
+    -- notification on, and nobody else
     pub wakes : WokenBy (telling call.at) (dropping call.at) m.configuration.now e.woken.items
 
   pub record WorkSays (m : Moment T) (p : PartyId) (e : Entry T) (n : Moment T) : Type 0 where

@@ -31,7 +31,7 @@ module _ {T : Type 0} where
 
   -- ---- room
 
-  -- one was polled, and those whom the poll woke stand after the names before
+  -- one was polled, and those that the poll woke stand after the names before
   pub record Polls (w : Waiter) (s : State T) (before : List Waiter) (x : Reply T) (after : List Waiter) (t : State T) : Type 0 where
     pub woken : List Waiter
     pub names : after ≡ before ++ woken
@@ -42,7 +42,7 @@ module _ {T : Type 0} where
   abbrev pub pending_on : WaitList → State T → ℕ
   pending_on line s = length (untold line s.waiting) + woken_of_line line s
 
-  -- Settling makes no more polls: one for each who is woken, and for each who is pending as many as it may wake when it leaves: a send
+  -- Settling makes no more polls: one for each that is woken, and for each that is pending as many as it may wake when it leaves: a send
   -- all streams and two more, a receive two, a stream one, and a wait for the closing nobody.
   abbrev pub most_polls : State T → ℕ
   most_polls s =

@@ -338,7 +338,7 @@ module _ (k : Kind) (capacity : Option ℕ) where
     opened = λ o line. all_empty line l;
   }
 
-  -- when one of this line may stand, or be out of it, without a notice being passed on
+  -- when one of this line may stand, or be out of it, without a notification being passed on
   abbrev pub Idle : WaitList → ℕ → Type 0
   Idle Sends n = (free_places capacity n ≡ 0) × (capacity ≡ None → ⊥)
   Idle Receives n = n ≡ 0

@@ -1,4 +1,4 @@
--- What is true of a world between two calls: who waits, where, and that nobody is left asleep.
+-- What is true of a world between two calls: which names wait, where, and that none is left asleep.
 use Rattle.std.specs.Prelude.{◌≡◌, ◌⊎◌, ◌≤◌, ◌+◌, ℕ, List, [], length, Bool, true, false, Option, None, Some, IsSome}
 use Rattle.std.specs.List.{filter}
 use Rattle.channel_world_model.specs.Lines.{Waiting, same_waiter, is_among, untold}

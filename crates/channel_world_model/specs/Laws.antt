@@ -110,7 +110,7 @@ pub record NobodyIsLeft {T : Type 0} (s : State T) : Type 0 where
   pub unbounded : s.channel.capacity ≡ None → s.waiting.sends ≡ []
   -- beside an unwoken stream there is no message
   pub streams : (s.waiting.streams ≡ []) ⊎ (length s.channel.messages ≡ 0)
-  -- whoever is unwoken waits on an open channel
+  -- each that is unwoken waits on an open channel
   pub opened : s.channel.closed ≡ true → (line : WaitList) → untold line s.waiting ≡ []
 
 abbrev pub NobodyIsLeftAsleep : Type 0 → Type 0

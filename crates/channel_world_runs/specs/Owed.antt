@@ -41,9 +41,9 @@ module _ {T : Type 0} where
 
 -- ---- what is owed
 
--- What a world shows at a moment: what lives under which name, who was woken, how many messages it holds, at most so many, and whether it is
--- closed; and of the calls under way how many are sending and how many receiving, how many have closed it, and how many places
--- they have freed by taking messages and not announced yet to those who wait to send.
+-- What a world shows at a moment: what lives under which name, which were woken, how many messages it holds, at most so many, and whether
+-- it is closed; and of the calls under way how many are sending and how many receiving, how many have closed it, and how many places they
+-- have freed by taking messages and not announced yet to the waiting sends.
 pub record Observation (T : Type 0) : Type 0 where
   pub name_table : NameTable T
   pub woken : List Waiter
@@ -56,11 +56,11 @@ pub record Observation (T : Type 0) : Type 0 where
   pub freed : ℕ
 
 module _ {T : Type 0} where
-  -- how many of these, who were woken, belong to this line
+  -- how many of these, which were woken, belong to this line
   abbrev pub woken_on : WaitList → NameTable T → List Waiter → ℕ
   woken_on line r woken = count_by (λ w. is_line line (line_at (names_of r) w)) woken
 
-  -- it is pending on this line, and is none of these, who were woken
+  -- it is pending on this line, and is none of these, which were woken
   abbrev pub IsUnwoken : WaitList → Waiter → NameTable T → List Waiter → Type 0
   IsUnwoken line name r woken = (key : Key) × (status r name ≡ waits (record { line = line; key = key })) × (IsAmong name woken → ⊥)
 

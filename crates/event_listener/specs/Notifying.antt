@@ -18,7 +18,7 @@ module _ {L : Type 0} (did : ℕ → Section Unit → L → L → Type 0) (holds
 
 module _ {N T L : Type 0} (size : N → ℕ) (additional : N → Bool) (gives : N → Result T NoMemory → N → Type 0)
     (did : ℕ → Section T → L → L → Type 0) (holds : ℕ → ℕ → Type 0) (lacks : ℕ → Type 0) (lock : ℕ) where
-  -- in a section on its list the notice told these, by the tags that it gave; or it had none, and no tag was drawn
+  -- in a section on its list the notification told these, by the tags that it gave; or it had none, and no tag was drawn
   abbrev pub NotifiesEvent : N → Result ℕ NotifyError → Type 0
   NotifiesEvent notice result =
       TellsIn size gives notice result (λ tags. OnEvents did holds lock (notifies (additional notice) (size notice) tags result)) ⊎ (lacks lock × (result ≡ Ok 0))

@@ -1,4 +1,4 @@
--- Who waits on a list: what the calls under way count for is enough, or one of them has the listener in hand.
+-- One that waits on a list: what the calls under way count for is enough, or one of them has the listener in hand.
 use Rattle.std.specs.Prelude.{◌≡◌, ℕ, ◌+◌, List, [], ◌∷◌, None, Some, ◌⊎◌}
 use Rattle.concurrent_queue.specs.Queue.{Phase, Stage, trying}
 use Rattle.event_listener.specs.declared.key.Key.{Key}

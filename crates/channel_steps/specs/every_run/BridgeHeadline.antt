@@ -45,7 +45,7 @@ module _ {T W S : Type 0} where
     pub fits : IsWithinBound m.configuration.now
     -- of each call under way, the marks are the first of those that a call which asks this makes
     pub begun : Each (λ u. BeginsItsMarks u) m.configuration.under_way
-    -- beside one who is pending and was not told, whose listener no call has in hand, there is no message, no free place and no
+    -- beside one that is pending and was not told, whose listener no call has in hand, there is no message, no free place and no
     -- closing for which no told one and no call under way is responsible
     pub receives : PendingReceivesAreOwed m.configuration
     pub sends : PendingSendsAreOwed m.configuration
@@ -82,8 +82,8 @@ module _ {T W S : Type 0} (wakes : S → W → S → Type 0) where
     pub touches : OnePlace m.parts n.parts
     -- it takes out the oldest message and brings in the call's own where its mark says so
     pub accounts : AddUp m.configuration (gone_by e.mark m.configuration.now.queue.items) (brought_by e.mark (brought call.ask)) n.configuration
-    -- it wakes those whom its one telling finds waiting, in order, or him to whom a listener of its own that it drops passes its
-    -- notice on, and nobody else
+    -- it wakes those that its one notification finds waiting, in order, or the one to which a listener of its own that it drops passes its
+    -- notification on, and nobody else
     pub told : WokenBy (telling call.at) (dropping call.at) m.configuration.now names
     -- where it ends its call
     pub ends : IfSome e.reply (λ r. EndSays after r e.kept)

@@ -1,4 +1,4 @@
--- Who waits on a closed channel is told by the call that closed it, or a poll that has the listener in hand looks again.
+-- One that waits on a closed channel is told by the call that closed it, or a poll that has the listener in hand looks again.
 use Rattle.std.specs.Prelude.{◌≡◌, ℕ, ◌≤◌, false, List, ◌∷◌, [], Option, Some, ◌⊎◌}
 use Rattle.concurrent_queue.specs.Queue.{Phase, Stage, trying, taken}
 use Rattle.event_listener.specs.declared.key.Key.{Key}

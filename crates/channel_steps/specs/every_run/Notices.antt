@@ -15,8 +15,8 @@ use Rattle.channel_steps.specs.every_run.Closings.{HasClosed, LooksAgain}
 use Rattle.channel_steps.specs.every_run.Ends.{Each}
 use Rattle.channel_steps.specs.every_run.Waits.{Waits, WaitApart, Any}
 
--- how one of a list may be told while the channel is open: a send or a receive as one more, a stream by the default, and
--- who waits for the closing not at all
+-- how one of a list may be told while the channel is open: a send or a receive as one more, a stream by the default, and a wait for the
+-- closing not at all
 abbrev pub MayBeTold : WaitList → Bool → Type 0
 MayBeTold Sends additional = additional ≡ true
 MayBeTold Receives additional = additional ≡ true

@@ -1,5 +1,5 @@
--- What a call of a channel does where nobody else is at work: what it answers, what it leaves to its operation, whom it
--- wakes in order, and the channel after it.
+-- What a call of a channel does with no other call under way: what it answers, what it leaves to its operation, which tasks it wakes, in
+-- order, and the channel after it.
 use Rattle.std.specs.Prelude.{◌≡◌, ℕ, zero, suc, ◌+◌, ◌<◌, take, ◌==◌, ◌&&◌, nat_lt, Bool, true, false, if◌then◌else◌, List, [], ◌∷◌, ◌++◌, drop, length, slice_get, Option, None, Some, Ok, Err, ◌⊎◌}
 use Rattle.concurrent_queue.specs.Queue.{Queue, IsOpen, is_filled}
 use Rattle.event_listener.specs.Lists.{kind_of}
@@ -73,7 +73,7 @@ module _ {T W : Type 0} where
   abbrev pub answers : Reply T → Returned T → Channel T W → Outcome T W
   answers x kept c = record { reply = x; kept = kept; woken = []; channel = c }
 
-  -- it tells by these sections in order; then the listener that it holds leaves, and passes on the notice that it was told
+  -- it tells by these sections in order; then the listener that it holds leaves, and passes on the notification that it was told
   abbrev pub ends : List (Channel T W → Effect T W) → Ending T → Channel T W → Outcome T W
   ends [] x c = after_waking (leaves x.held c).woken (answers x.reply (leaving None x.message) (leaves x.held c).channel)
   ends (f ∷ fs) x c = after_waking (f c).woken (ends fs x (f c).channel)

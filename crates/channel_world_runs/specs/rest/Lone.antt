@@ -43,7 +43,7 @@ LoneCallsAnswer T =
     → Alone (asks b.name_table c) s.now o → t.now ≡ o.channel
     → Answers (state_at b s) c (record { after = state_at (name_state_alone b c o) t; reply = o.reply; woken = o.woken })
 
--- Where nobody is at work, whoever is pending and was woken may be polled alone, a stream also while a live operation borrows its
+-- With no call under way, each name that is pending and was woken may be polled alone, a stream also while a live operation borrows its
 -- receiver: the poll answers as the model may, and the names, the order of waking and the channel after it are the model's state
 -- after it.
 abbrev pub PollsAnswer : Type 0 → Type 0
