@@ -45,6 +45,7 @@ impl Counts {
 
     /// How many handles of this kind are counted.
     fn now(&self, side: Side) -> usize {
+        // One load, true at that moment only: other handles come and go.
         self.of(side).load(Ordering::SeqCst)
     }
 }

@@ -52,6 +52,7 @@ impl<L: Listeners> Turn<'_, L> {
         ensures { OnSome L.did (inserts result) }
     {
         let Turn { section } = self;
+        // The listener waits from this section on: each later notification can reach it.
         section.enter(rt).value().insert()
     }
 
@@ -60,6 +61,7 @@ impl<L: Listeners> Turn<'_, L> {
         ensures { OnSome L.did (registers key task result) }
     {
         let Turn { section } = self;
+        // One section asks the listener and stores the task: a notification in between would wake nobody.
         section.enter(rt).value().register(key, task)
     }
 
@@ -68,6 +70,7 @@ impl<L: Listeners> Turn<'_, L> {
         ensures { (names : Names Waiter) × OnSome L.did (removes key names) × Woken S.wakes sink.old names sink.new }
     {
         let Turn { section } = self;
+        // One section removes the listener and passes its notification on, so at no moment that has reached nobody.
         section.enter(rt).value().remove(key, sink);
     }
 
@@ -77,6 +80,7 @@ impl<L: Listeners> Turn<'_, L> {
         ensures { (names : Names Waiter) × OnSome L.did (tells telling names) × Woken S.wakes sink.old names sink.new }
     {
         let Turn { section } = self;
+        // Wakers run in the section, in the order of listening.
         section.enter(rt).value().tell(telling, sink);
     }
 }

@@ -94,6 +94,7 @@ pub fn send_fast<T: Drop, W: Drop, C: ChannelCells<T, W>, S: Wakes<W>>(
     ensures form { (f : QueueForm) → C.has_form cells.old f → C.has_form cells.new f }
 {
     let mut call = QueueCall::push(message);
+    // The queue first: whether anybody is notified follows from its answer.
     let answer = cells.step_queue(&mut call);
     let mark = Mark::of_queue(call.last_mark());
     match answer {
@@ -130,6 +131,7 @@ pub fn displace_fast<T: Drop, W: Drop, C: ChannelCells<T, W>, S: Wakes<W>>(
     ensures form { (f : QueueForm) → C.has_form cells.old f → C.has_form cells.new f }
 {
     let mut call = QueueCall::force_push(message);
+    // The queue first: whether anybody is notified follows from its answer.
     let answer = cells.step_queue(&mut call);
     let mark = Mark::of_queue(call.last_mark());
     match answer {
@@ -165,6 +167,7 @@ pub fn receive_fast<T: Drop, W: Drop, C: ChannelCells<T, W>, S: Wakes<W>>(
     ensures form { (f : QueueForm) → C.has_form cells.old f → C.has_form cells.new f }
 {
     let mut call = QueueCall::pop();
+    // The queue first: whether anybody is notified follows from its answer.
     let answer = cells.step_queue(&mut call);
     let mark = Mark::of_queue(call.last_mark());
     match answer {
@@ -199,6 +202,7 @@ pub fn length_fast<T: Drop, W: Drop, C: ChannelCells<T, W>, S: Wakes<W>>(
     ensures form { (f : QueueForm) → C.has_form cells.old f → C.has_form cells.new f }
 {
     let mut call = QueueCall::len();
+    // A question: nobody is notified.
     let answer = cells.step_queue(&mut call);
     let mark = Mark::of_queue(call.last_mark());
     match answer {

@@ -64,6 +64,7 @@ fn send_fast<T: Drop, W: Drop, C: ChannelCells<T, W>, S: Wakes<W>>(
     ensures form { (f : QueueForm) → C.has_form cells.old f → C.has_form cells.new f }
 {
     let mut call = QueueCall::push(message);
+    // The queue first: whether anybody is notified, or the poll listens, follows from its answer.
     let answer = cells.step_queue(&mut call);
     let mark = Mark::of_queue(call.last_mark());
     match answer {
@@ -107,6 +108,7 @@ fn receive_fast<T: Drop, W: Drop, C: ChannelCells<T, W>, S: Wakes<W>>(
     ensures form { (f : QueueForm) → C.has_form cells.old f → C.has_form cells.new f }
 {
     let mut call = QueueCall::pop();
+    // The queue first: whether anybody is notified, or the poll listens, follows from its answer.
     let answer = cells.step_queue(&mut call);
     let mark = Mark::of_queue(call.last_mark());
     match answer {
@@ -149,6 +151,7 @@ fn stream_fast<T: Drop, W: Drop, C: ChannelCells<T, W>, S: Wakes<W>>(
     ensures form { (f : QueueForm) → C.has_form cells.old f → C.has_form cells.new f }
 {
     let mut call = QueueCall::pop();
+    // The queue first: whether anybody is notified, or the poll listens, follows from its answer.
     let answer = cells.step_queue(&mut call);
     let mark = Mark::of_queue(call.last_mark());
     match answer {

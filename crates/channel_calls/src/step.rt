@@ -255,6 +255,7 @@ fn work_step<T: Drop, W: Drop, C: ChannelCells<T, W>, S: Wakes<W>>(
         ListStep::Leave(ending) => leave(ending, cells, sink),
         ListStep::Lower(side, key) => lower(side, key, cells),
         ListStep::Count(side) => {
+            // One load is the whole question: the count at that moment.
             let count = cells.count(side);
             takes(
                 NextStep::Ends(Reply::Count(count), Returned::nothing()),

@@ -87,6 +87,7 @@ impl<'a, T: Drop, W: Drop, R: Wait> CallCells<'a, T, W, R> {
             queue: HistoryCells { seat },
         } = self;
         let mut seat = seat;
+        // From this step on the history has the answer. It touches no cell, so it is a load whose answer nobody needs.
         seat.turn_by::<Brand, X, Y>(about, and);
         seat.rest()
     }

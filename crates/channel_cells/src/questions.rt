@@ -97,6 +97,7 @@ impl<T: Drop, W: Drop> ChannelTable<T, W> {
         ensures begun { HasBegun self.now (standing_of seat) E.ask (words_form result) (words_table result) (words_view result) }
     {
         let mut seat = self.table.go_on(seat);
+        // From this step on the history has the question, and the seat can't rest before it is answered.
         seat.turn::<Brand, X>(about);
         CallWords {
             queue: HistoryCells { seat },
@@ -194,6 +195,7 @@ impl<'a, T: Drop, W: Drop> CallWords<'a, T, W> {
             queue: HistoryCells { seat },
         } = self;
         let mut seat = seat;
+        // From this step on the history has the answer.
         seat.turn_by::<Brand, X, ()>(about, &());
         seat.rest()
     }

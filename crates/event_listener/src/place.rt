@@ -175,6 +175,7 @@ impl<T: Drop, L: Steps<T>> Place<T, L> {
         ensures left { is_none self.new.listed.key ≡ true }
     {
         let begun = L::now(clock);
+        // Register before the sleep, as in `wait`.
         if let Some(tag) = self.home.turn().park(rt, &mut self.listed, task) {
             return Some(tag);
         }

@@ -48,6 +48,7 @@ impl<'a, L> Section<'a, L> {
     pub fn enter<R: Wait>(self, rt: &R) -> Inside<'a, L> {
         let Section { value } = self;
         Inside {
+            // This right is used up, so the function that has it can't lock twice; the guard unlocks when it is dropped.
             guard: value.lock(rt),
         }
     }

@@ -34,6 +34,7 @@ impl WakerCell {
 
     /// Keeps this waker. An older one is dropped, which wakes its task. It may wait for the cell's lock.
     pub fn keep<R: Wait>(&self, rt: &R, waker: Waker) {
+        // Under the cell's lock a notification takes either the older waker or this one.
         *self.waker.lock(rt) = Some(waker);
     }
 
@@ -45,6 +46,7 @@ impl WakerCell {
         ensures armed { IsArmed cx.new }
         ensures kept { Keeps cx.old cx.new }
     {
+        // Under the cell's lock, so a notification takes the waker before this or after it.
         let mut guard = self.waker.lock(rt);
         let place = &mut *guard;
         let _pending: futures::task::Poll<()> = cx.register(&self.source, place);

@@ -59,6 +59,7 @@ impl<T, B: Room> Office<T, B> {
     {
         self.table
             .shared
+            // One atomic operation changes both views, so no fact is lost or counted twice.
             .join_seat::<Receives>(&mut pass.seat, other.seat);
     }
 
@@ -83,6 +84,7 @@ impl<T, B: Room> Office<T, B> {
         ensures message { result ≡ parcel }
     {
         let table = &self.table.shared;
+        // The waybill is used up by the operation that counts the message as received, so it counts once.
         table.join_seat::<Receives>(&mut pass.seat, parcel.bill);
         parcel.value
     }
@@ -95,6 +97,7 @@ impl<T, B: Room> Office<T, B> {
         ensures message { result ≡ parcel }
     {
         let table = &self.table.shared;
+        // The waybill is used up, so a message is received or taken back, never both.
         table.join_seat::<Returns>(&mut pass.seat, parcel.bill);
         parcel.value
     }

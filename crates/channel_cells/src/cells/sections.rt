@@ -65,8 +65,11 @@ impl<'a, T: Drop, W: Drop, R: Wait> CallCells<'a, T, W, R> {
         ensures same { IsSameCall self.old self.new }
     {
         if before == after {
+            // The word is right as it is, so the event is a load.
             self.queue.seat.turn_by::<E, X, Y>(about, and);
         } else {
+            // Under the list's lock, so a store suffices: nobody else writes the word, and notifiers that load it see the list before or
+            // after this step.
             let raised = u64::from(before);
             self.queue
                 .seat

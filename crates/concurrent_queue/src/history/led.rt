@@ -37,6 +37,7 @@ impl<'a, T, A, P: Machine<T, A>> CallSeat<'a, T, A, P> {
         ensures same { (self.new.seat.table_id ≡ self.old.seat.table_id) × (self.new.seat.me.0.who ≡ self.old.seat.me.0.who) × (self.new.seat.me.0.form ≡ self.old.seat.me.0.form) × (self.new.seat.me.0.over ≡ self.old.seat.me.0.over) }
     {
         let at = flag_index(self.table);
+        // A load whose answer nobody needs: only an atomic operation can change the view.
         self.table.shared.load::<Led<E>>(&mut self.seat, at);
     }
 }

@@ -196,6 +196,7 @@ impl<'a, T, A, P: Machine<T, A>> CallSeat<'a, T, A, P> {
         let NamelessSeat { seat } = other;
         self.table
             .shared
+            // One atomic operation changes both views, so what passes is with one of them at each moment.
             .join_seat::<TakesIn<P, E>>(&mut self.seat, seat);
     }
 
@@ -209,6 +210,7 @@ impl<'a, T, A, P: Machine<T, A>> CallSeat<'a, T, A, P> {
         ensures goes { (result.seat.me.0.state ≡ E.goes self.old.seat.me.0.state) × (result.seat.me.0.over ≡ []) × (result.seat.me.0.form ≡ self.old.seat.me.0.form) × (result.seat.table_id ≡ self.old.seat.table_id) }
         ensures same { (self.new.seat.table_id ≡ self.old.seat.table_id) × (self.new.seat.me.0.who ≡ self.old.seat.me.0.who) × (self.new.seat.me.0.form ≡ self.old.seat.me.0.form) × (self.new.seat.me.0.over ≡ self.old.seat.me.0.over) }
     {
+        // One atomic operation changes both views, so nothing is with both of them.
         let seat = self.table.shared.split_seat::<Parted<E>>(&mut self.seat);
         NamelessSeat { seat }
     }

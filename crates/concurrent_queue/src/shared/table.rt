@@ -68,6 +68,7 @@ impl<T> SharedTable<T> {
         let slots = self.table.slot_count();
         SeatedTable {
             table: &self.table,
+            // The load makes the seat; what it finds isn't used.
             seat: self.table.shared.load_new_seat::<Sit>(slots).1,
         }
     }

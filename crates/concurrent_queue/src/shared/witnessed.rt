@@ -61,6 +61,7 @@ fn next_cells<'a, T: Drop>(
     ensures party { (result.seat.seat.table_id ≡ witness.seat.table_id) × (result.seat.seat.me.0.who ≡ witness.seat.me.0.who) × (result.seat.seat.me.0.over ≡ witness.seat.me.0.over) }
 {
     let mut seat = table.table.go_on(witness);
+    // From this step on the history has the call, and the seat can't rest before its machine has answered.
     seat.turn::<Brand, QueueAsk<T>>(ask);
     HistoryCells { seat }
 }
@@ -135,6 +136,7 @@ impl<'a, T: Drop> Witnessed<'a, T> {
     {
         let Witnessed { table, witness } = self;
         let mut seat = table.table.go_on(witness);
+        // The history has the call from here on, as in `next_cells`.
         seat.turn::<Brand, T>(&value);
         let (answer, cells) = whole::push(rt, value, HistoryCells { seat });
         let HistoryCells { seat } = cells;
@@ -164,6 +166,7 @@ impl<'a, T: Drop> Witnessed<'a, T> {
     {
         let Witnessed { table, witness } = self;
         let mut seat = table.table.go_on(witness);
+        // The history has the call from here on, as in `next_cells`.
         seat.turn::<Brand, ()>(&());
         let (answer, cells) = whole::pop(rt, HistoryCells { seat });
         let HistoryCells { seat } = cells;

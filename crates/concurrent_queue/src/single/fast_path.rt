@@ -40,6 +40,7 @@ pub(crate) fn push_fast<T: Drop, C: Cells<T>>(
     if let Err(value) = cells.put(SLOT, value) {
         return Err(SingleAction::PushPut(value));
     }
+    // Last: from here on a pop can take the message. An `and` keeps the closed bit, which a store would erase.
     cells.fetch_and(Word::State, NOT_LOCKED);
     Ok(Ok(()))
 }
@@ -68,6 +69,7 @@ pub(crate) fn pop_fast<T: Drop, C: Cells<T>>(
     // Take before the lock bit is cleared: from then on a push can win the slot and put its message.
     match cells.take(SLOT) {
         Some(value) => {
+            // Last: from here on a push can win the slot. An `and` keeps the closed bit.
             cells.fetch_and(Word::State, NOT_LOCKED);
             Ok(Ok(value))
         }
