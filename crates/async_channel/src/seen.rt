@@ -59,7 +59,7 @@ pub enum Shown<'a> {
     Counted(Side, usize),
     /// The count of handles of this kind was lowered, and was this before.
     Lowered(Side, usize),
-    /// The count of handles of this kind was raised where it was this, or was not.
+    /// The count of handles of this kind was raised if it was this, or was not.
     Raised(Side, usize, bool),
     /// A task of the thread's own was asked for, and given or refused.
     Parked(&'a Option<Task>),

@@ -17,7 +17,7 @@ use concurrent_queue::error::{ForcePushError, PopError, PushError};
 use event_listener::key::Key;
 use futures::task::Poll;
 
-/// The queue answers each call in its own kind, so this is never reached where its contents are known.
+/// The queue answers each call in its own kind, so this is never reached if its contents are known.
 fn lost<T, W>() -> NextStep<T, W>
     ensures { result ≡ lost }
 {

@@ -79,8 +79,8 @@ pub(crate) fn turned<T: Drop, W: Drop>(
     }
 }
 
-/// Makes the steps of a send that doesn't wait; or returns the call, which has to be stepped on, where the cells make one step of the
-/// queue's call at a time.
+/// Makes the steps of a send that doesn't wait; or returns the call, which has to be stepped on, if the cells make one step of the queue's
+/// call at a time.
 #[inline(always)]
 pub fn send_fast<T: Drop, W: Drop, C: ChannelCells<T, W>, S: Wakes<W>>(
     message: T,

@@ -30,7 +30,7 @@ pub enum Reply<T> {
     Flag(bool),
     /// A number of messages or handles.
     Count(usize),
-    /// The capacity, where there is one.
+    /// The capacity, if there is one.
     Cap(Option<usize>),
     /// A handle or an operation was made.
     Made,

@@ -24,7 +24,7 @@ pub(crate) fn brought_in(mark: Mark) -> u64
     }
 }
 
-/// How many messages a call made alone has brought in, by its reply: none where it had none.
+/// How many messages a call made alone has brought in, by its reply: none if it had none.
 pub(crate) fn accepted_by<T>(brings: bool, reply: &Reply<T>) -> u64
     ensures { result ≡ accepted_by brings reply.now }
 {

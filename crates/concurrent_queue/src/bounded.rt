@@ -30,7 +30,7 @@ use crate::seen::Trace;
 /// The greatest capacity of a ring.
 pub(crate) const GREATEST: usize = 288_230_376_151_711_744;
 
-/// What a push does where the ring is full.
+/// What a push does if the ring is full.
 #[derive(Clone, Copy)]
 pub(crate) enum WhenFull {
     /// It is refused.
@@ -669,7 +669,7 @@ fn len_load<T: Drop, C: Cells<T>>(shape: Shape, cells: &mut C) -> Stepped<RingAc
     stay(RingAction::LenHead(shape.unmarked(tail), shape.is_marked(tail)))
 }
 
-/// The number between the two positions counts only where the tail rested.
+/// The difference of the two positions counts only if the tail stood still.
 fn len_again<T: Drop, C: Cells<T>>(
     shape: Shape,
     tail: u64,

@@ -241,7 +241,7 @@ impl<T: Drop> QueueCall<T> {
         QueueCall::new(QueueAsk::Push(value))
     }
 
-    /// A call that appends this message; where the queue is full, the oldest one leaves for it.
+    /// A call that appends this message; if the queue is full, the oldest one leaves for it.
     pub fn force_push(value: T) -> QueueCall<T>
         ensures starts { Starts result (ask.ForcePush value) }
         ensures asked { IsAsking result (ask.ForcePush value) }

@@ -43,12 +43,12 @@ pub(crate) enum SingleAction<T> {
     Push(T),
     PushPut(T),
     PushUnlock,
-    /// Win the slot for this message, where the state is this.
+    /// Win the slot for this message, if the state is this.
     Force(T, u64),
     ForceTake(T),
     ForcePut(T, Option<T>),
     ForceUnlock(Option<T>),
-    /// Win the message, where the state is this.
+    /// Win the message, if the state is this.
     Pop(u64),
     PopTake,
     PopUnlock(T),
@@ -206,7 +206,7 @@ fn push<T: Drop, C: Cells<T>>(value: T, cells: &mut C) -> Stepped<SingleAction<T
     }
 }
 
-/// Wins the slot, empty or full, of an open queue. The exchange fails where the closed bit is set, so it cannot lose it.
+/// Wins the slot, empty or full, of an open queue. The exchange fails if the closed bit is set, so it cannot lose it.
 fn force_push<T: Drop, C: Cells<T>>(
     value: T,
     expected: u64,

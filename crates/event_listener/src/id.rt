@@ -26,7 +26,7 @@ impl Model for EventId {
     ghost view = { λ id. id.number };
 }
 
-// Two identities are equal exactly where their numbers are: the model above is the number.
+// Two identities are equal exactly if their numbers are: the model above is the number.
 impl PartialEq for EventId {
     ghost use Rattle.std.specs.Prelude.{nat_eq};
     ghost use Rattle.std.specs.Cmp.Rules.{comparing};

@@ -11,7 +11,7 @@ use crate::history::table::{CallSeat, RuledTable};
 use crate::{QueueAsk, QueueCall, QueueReply};
 use std::collections::LinkedList;
 
-/// Where a party stands.
+/// The state of a party.
 pub struct Standing<T> {
     /// What its calls asked, in order.
     pub asked: LinkedList<QueueAsk<T>>,

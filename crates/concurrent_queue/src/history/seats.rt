@@ -1,5 +1,6 @@
 //! Seats of parties: how a party enters, rests and goes on, how it looks at the history, and how one seat's part goes to another. Nothing
 //! else makes or drops the seat of a party that acts, so a body that stops in the middle of a call does not type-check. No call here waits.
+//! Each costs one load, except `go_on`, `rest` and `forget_name`, which make no atomic operation.
 //!
 //! A view of the table changes only in an atomic operation. So a step of a machine that touches no cell and no count is a load whose answer
 //! nobody needs: without it no view could say that the step was made.
@@ -36,7 +37,7 @@ pub struct NamelessSeat<T, A> {
 }
 
 impl<T, A> IdleSeat<T, A> {
-    /// The same seat, as one that can be taken in. It makes no atomic operation.
+    /// The same seat, as one that can be taken in.
     #[inline(always)]
     pub fn forget_name(self) -> NamelessSeat<T, A>
         ensures { result.seat ≡ self.seat }
@@ -47,7 +48,7 @@ impl<T, A> IdleSeat<T, A> {
 }
 
 impl<T, A, P: Machine<T, A>> RuledTable<T, A, P> {
-    /// Adds a new party, at the state that the caller's proof picks. It costs one load.
+    /// Adds a new party, at the state that the caller's proof picks.
     #[inline(always)]
     pub fn enter<E: Picks<A>, X>(&self, _about: &X) -> CallSeat<'_, T, A, P>
         requires enters { P.enters self.now.table.shared.key (E.to P.first) }
@@ -65,7 +66,7 @@ impl<T, A, P: Machine<T, A>> RuledTable<T, A, P> {
         }
     }
 
-    /// The party of this seat goes on, at the state where it rested. It makes no atomic operation.
+    /// The party of this seat goes on, at the state where it rested.
     #[inline(always)]
     pub fn go_on(&self, idle: IdleSeat<T, A>) -> CallSeat<'_, T, A, P>
         requires same { idle.seat.table_id ≡ self.now.table.shared.table_id }
@@ -80,7 +81,7 @@ impl<T, A, P: Machine<T, A>> RuledTable<T, A, P> {
         }
     }
 
-    /// The seat gets to know its number, so that its party can make calls, and look. It costs one load.
+    /// The seat gets to know its number, so that its party can make calls, and look.
     #[inline(always)]
     pub fn name(&self, nameless: NamelessSeat<T, A>) -> IdleSeat<T, A>
         requires same { nameless.seat.table_id ≡ self.now.table.shared.table_id }
@@ -96,7 +97,7 @@ impl<T, A, P: Machine<T, A>> RuledTable<T, A, P> {
 
     /// At any moment, whatever other threads are doing: there is one history of what all parties did, in which the party of this seat is
     /// where its view says, and so is each party that was joined into it. `false`: a foreign call was admitted, and nothing is known. For a
-    /// machine that admits none the history is known whatever the answer. It costs one load.
+    /// machine that admits none the history is known whatever the answer.
     pub fn look(&self, idle: &mut IdleSeat<T, A>) -> bool
         requires same { idle.old.seat.table_id ≡ self.now.table.shared.table_id }
         ensures history { (P.admits → result ≡ true) → Shown P.history idle.old.seat.me.0 }
@@ -108,7 +109,7 @@ impl<T, A, P: Machine<T, A>> RuledTable<T, A, P> {
         found == 0
     }
 
-    /// Joins another party into the view of this one, so that one look says of both that they are in one history. It costs one load.
+    /// Joins another party into the view of this one, so that one look says of both that they are in one history.
     pub fn join(&self, one: &mut IdleSeat<T, A>, other: IdleSeat<T, A>)
         requires one { one.old.seat.table_id ≡ self.now.table.shared.table_id }
         requires other { other.seat.table_id ≡ self.now.table.shared.table_id }
@@ -135,7 +136,7 @@ impl<T, A, P: Machine<T, A>> RuledTable<T, A, P> {
 }
 
 impl<'a, T, A, P: Machine<T, A>> CallSeat<'a, T, A, P> {
-    /// Ends the party's acting; it has no call under way. It makes no atomic operation.
+    /// Ends the party's acting; it has no call under way.
     #[inline(always)]
     pub fn rest(self) -> IdleSeat<T, A>
         requires rests { P.rests self.seat.me.0.state }
@@ -149,8 +150,7 @@ impl<'a, T, A, P: Machine<T, A>> CallSeat<'a, T, A, P> {
         IdleSeat { seat }
     }
 
-    /// Makes a step that touches no cell and no count, such as the beginning of a call, to a state that the caller's proof picks. It costs
-    /// one load.
+    /// Makes a step that touches no cell and no count, such as the beginning of a call, to a state that the caller's proof picks.
     #[inline(always)]
     pub fn turn<E: Picks<A>, X>(&mut self, _about: &X)
         requires next { P.turns self.old.seat.me.0.form self.old.seat.me.0.state (E.to self.old.seat.me.0.state) }
@@ -175,7 +175,7 @@ impl<'a, T, A, P: Machine<T, A>> CallSeat<'a, T, A, P> {
     }
 
     /// Takes in what lies with another seat of the table, which is used up. Parties that were joined into the other's view are not joined
-    /// into this one's. It costs one load.
+    /// into this one's.
     #[inline(always)]
     pub fn take_in(&mut self, other: NamelessSeat<T, A>)
         requires other { other.seat.table_id ≡ self.old.seat.table_id }
@@ -201,7 +201,7 @@ impl<'a, T, A, P: Machine<T, A>> CallSeat<'a, T, A, P> {
     }
 
     /// Splits off some of what lies with the party, to a new party that has no call under way. The caller's proof picks what stays and what
-    /// goes. It costs one load.
+    /// goes.
     #[inline(always)]
     pub fn part<E: PicksTwo<A>, X>(&mut self, _about: &X) -> NamelessSeat<T, A>
         requires parts { P.parts self.old.seat.me.0.form self.old.seat.me.0.state (E.stays self.old.seat.me.0.state) (E.goes self.old.seat.me.0.state) }

@@ -188,8 +188,7 @@ pub(crate) fn slot_index<T, A, P: Machine<T, A>>(
 }
 
 impl<T, A, P: Machine<T, A>> RuledTable<T, A, P> {
-    /// The cells of a new queue that holds at most `capacity` messages, with the table's first party. `Err` where there is no memory for
-    /// them.
+    /// The cells of a new queue that holds at most `capacity` messages, with the table's first party. `Err` if there is no memory for them.
     pub fn new(
         alloc: Global,
         capacity: usize,
@@ -232,7 +231,7 @@ impl<'a, T, A, P: Machine<T, A>> CallSeat<'a, T, A, P> {
         self.table.shared.load::<Happened<P, E>>(&mut self.seat, at);
     }
 
-    /// What the word holds; 0 where there is no such word.
+    /// What the word holds; 0 if there is no such word.
     #[inline(always)]
     pub fn load(&mut self, at: Word) -> u64
         requires next { (n : ℕ) → (a : A) × P.moves self.old.seat.me.0.form self.old.seat.me.0.state (does (Some (loaded at n))) a }
@@ -248,7 +247,7 @@ impl<'a, T, A, P: Machine<T, A>> CallSeat<'a, T, A, P> {
         }
     }
 
-    /// Writes the word, where there is one.
+    /// Writes the word, if there is one.
     #[inline(always)]
     pub fn store(&mut self, at: Word, value: u64)
         requires next { (a : A) × P.moves self.old.seat.me.0.form self.old.seat.me.0.state (does (Some (stored at value))) a }

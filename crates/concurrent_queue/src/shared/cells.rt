@@ -33,7 +33,7 @@ pub(crate) enum Place {
     Bit(u64, usize, u64),
 }
 
-/// The flag of a slot in its block's word of written slots; none where a block has no such slot.
+/// The flag of a slot in its block's word of written slots; none if a block has no such slot.
 #[inline(always)]
 #[tactic(auto, using(crate::proofs::OwnPlaces::own_flags))]
 fn flag_of(offset: u64) -> u64

@@ -36,7 +36,7 @@ pub(crate) struct QueueTable<T> {
 type QueueSeat<'a, T> = CallSeat<'a, T, Standing<T>, OfQueue>;
 
 impl<T> QueueTable<T> {
-    /// The table of a new queue that holds at most `capacity` messages. `Err` where there is no memory for it.
+    /// The table of a new queue that holds at most `capacity` messages. `Err` if there is no memory for it.
     pub(crate) fn new(alloc: Global, capacity: usize) -> Result<QueueTable<T>, AllocError>
         requires { (0 < capacity) × (capacity ≤ 2 ^ 58) }
         ensures { IfOk result (λ t. form_of t ≡ Bounded capacity) }

@@ -36,7 +36,7 @@ pub(crate) struct SeatedTable<'a, T> {
     ghost seated: { (seat.table_id ≡ table.now.shared.table_id) × (seat.me ≡ (None, [])) },
 }
 
-/// All words of a new table: the guards, then so many words, and more where they are few. All are 0.
+/// All words of a new table: the guards, then so many words, and more if they are few. All are 0.
 fn first_words(alloc: Global, slots: usize, words: usize) -> Result<Vec<u64>, AllocError>
     ensures { IfOk result (λ v. (slots + 18 ≤ length v.items) × AreFree slots v.items) }
 {
@@ -75,7 +75,7 @@ impl<T> SharedTable<T> {
 }
 
 impl<'a, T> SeatedTable<'a, T> {
-    /// Where a word lies in the table, if it is there.
+    /// The index of a word in the table, if it is there.
     #[inline(always)]
     fn place(&self, word: usize) -> Option<usize>
         ensures { IfSome result
@@ -93,7 +93,7 @@ impl<'a, T> SeatedTable<'a, T> {
         }
     }
 
-    /// What the word holds; 0 where there is none.
+    /// What the word holds; 0 if there is none.
     #[inline(always)]
     pub(crate) fn load(&mut self, word: usize) -> u64 {
         match self.place(word) {
@@ -102,7 +102,7 @@ impl<'a, T> SeatedTable<'a, T> {
         }
     }
 
-    /// Writes the word, where there is one.
+    /// Writes the word, if there is one.
     #[inline(always)]
     pub(crate) fn store(&mut self, word: usize, value: u64) {
         if let Some(at) = self.place(word) {

@@ -144,7 +144,7 @@ impl<'a, T: Drop> Witnessed<'a, T> {
         (answer, Witnessed { table, witness })
     }
 
-    /// Appends the message, in the place of the oldest one where the queue is full, as `force_push` of the queue does.
+    /// Appends the message, in the place of the oldest one if the queue is full, as `force_push` of the queue does.
     pub fn force_push<R: Wait>(
         self,
         rt: &R,
