@@ -12,7 +12,7 @@ use event_listener::list::List;
 use event_listener::notify::{Additional, Notify};
 use event_listener::wakes::Wakes;
 
-/// Notifies one more of the waiting listeners, whoever is told already.
+/// Notifies one more of the waiting listeners, however many are told already.
 #[inline(always)]
 fn tell_one<W: Drop, S: Wakes<W>>(list: &mut List<(), W>, sink: &mut S)
     ensures lists { list.new.lists ≡ told_one list.old.lists }
@@ -26,7 +26,7 @@ fn tell_one<W: Drop, S: Wakes<W>>(list: &mut List<(), W>, sink: &mut S)
     let _ = list.notify(notice, sink);
 }
 
-/// Notifies so many more of the waiting listeners, whoever is told already.
+/// Notifies so many more of the waiting listeners, however many are told already.
 fn tell_more<W: Drop, S: Wakes<W>>(list: &mut List<(), W>, count: usize, sink: &mut S)
     ensures lists { list.new.lists ≡ told_more count list.old.lists }
     ensures woken { Woken S.wakes sink.old (told_more_wakes count list.old.lists) sink.new }

@@ -17,7 +17,7 @@ use std::alloc::{AllocError, Global};
 /// One poll of a settling.
 #[derive(Drop)]
 pub struct Settled<T> {
-    /// Who was polled.
+    /// The name that was polled.
     pub name: Waiter,
     /// What the poll answered.
     pub reply: Reply<T>,
@@ -169,7 +169,7 @@ impl<T: Drop> World<T> {
     ghost use Rattle.channel_world.specs.View.{names_in, at_rest, IsQuiet, Stands};
 
     /// Polls those who are pending and were woken, the one whose wake is oldest first, again and again until nobody is woken;
-    /// and answers whom it polled, in order, and what each poll answered.
+    /// and answers which names it polled, in order, and what each poll answered.
     ///
     /// One that a poll wakes is polled in its turn; one that was not woken is not polled. A stream is polled even while a live operation
     /// borrows its receiver. If w operations and streams are pending, there are at most w(w+1)/2 polls. If k of them are woken, s are

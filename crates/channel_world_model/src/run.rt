@@ -4,12 +4,12 @@ use super::name::Waiter;
 use super::refusal::WorldRefusal;
 use channel_calls::reply::Reply;
 
-/// What a call answered, and whom it woke, in order.
+/// What a call answered, and the names that it woke, in order.
 #[derive(Debug, Drop, PartialEq, Eq)]
 pub struct Done<T> {
     /// The reply.
     pub reply: Reply<T>,
-    /// Whom the call woke, in order.
+    /// The names that the call woke, in order.
     pub woken: Vec<Waiter>,
 }
 

@@ -1,4 +1,4 @@
-//! What calls write back when they end, and whom they wake. Names change only here and when a call begins.
+//! What calls write back when they end, and which names they wake. Names change only here and when a call begins.
 
 use crate::name_table::NameTable;
 use crate::names::{HandleEntry, OnReturn, PollState};

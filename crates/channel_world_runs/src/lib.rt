@@ -3,12 +3,12 @@
 //!
 //! The contracts say what it does, in the words of `specs/`: `NameTable` (what lives under which name), `Apart` (no name stands twice),
 //! `Pending` (how many are pending), `Refusal` (which steps are refused), `Bookkeeping` (what a call asks when it begins, and what it
-//! writes back at its end), `Order` (who may be woken, and who was, in order), `Run` (one step), `Runs` (steps one after another, and what
-//! holds at each moment of them), `Lone` (calls made alone), `Owners` (which operation or call has each listener), `OwnerWoken` (those that
-//! were woken are told), `OwnerPolled` (who is polled, by which call), `WorldInvariant` (all that every step keeps of those that wait),
-//! `Calls` (the calls under way by name), `Activity` (what each of them is to those that wait, and has done), `Owed` (the wake-ups owed to
-//! those that are pending), `WorldState` (the configurations in which a channel by names stands, and how what is done leads from one to
-//! another).
+//! writes back at its end), `Order` (which names may be woken, and which were, in order), `Run` (one step), `Runs` (steps one after
+//! another, and what holds at each moment of them), `Lone` (calls made alone), `Owners` (which operation or call has each listener),
+//! `OwnerWoken` (those that were woken are told), `OwnerPolled` (which names are polled, by which calls), `WorldInvariant` (all that every
+//! step keeps of those that wait), `Calls` (the calls under way by name), `Activity` (what each of them is to those that wait, and has
+//! done), `Owed` (the wake-ups owed to those that are pending), `WorldState` (the configurations in which a channel by names stands, and
+//! how what is done leads from one to another).
 //!
 //! A call that goes through a receiver whose stream is being polled is refused as under way, its drop too. The positions of a queue end
 //! with the 2^61st message: a send that might bring it is refused for want of memory when it begins. Nothing else is refused for a number,

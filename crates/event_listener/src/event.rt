@@ -156,7 +156,7 @@ impl<L: Steps<()>> Event<(), L> {
         self.begin().notify_relaxed(rt, count)
     }
 
-    /// A notification that tells so many more listeners, whoever is told already; answers how many were told now.
+    /// A notification that tells so many more listeners, however many are told already; answers how many were told now.
     ///
     /// It takes no memory. It may wait for the list's lock.
     pub fn notify_additional<R: Wait>(&self, rt: &R, count: usize) -> usize

@@ -83,7 +83,7 @@ impl<'a, T, L: Steps<T>> Begun<'a, T, L> {
         ensures lacked { IfNone result (L.lacks self.entry.homes.now.once.id) }
     {
         let Begun { homes, call } = self;
-        // One load. A call that finds no list is over: whoever inserts one later listens later.
+        // One load. A call that finds no list is over: a thread that inserts one later also listens later.
         match L::find(&homes.once) {
             Some(token) => {
                 L::see(&token);

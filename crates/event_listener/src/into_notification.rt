@@ -24,7 +24,7 @@ pub trait IntoNotification: Sized {
     fn into_notification(self) -> Self::Notify
         ensures { becomes self result };
 
-    /// The notification made additional: it tells as many more, whoever is told already.
+    /// The notification made additional: it tells as many more, however many are told already.
     final fn additional(self) -> Additional<Self::Notify>
         ensures { becomes self result.inner }
     {

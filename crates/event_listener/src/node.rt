@@ -44,10 +44,10 @@ pub(crate) struct Ends {
 /// The nodes, and how often they were read or written.
 ///
 /// A node is reached by [`Nodes::read`] and [`Nodes::write`] alone; all other calls on nodes are made of these in another module. Both
-/// count in `looks`, whosever the node is, and no call sets that back, so the bound on it holds of what was really looked at. Counted
-/// accesses, which are a call's visits to nodes that are not its own, also count in `last`, which each such call resets. Making a node
-/// isn't counted, and taking it out counts as a read. Both counts wrap modulo 2^64, so that counting is one addition in memory. The two
-/// fields stand apart: side by side they are added to as a pair, and such a read waits for the writes of each.
+/// count in `looks`, whichever listener's the node is, and no call sets that back, so the bound on it holds of what was really looked at.
+/// Counted accesses, which are a call's visits to nodes that are not its own, also count in `last`, which each such call resets. Making a
+/// node isn't counted, and taking it out counts as a read. Both counts wrap modulo 2^64, so that counting is one addition in memory. The
+/// two fields stand apart: side by side they are added to as a pair, and such a read waits for the writes of each.
 #[derive(Drop)]
 pub(crate) struct Nodes<T, W> {
     last: u64,

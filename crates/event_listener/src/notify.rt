@@ -7,8 +7,8 @@ use crate::error::NoMemory;
 /// A notification, as [`List::notify`](crate::list::List) takes it.
 ///
 /// One of the default kind tells so many that at least `count` listeners are told, those told before included; an additional one tells
-/// `count` more, whoever is told already. Each listener that it tells gets one tag. As the private trait of `event-listener` 5.4.2, but a
-/// tag may be refused for memory.
+/// `count` more, however many are told already. Each listener that it tells gets one tag. As the private trait of `event-listener` 5.4.2,
+/// but a tag may be refused for memory.
 pub trait Notification {
     ghost use Rattle.event_listener.specs.declared.error.NoMemory.{NoMemory};
 
@@ -73,7 +73,7 @@ impl Notification for Notify {
     }
 }
 
-/// The same notification made additional: it tells as many more, whoever is told already. Twice additional is additional.
+/// The same notification made additional: it tells as many more, however many are told already. Twice additional is additional.
 #[derive(Drop)]
 pub struct Additional<N> {
     /// The notification whose number and tags these are.

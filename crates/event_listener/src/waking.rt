@@ -62,7 +62,7 @@ impl WakerCell {
     }
 }
 
-/// Whom a notification of a listener wakes.
+/// What a notification of a listener wakes.
 #[derive(Drop)]
 pub enum Task {
     /// The task that polls the listener, whose waker is in this cell.

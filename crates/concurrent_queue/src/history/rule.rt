@@ -7,7 +7,7 @@ use atomic_table::{Join, Play, Split, TableRule};
 use std::collections::LinkedList;
 use std::marker::{Brand, PhantomData};
 
-/// What a seat knows of its party. A party is whoever has one seat, and makes calls one after another.
+/// What a seat knows of its party. A party has one seat, and makes calls one after another.
 pub struct View<T, A> {
     /// The party's number, which is its seat's, if the seat knows it.
     pub who: u64,

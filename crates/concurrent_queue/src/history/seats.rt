@@ -17,7 +17,7 @@ use atomic_table::Seat;
 use std::marker::Brand;
 
 /// The seat of a party that has no call under way and knows its number: a value of no bytes. It has no reference to the table, so it can
-/// lie in a struct, and in a slot of another table. Whoever keeps the seat knows at which state the party rests.
+/// lie in a struct, and in a slot of another table. The keeper of the seat knows at which state the party rests.
 #[derive(Drop)]
 pub struct IdleSeat<T, A> {
     pub(crate) seat: Seat<Option<T>, View<T, A>>,

@@ -393,7 +393,7 @@ impl<'a, T, A, P: Machine<T, A>> CallSeat<'a, T, A, P> {
         }
         // The guard is won, so this access to the slot races with none.
         let found = shared.exchange(&mut self.seat, index, None);
-        // After the access: who wins the guard from here on finds the slot as it is left. A store suffices, since only its holder writes a
+        // After the access: the next winner of the guard finds the slot as it is left. A store suffices, since only its holder writes a
         // guard of 1.
         shared.store::<Gives>(&mut self.seat, index, 0);
         Some(found)

@@ -179,7 +179,7 @@ impl<'a, T> SeatedTable<'a, T> {
         // The guard is won, so this access to the slot races with none.
         match shared.exchange(&mut self.seat, slot, Some(value)) {
             None => {
-                // After the access: who wins the guard from here on finds the slot as it is left.
+                // After the access: the next winner of the guard finds the slot as it is left.
                 shared.store::<Give>(&mut self.seat, slot, 0);
                 Ok(())
             }
