@@ -45,7 +45,7 @@ all_moved t w total k a b e = omega arith
 
 -- ---- telling so many more, one after another
 
--- these lists, with the first n of those who wait told
+-- these lists, with the first n of those that wait told
 abbrev first_told : {W : Type 0} → ℕ → Lists (Unit {0}) W → Lists (Unit {0}) W
 first_told n l = record { told = l.told ++ told_with true (take n l.waiting) (map (λ w. tt) (take n l.waiting)); waiting = drop n l.waiting }
 

@@ -84,7 +84,7 @@ module _ {W : Type 0} where
   told_more_wakes zero l = []
   told_more_wakes (suc n) l = told_one_wakes l ++ told_more_wakes n (told_one l)
 
-  -- all who wait are told
+  -- all that wait are told
   abbrev pub told_all : Listeners W → Listeners W
   told_all l = record { told = l.told ++ told_with false l.waiting (map (λ w. tt) l.waiting); waiting = [] }
 

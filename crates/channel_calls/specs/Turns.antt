@@ -137,7 +137,7 @@ module _ {T W : Type 0} where
   registered_next w key (Some task) = again w None task
   registered_next w key None = pends_by w key
 
-  -- a closing tells sends, receives, streams and those who wait for it, in this order
+  -- a closing tells sends, receives, streams and those that wait for it, in this order
   abbrev pub told_all_next : WaitList → Closer → NextStep T W
   told_all_next Sends c = Works (work.TellAll Receives c)
   told_all_next Receives c = Works (work.TellAll Streams c)

@@ -46,7 +46,7 @@ module _ {T : Type 0} where
   abbrev pub names_in : WorldView T → NameTable T
   names_in w = (observation_of w).name_table
 
-  -- those who were woken, in the order of their waking
+  -- those that were woken, in the order of their waking
   abbrev pub woken_in : WorldView T → List Waiter
   woken_in w = (observation_of w).woken
 

@@ -56,7 +56,7 @@ told_by Room l = take 1 l.sends
 told_by Closing l = l.sends ++ l.receives ++ l.streams ++ l.closings
 told_by (NextIn line) l = take 1 (untold line l)
 
--- those who are still untold
+-- those that are still untold
 abbrev pub untold_after : News → Waiting → Waiting
 untold_after Nothing l = l
 untold_after Message l = record l { receives = drop 1 l.receives; streams = [] }

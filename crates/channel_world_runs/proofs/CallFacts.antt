@@ -14,7 +14,7 @@ none_read f [] e = refl
 none_read f (x ∷ xs) e = absurd cc
 
 module _ {T : Type 0} where
-  -- who is at work has a call
+  -- one that is at work has a call
   pub at_work_read : (calls : List (CallUnderWay T)) (p : ℕ) → list_any (λ (c : CallUnderWay T). nat_eq c.party.id p) calls ≡ is_at_work p (map agent_of calls)
   at_work_read [] p = refl
   at_work_read (c ∷ cs) p = ap (λ (b : Bool). nat_eq c.party.id p || b) (at_work_read cs p)

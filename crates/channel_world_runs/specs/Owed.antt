@@ -1,4 +1,4 @@
--- The wake-ups owed to those who are pending and were not woken since their last poll, of a world as it is.
+-- The wake-ups owed to those that are pending and were not woken since their last poll, of a world as it is.
 use Rattle.std.specs.Prelude.{◌≡◌, ℕ, ◌+◌, ◌≤◌, ◌<◌, Bool, true, false, List, [], ◌∷◌, Option}
 use Rattle.std.specs.List.{count_by}
 use Rattle.concurrent_queue.specs.declared.queue_call.QueueCall.{QueueCall}

@@ -1,4 +1,4 @@
--- All that every step keeps of those who wait.
+-- All that every step keeps of those that wait.
 use Rattle.std.specs.Prelude.{◌≡◌, false, List}
 use Rattle.channel_steps.specs.every_run.Sound.{WakeInvariant}
 use Rattle.channel_world_model.specs.declared.name.Waiter.{Waiter}

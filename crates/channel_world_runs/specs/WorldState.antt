@@ -41,7 +41,7 @@ module _ {T : Type 0} where
   abbrev pub agents_of : WorldState T → List (Agent T)
   agents_of f = map agent_of f.calls.items
 
-  -- what the calls are to those who wait, and have done
+  -- what the calls are to those that wait, and have done
   abbrev pub activities_of : WorldState T → List Activity
   activities_of f = map (λ (c : CallUnderWay T). c.activity) f.calls.items
 

@@ -77,7 +77,7 @@ module _ {T S : Type 0} (may : Deed T → S → Type 0) where
     first_ready (Bounded cap) a e h = bounded_ready (cap == 1) cap a e h
     first_ready Unbounded a e h = blocks_ready (begin a) h
 
-    -- whoever stands where a call's next action is may make it
+    -- a call that is at an action may make it
     pub state_ready : (at : CallState T) → stands (standing (form_of s) at) s → StateReady may (form_of s) at s
     state_ready (Asked a) h = first_ready (form_of s) a refl h
     state_ready (Single a) h = single_ready a h

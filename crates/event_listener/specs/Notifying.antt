@@ -11,7 +11,7 @@ module _ {T L : Type 0} (did : ℕ → Section T → L → L → Type 0) (holds 
   CountsEvent counts Answers = ((count : ℕ) × Answers count × OnEvents did holds lock (counts count)) ⊎ (lacks lock × Answers 0)
 
 module _ {L : Type 0} (did : ℕ → Section Unit → L → L → Type 0) (holds : ℕ → ℕ → Type 0) (lacks : ℕ → Type 0) (lock : ℕ) where
-  -- a section on its list told so many of those who wait there; or it had none
+  -- a section on its list told so many of those that wait there; or it had none
   abbrev pub TellsEvent : Bool → ℕ → ℕ → Type 0
   TellsEvent additional count told =
       ((tags : List Unit) × (length tags ≡ told) × OnEvents did holds lock (notifies additional count tags (Ok told))) ⊎ (lacks lock × (told ≡ 0))

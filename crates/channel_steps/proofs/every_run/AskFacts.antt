@@ -7,7 +7,7 @@ use Rattle.channel_calls.specs.declared.stage.Purpose.TheVariants as purpose
 use Rattle.channel_steps.proofs.every_run.ListFacts.{removed_leaves}
 
 module _ {T : Type 0} where
-  -- what the poll of one who waits on this list asks
+  -- what the poll of one that waits on this list asks
   abbrev Polls : WaitList → QueueAsk T → Type 0
   Polls Sends a = (v : T) × (a ≡ ask.Push v)
   Polls Receives a = a ≡ ask.Pop

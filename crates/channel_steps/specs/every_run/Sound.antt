@@ -1,4 +1,4 @@
--- All that every run keeps of those who wait.
+-- All that every run keeps of those that wait.
 use Rattle.channel_steps.specs.Configuration.{Configuration}
 use Rattle.channel_steps.specs.every_run.Closings.{ClosingSound}
 use Rattle.channel_steps.specs.every_run.Notices.{TellingsFit}

@@ -126,7 +126,7 @@ module _ (kind : Kind) (held : KeysHeld) (closed : Bool) where
     | inr c ↦ one_moved line n y m (none_as_first line n y m (shut c) h) so all h
   ]
 
-  -- ---- one who leaves
+  -- ---- one that leaves
 
   module _ (streams : StreamsAreStreams kind) (a : WaitLists Waiter) (l : Waiting) (own : WaitList) (w : Waiter) (key : Key) (k : kind w ≡ Some own) (holds : held w ≡ Some key)
       (placed : Placed kind l) (keys : KeysFit kind held l) (shut : closed ≡ true → (line : WaitList) → untold line l ≡ []) (h : ShowsLines kind held closed a l) where
