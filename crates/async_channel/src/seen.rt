@@ -1,5 +1,5 @@
 //! Traces: values that see each operation on the cells of a channel, with its answer. Only `Seen`, which joins cells to their trace, can
-//! report to a trace, since only this module makes a [`Sight`].
+//! report to a trace, since only this module makes a [`Sight`]. An operation is made first and reported then, with its answer.
 //!
 //! # Extensions
 //!

@@ -1,5 +1,5 @@
 //! One of a channel's four wait queues, behind its lock, and the critical sections on it. The lock owns the list; it is reached only by a
-//! `Turn`, which is one section.
+//! `Turn`, which is one section. `channel_calls` has the reason for what a section does.
 
 ghost use Rattle.std.specs.Prelude.{List as Names};
 ghost use Rattle.event_listener.specs.Notices.{Woken};

@@ -1,7 +1,7 @@
 //! The rights to one critical section on the list of an event: for a call of the event, and for a listener, which has a place there.
 //!
-//! Each method takes the lock, makes one step, and releases the lock; in between nobody else sees or changes the list. `Listed` owns the
-//! listener's key until a section has removed the listener.
+//! Each method takes the lock, makes one step, and releases the lock; in between nobody else sees or changes the list. `steps` has the
+//! reason for what a section does. `Listed` owns the listener's key until a section has removed the listener.
 ghost use Rattle.std.specs.Prelude.{◌≡◌, ℕ, Some, None, Ok, Err, IfOk, IfErr, IfSome, IfNone, is_none, false, true};
 ghost use Rattle.std.specs.Arc.{arc_value};
 ghost use Rattle.futures.specs.Task.{IsArmed, Keeps};

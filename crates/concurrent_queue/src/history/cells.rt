@@ -1,5 +1,5 @@
 //! The queue's cells over the seat of a call. Each operation is one event of the one history, and its caller proves that it is the next one
-//! of the call's machine.
+//! of the call's machine. The machines have the reason for each.
 
 ghost use Rattle.std.specs.Prelude.{◌≡◌};
 

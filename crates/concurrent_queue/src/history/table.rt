@@ -1,5 +1,6 @@
 //! The cells of a bounded queue that threads share, accessed by a seat. Each operation is one atomic operation on the table and one event
-//! of its history; its caller proves that it is the next one of the party's machine.
+//! of its history; its caller proves that it is the next one of the party's machine. The machines (`single`, `bounded`) have the reason for
+//! each.
 //!
 //! Each slot has a guard word. The invariant: a slot is out of the table only while its guard is 1, and then with the seat that set it. So
 //! two threads never touch a slot at once, whatever the words hold.

@@ -1,5 +1,6 @@
 //! The cells of a shared queue without a bound: with the runtime value, by which a call locks the spare list, or of words alone for the
-//! calls that never wait. Nothing is known of what they hold, since any thread may make steps on them at any time.
+//! calls that never wait. Nothing is known of what they hold, since any thread may make steps on them at any time. The machine
+//! (`unbounded`) has the reason for each operation; here it is one operation on one word.
 
 ghost use Rattle.std.specs.Prelude.{◌≡◌, ◌<◌};
 ghost use Rattle.concurrent_queue.specs.Places.{place_of, flag_of, IsNear, OwnPlaces, OwnFlags};

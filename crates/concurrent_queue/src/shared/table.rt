@@ -1,5 +1,6 @@
 //! Words and slots that threads share, by their indices, for unbounded queues. The invariant: a slot is out of the table only while its
-//! guard is 1, and then with the seat that set it; of all other words nothing is known.
+//! guard is 1, and then with the seat that set it; of all other words nothing is known. The machine (`unbounded`) has the reason for each
+//! operation on a word.
 
 ghost use Rattle.std.specs.Prelude.{◌≡◌, ◌<◌, ◌≤◌, ◌+◌, ◌*◌, [], None, IfSome, IfErr, IfOk, length};
 ghost use Rattle.concurrent_queue.specs.machine.Guarded.{AreFree};
