@@ -54,7 +54,7 @@ module _ {T W : Type 0} where
   Heard purpose after (Some x) next r = Takes (answered_next purpose x) next r
 
 module _ {T W X : Type 0} (did : Deed T W → X → X → Type 0) where
-  -- a listener is taken off, where one is held
+  -- a listener is taken off, if one is held
   abbrev pub Leaves : Option ListenerRef → X → X → Type 0
   Leaves None s t = t ≡ s
   Leaves (Some held) s t = (names : List W) × did (taken_off held.line held.key names) s t

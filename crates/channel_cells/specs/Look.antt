@@ -27,7 +27,7 @@ module _ {T W : Type 0} where
     pub moment : MomentSays form views cells senders receivers history says
     -- each message that came in or left is a party's, by what its calls asked and were given
     pub accounts : Accounts (λ p. (party_in views p).asked) (λ p. (party_in views p).given) (configuration_of form views cells senders receivers history says)
-    -- and where no call is under way nobody is missed
+    -- and if no call is under way nobody is missed
     pub rest : AtRest form views cells senders receivers history → RestSays form views cells senders receivers history says
 
   -- there is one history of what all parties did, in which the party of this view stands where it says, and so does each that was joined in

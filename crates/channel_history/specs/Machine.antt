@@ -72,7 +72,7 @@ module _ {T W : Type 0} where
   abbrev pub AreFlagged : Tally → List (Standing T W) → Type 0
   AreFlagged t views = AllAre lists_of (IsFlagged t) views
 
-  -- the channel's history, with the counts of handles; and wherever a list lies, its word isn't 0 where somebody waits on it
+  -- the channel's history, with the counts of handles; and wherever a list lies, its word isn't 0 if somebody waits on it
   abbrev pub history : HistoryOf T (Standing T W)
   history form views c t = IsChannelHistory form (states views) c t.first t.second × AreFlagged t (states views)
 

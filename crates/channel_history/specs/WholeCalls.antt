@@ -28,7 +28,7 @@ use Rattle.channel_history.specs.Party.{Begins, Ends}
 use Rattle.channel_history.specs.Steps.{begun}
 use Rattle.channel_history.specs.declared.party.Standing.{Standing}
 
--- these handles, where it is answered that one was made
+-- these handles, if it is answered that one was made
 abbrev pub if_made : {T : Type 0} → Reply T → List Side → List Side
 if_made reply.Made sides = sides
 if_made r sides = []

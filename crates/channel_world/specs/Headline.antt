@@ -35,7 +35,7 @@ module _ {T : Type 0} where
     -- once a receive answered closed, or a stream ended, in these steps or before them, no call that begins later gives a message
     pub after_the_end : NothingComesAfter steps trace
     pub ended_before : Spent from.now → GiveNothing [] steps trace
-    -- where the others are quiet (no other call under way has a mark but Nothing, and an unbounded channel has had its first taking or
+    -- if the others are quiet (no other call under way has a mark but Nothing, and an unbounded channel has had its first taking or
     -- there is no other call), a call makes no more steps than it has left at most before the one that ends it, if its are the next:
     -- from each moment on, so in front of the list too
     pub ends_soon : EndInARow from made trace run.moments

@@ -51,7 +51,7 @@ module _ {T : Type 0} where
     -- the channel is closed or not and holds so many messages as its queue's words say; and each message lies in the slot that
     -- they name for it alone, without a bound by the blocks that the queue has used, or is with the call that is yet to put it there
     pub words : WordsSay m.parts.cells (active_calls world) m.configuration
-    -- no call has more steps left than these, by how many messages a receive of several may take, where the others are quiet
+    -- no call has more steps left than these, by how many messages a receive of several may take, if the others are quiet
     pub few : (party : ℕ) → m.left party ≤ most_left (wanted_of party m.configuration.under_way)
 
   -- ---- the beginning of a call
@@ -95,13 +95,13 @@ module _ {T : Type 0} where
     pub is : after ≡ does call at_now e.mark m.configuration.now n.configuration.now
     pub goes_on : n.configuration.under_way ≡ map (sees n.configuration.now) before ++ (unless_ended after e.reply ++ map (sees n.configuration.now) behind)
     pub work : WorkDoes m call e n
-    -- where it ends its call; what the call leaves is what the names get back
+    -- if it ends its call; what the call leaves is what the names get back
     pub left : Option (Returned T)
     pub ends : IfSome e.reply (λ r. EndSays after r left)
     pub name_state : IsNameStateAfter (step.Step p) e left m.name_state n.name_state
     -- a short call ends within eight steps of its own, whatever others do
     pub in_time : IsQuick call.ask → EndsInTime call.made e.reply
-    -- where the others are quiet, a step that does not end its call leaves it fewer steps
+    -- if the others are quiet, a step that does not end its call leaves it fewer steps
     pub nearer : e.reply ≡ None → OthersQuietOf p.0 m.configuration → n.left p.0 < m.left p.0
     -- a call that began when the end was said gives no message
     pub late : AllSpent call.seen → Replies GivesMessage e.reply → ⊥

@@ -12,7 +12,7 @@ use Rattle.channel_calls.specs.declared.stage.WaitList.TheVariants.{Sends, Recei
 abbrev pub Kind : Type 0
 Kind = Waiter → Option WaitList
 
--- where somebody of the line is untold, at least n of it are woken
+-- if somebody of the line is untold, at least n of it are woken
 abbrev pub Enough : Kind → WaitList → ℕ → Waiting → Type 0
 Enough k line n l = (untold line l ≡ []) ⊎ (n ≤ count_of k line l.woken)
 

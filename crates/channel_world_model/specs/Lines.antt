@@ -112,7 +112,7 @@ told_by_rooms (suc n) l = told_by Room l ++ told_by_rooms n (after_news Room l)
 abbrev pub at_end : WaitList → Waiter → Waiting → Waiting
 at_end line w l = let left = gone w l in with_untold line (untold line left ++ w ∷ []) left
 
--- a poll that ends pending: in its old place where it was untold, at the end, untold, where it is new or was told
+-- a poll that ends pending: in its old place if it was untold, at the end, untold, if it is new or was told
 abbrev pub standing : WaitList → Waiter → Waiting → Waiting
 standing line w l = if is_among w (untold line l) then l else at_end line w l
 

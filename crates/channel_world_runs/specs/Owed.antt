@@ -64,10 +64,10 @@ module _ {T : Type 0} where
   abbrev pub IsUnwoken : WaitList → Waiter → NameTable T → List Waiter → Type 0
   IsUnwoken line name r woken = (key : Key) × (status r name ≡ waits (record { line = line; key = key })) × (IsAmong name woken → ⊥)
 
-  -- Where one is pending that was not woken since its last poll: of a receive, there are no more messages than woken pending
+  -- If one is pending that was not woken since its last poll: of a receive, there are no more messages than woken pending
   -- receives, and sending and receiving calls under way; of a send, where the channel is open, it has a bound, and no more places
   -- than messages, woken pending sends, sending calls under way, and places that were freed and not announced yet; of a stream,
-  -- where there is a message, a sending call is under way; of any, where the channel is closed, the call that closed it is under
+  -- if there is a message, a sending call is under way; of any, where the channel is closed, the call that closed it is under
   -- way.
   pub record Owed (w : Observation T) : Type 0 where
     pub receives : (name : Waiter) → IsUnwoken Receives name w.name_table w.woken → w.messages ≤ woken_on Receives w.name_table w.woken + (w.sending + w.receiving)

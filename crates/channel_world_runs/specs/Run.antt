@@ -81,7 +81,7 @@ module _ {T : Type 0} where
 
   -- ---- the end of a run
 
-  -- a step is refused for the first reason that there is, or for want of room where there is none
+  -- a step is refused for the first reason that there is, or for want of room if there is none
   abbrev pub MayRefuseStep : NameState T → Step T → WorldRefusal → Type 0
   MayRefuseStep b x why = (step_refusal b.name_table b.agents x ≡ Some why) ⊎ ((step_refusal b.name_table b.agents x ≡ None) × (why ≡ NoMemory))
 

@@ -144,7 +144,7 @@ module _ {T : Type 0} where
   abbrev pub lefts_in : WorldState T → List ℕ
   lefts_in f = all_left (parts_in f) (parties_of f)
 
-  -- where the others are quiet, a step that does not end its call leaves it fewer
+  -- if the others are quiet, a step that does not end its call leaves it fewer
   abbrev pub Nearer : (x : Step T) (old : WorldState T) (e : Entry T) (new : WorldState T) (s t : Configuration T Waiter) → StepIsMade (name_state_of old) s x e (name_state_of new) t → Type 0
   Nearer (step.Begin p c) old e new s t made = Unit {0}
   Nearer (step.Step p) old e new s t made =

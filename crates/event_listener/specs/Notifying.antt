@@ -1,4 +1,4 @@
--- What the calls of an event say of the sections that they made. Where nobody has listened on it yet, it has no list, and there is none.
+-- What the calls of an event say of the sections that they made. If nobody has listened on it yet, it has no list, and there is none.
 use Rattle.std.specs.Prelude.{◌≡◌, ◌⊎◌, ℕ, Bool, List, length, Result, Ok}
 use Rattle.event_listener.specs.declared.error.NoMemory.{NoMemory}
 use Rattle.event_listener.specs.declared.error.NotifyError.{NotifyError}

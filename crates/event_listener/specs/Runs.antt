@@ -28,12 +28,12 @@ abbrev pub key_named : {T : Type 0} → Target → List (ListReply T) → Option
 key_named (target.Key key) done = Some key
 key_named (target.Place place) done = elim (slice_get done place) [ Some r ↦ inserted_key r | None ↦ None ]
 
--- what is answered about a key, where there is one
+-- what is answered about a key, if there is one
 abbrev pub about : {A : Type 0} → Option Key → (Key → Result A UnknownListener) → Result A UnknownListener
 about None answer = Err (record {})
 about (Some key) answer = answer key
 
--- what a call with a key makes of a value, where there is a key
+-- what a call with a key makes of a value, if there is a key
 abbrev pub made_at : {A : Type 0} → Option Key → (Key → A → A) → A → A
 made_at None change value = value
 made_at (Some key) change value = change key value

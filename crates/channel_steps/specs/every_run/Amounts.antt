@@ -40,7 +40,7 @@ module _ {T W : Type 0} where
   HoldsListener line key at = ⊥
 
   module _ (line : WaitList) (Enough : Channel T W → ℕ → Type 0) (weigh : ChannelAsk T W → stage.Stage (Phase T) T W → ℕ) (Holds : Key → stage.Stage (Phase T) T W → Type 0) where
-    -- where one waits on this list, what the calls under way count for is enough, or a call has its listener in hand
+    -- if one waits on this list, what the calls under way count for is enough, or a call has its listener in hand
     abbrev pub AreOwed : Configuration T W → Type 0
     AreOwed s =
         (key : Key) → Waits line key s.now → Enough s.now (total weigh s.under_way) ⊎ Any (λ u. Holds key u.at) s.under_way

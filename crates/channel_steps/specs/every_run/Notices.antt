@@ -48,7 +48,7 @@ module _ {T W : Type 0} where
   pub record TellingsFit (s : Configuration T W) : Type 0 where
     -- while the channel is open
     pub while_open : (line : WaitList) → Open s.now → EachTold (MayBeTold line) (told_of line s.now)
-    -- where one send or receive was told by the default the channel is closed, and each that still waits on that list is in
+    -- if one send or receive was told by the default the channel is closed, and each that still waits on that list is in
     -- the hand of a poll under way that has found no cause to wait
     pub by_default :
         (line : WaitList) → IsOneByOne line → AnyTold false (told_of line s.now)
