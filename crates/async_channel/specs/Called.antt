@@ -128,7 +128,7 @@ module _ {T X : Type 0} (did : cell.Deed T → X → X → Type 0) (shown : Deed
   WasMade channel a r = WasMadeBy channel fresh a r
 
 module _ {T : Type 0} (called : Seat T → Type 0) where
-  -- a clone or an upgrade that made no handle was answered so; the seat of one that made one lies with the handle. Where memory was refused
+  -- a clone or an upgrade that made no handle was answered so; the seat of one that made one lies with the handle. If memory was refused
   -- no call was made
   abbrev pub ClonedSo : {A : Type 0} → TableId → Side → Result A HandleError → Type 0
   ClonedSo table side (Err TooMany) = (r : Reply T) × (made_answer r ≡ Err TooMany) × WasCalled called table (ask.CloneHandle side) r

@@ -21,13 +21,13 @@ use Rattle.channel_history.specs.declared.party.Standing.{Standing}
 
 module _ {T W : Type 0} where
   -- a history is a run of the channel, of which the headline holds: each message in order and once, each reply at moments of its call, and
-  -- nobody who is pending was missed
+  -- no pending waiter was missed
   pub record RunSays (form : QueueForm) (views : List (Standing T W)) (cells : Contents T) (senders receivers : ℕ) (history : IsChannelHistory form views cells senders receivers) : Type 0 where
     pub says : HistorySays form views cells senders receivers history
     pub moment : MomentSays form views cells senders receivers history says
     -- each message that came in or left is a party's, by what its calls asked and were given
     pub accounts : Accounts (λ p. (party_in views p).asked) (λ p. (party_in views p).given) (configuration_of form views cells senders receivers history says)
-    -- and where no call is under way nobody is missed
+    -- and if no call is under way nobody is missed
     pub rest : AtRest form views cells senders receivers history → RestSays form views cells senders receivers history says
 
   -- there is one history of what all parties did, in which the party of this view stands where it says, and so does each that was joined in

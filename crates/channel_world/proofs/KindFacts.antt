@@ -100,7 +100,7 @@ module _ (name : ℕ → Waiter) (same : (m n : ℕ) → same_waiter (name m) (n
     | inr t ↦ rw (same n f.0 ∙ t) (taken_there n es (rw t at e))
   ]
 
--- a name that passes, and stands there, stands among those who pass
+-- a name that passes, and stands there, stands among those that pass
 passes_there : (p : Waiter → Bool) (w : Waiter) (ws : List Waiter) → p w ≡ true → is_among w ws ≡ true → 1 ≤ times w (filter p ws)
 passes_there p w [] t e = cc e
 passes_there p w (v ∷ ws) t e = elim (or_true (same_waiter w v) (is_among w ws) e) [

@@ -1,4 +1,4 @@
--- How few polls a settling makes: each brings the end nearer by one, where whoever is pending counts for those whom it wakes as it
+-- How few polls a settling makes: each brings the end nearer by one, where each that is pending counts for those that it wakes as it
 -- leaves. Only a send whose message is accepted wakes streams.
 use Rattle.std.proofs.Common.{arith, ◌≡◌, ◌⊎◌, ◌≤◌, ◌+◌, ℕ, suc, nat_eq, List, [], ◌∷◌, length, take, drop, Bool, true, false, if◌then◌else◌, Option, None, Some, IsSome, is_none, Ok, Err, inl, inr, refl, sym, ap, subst, ◌∙◌, length-append}
 use Rattle.std.specs.Prelude.{slice_get}
@@ -198,7 +198,7 @@ module _ {T : Type 0} where
     abbrev pub Does : WaitList → Waiter → Answer T → Type 0
     Does line w a = Comes line w a ⊎ Takes line w a ⊎ Stays a
 
-    -- so a poll of one of this line leaves those who wait, the names, and the channel
+    -- so a poll of one of this line leaves those that wait, the names, and the channel
     abbrev pub Polled : WaitList → Waiter → Answer T → Type 0
     Polled line w a = LeftOrStood w line s.waiting a.after.waiting a.woken × KeepsLines a.after.names × Does line w a
 
@@ -374,12 +374,12 @@ module _ {T : Type 0} where
   pub weight_of : State T → ℕ
   weight_of s = weight (line_at s.names) s.waiting
 
-  -- one of each who is woken
+  -- one of each that is woken
   pub woken_within : (s : State T) → length s.waiting.woken ≤ weight_of s
   unfolding weight_of
   woken_within s = omega arith
 
-  -- each poll of the first of those who are woken brings the end nearer by one
+  -- each poll of the first of those that are woken brings the end nearer by one
   pub shorter : (s : State T) → AwakeIn s → (w : Waiter) (a : Answer T) → slice_get s.waiting.woken 0 ≡ Some w → Answers s (poll_of w) a
       → suc (weight_of a.after) ≤ weight_of s
   unfolding weight_of

@@ -97,7 +97,7 @@ fn question_call(question: Question, handle: HandleId) -> Call<u64>
     }
 }
 
-/// What is done to a handle or an operation; None where it is done to the others alone.
+/// What is done to a handle or an operation; `None` if it can only be done to the other sort.
 fn doing_call(doing: Doing, named: Named) -> Option<Call<u64>>
     ensures { result ≡ doing_call doing named }
 {
@@ -115,7 +115,7 @@ fn doing_call(doing: Doing, named: Named) -> Option<Call<u64>>
     })
 }
 
-/// The call of a command; None where a name is of the wrong sort.
+/// The call of a command; `None` if a name is of the wrong sort.
 pub fn call_of(table: &Table<'_>, command: &Command<'_>) -> Option<Call<u64>>
     requires { length table.now < 2 ^ 32 }
     ensures { result ≡ call_of table.now (said command.now) }

@@ -31,7 +31,7 @@ size_news news l = omega (arith, count_news every news l, size_is l, size_is (af
 fewer : (w : Waiter) (ws : List Waiter) → length (without_waiter w ws) ≤ length ws
 fewer w ws = omega (arith, count_fewer every w ws, all_of ws, all_of (without_waiter w ws))
 
--- one who is there leaves fewer behind
+-- one that is there leaves fewer behind
 one_fewer : (w : Waiter) (ws : List Waiter) → is_among w ws ≡ true → suc (length (without_waiter w ws)) ≤ length ws
 unfolding every
 one_fewer w ws e = omega (arith, count_fewer_one every w ws e, all_of ws, all_of (without_waiter w ws))
@@ -60,7 +60,7 @@ front_stays w (x ∷ xs) ys e = elim (decided (same_waiter w x)) [
   | inr t ↦ rw t (front_stays w xs ys (rw t at e))
 ]
 
--- one who leaves
+-- one that leaves
 left_nearer : (news : News) (line : WaitList) (w : Waiter) (l : Waiting) → is_among w l.woken ≡ true → Nearer l (left_after news line w l)
 unfolding Nearer
 left_nearer news line w l e =
@@ -71,7 +71,7 @@ left_nearer news line w l e =
     let c = size_news news l in
     inl (omega (arith, a, b, c))
 
--- one who is gone, after which news may be told
+-- one that is gone, after which news may be told
 gone_nearer : (news : News) (w : Waiter) (l : Waiting) → is_among w l.woken ≡ true → Nearer l (after_news news (gone w l))
 unfolding Nearer
 gone_nearer news w l e =
@@ -83,7 +83,7 @@ just_gone : (w : Waiter) (l : Waiting) → is_among w l.woken ≡ true → Neare
 unfolding Nearer
 just_gone w l e = inl (woken_gone w l e)
 
--- one who stands again
+-- one that stands again
 end_nearer : (line : WaitList) (w : Waiter) (l : Waiting) → is_among w l.woken ≡ true → Nearer l (at_end line w l)
 unfolding Nearer
 end_nearer line w l e =
@@ -108,7 +108,7 @@ again_nearer w l e =
     let f = fewer w (without_waiter w l.woken) in
     rw off (inr (omega (arith, a, b, d), omega (arith, c, f)))
 
--- one who is woken is not untold
+-- one that is woken is not untold
 pub not_untold : (k : Kind) (line : WaitList) (w : Waiter) (l : Waiting) → Placed k l → is_among w l.woken ≡ true → is_among w (untold line l) ≡ false
 not_untold k line w l p e = false_from_ne_true (is_among w (untold line l)) (λ t. twice line t)
   where
@@ -129,7 +129,7 @@ IsBrief Room = Unit {0}
 IsBrief Closing = ⊥
 IsBrief (NextIn line) = ⊥
 
--- what a poll may leave of those who wait, and whom it may wake
+-- what a poll may leave of those that wait, and whom it may wake
 pub record Cases (w : Waiter) (l : Waiting) (P : Waiting → List Waiter → Type 0) : Type 0 where
   -- it leaves its line, after these news, and passes on what it was told
   pub left : (news : News) → IsBrief news → (line : WaitList) → P (left_after news line w l) (told_after news line w l)
@@ -164,7 +164,7 @@ module _ {T : Type 0} where
         So
         (λ t. c.left Nothing tt Closings) (λ t. c.stands Closings)
 
-    -- who is woken belongs to a line
+    -- one that is woken belongs to a line
     poll_so : (op : OpId) (o : Option (Operation T)) → IsSome (line_of_operation o) → Cases (Op op) s.waiting P → So (poll_answer s op o)
     poll_so op (Some (live.Send handle (Some m))) h c = send_so op handle m (space_of s.channel) c
     poll_so op (Some (live.Receive handle)) h c = recv_so op (found s.channel) c
@@ -236,7 +236,7 @@ pub nearer : {T : Type 0} → (s : State T) → AwakeIn s → (w : Waiter) (a : 
 nearer s awake w a e answers =
     poll_cases s (λ m names. Nearer s.waiting m) awake w a e answers (near_cases (line_at s.names) w s.waiting awake.placed e)
 
--- ---- the woken are a queue: the one that is polled leaves its front, and those whom it wakes come to its end
+-- ---- the woken are a queue: the one that is polled leaves its front, and those that it wakes come to its end
 
 pub Follows : Waiter → Waiting → Waiting → List Waiter → Type 0
 Follows w l m names = m.woken ≡ without_waiter w l.woken ++ names
@@ -300,7 +300,7 @@ without_first w (x ∷ xs) e h =
     let absent : is_among w xs ≡ false = first_absent w xs (subst (λ (v : Waiter). times w (v ∷ xs) ≤ 1) (sym same) h) in
     subst (λ (v : Waiter). without_waiter w (v ∷ xs) ≡ xs) same (rw (same_refl w) (without_absent w xs absent))
 
--- so whoever settles may keep the woken in a queue of its own
+-- so settling may keep the woken in a queue of its own
 pub woken_next : {T : Type 0} → (s : State T) → AwakeIn s → (w : Waiter) (a : Answer T) → slice_get s.waiting.woken 0 ≡ Some w → Answers s (poll_of w) a
     → a.after.waiting.woken ≡ drop 1 s.waiting.woken ++ a.woken
 unfolding Follows

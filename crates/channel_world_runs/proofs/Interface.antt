@@ -1,5 +1,5 @@
 -- What layers above may use: of a channel with no call under way, of what leads on from one configuration to another, how few steps
--- are left to the calls under way, that each party has one call, and what is owed to those who are pending, and
+-- are left to the calls under way, that each party has one call, and what is owed to those that are pending, and
 -- that only sends bring messages.
 use Rattle.std.proofs.Common.{◌≡◌, false, List, [], ◌∷◌, ◌++◌, None, subst}
 use Rattle.channel_calls.specs.declared.reply.Reply.{Reply}

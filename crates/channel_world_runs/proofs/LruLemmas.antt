@@ -49,7 +49,7 @@ module _ (w : Waiter) where
     | inr t ↦ rw t (entry_known es)
   ]
 
-  -- who has no place is not marked
+  -- a name without a place is not marked
   unmarked : (es : List (Waiter × Bool)) → is_among w (keys_of es) ≡ false → is_among w (marked_places es) ≡ false
   unmarked [] e = refl
   unmarked ((v, true) ∷ es) e = let h = or_false (same_waiter w v) (is_among w (keys_of es)) e in rw h.0 (unmarked es h.1)

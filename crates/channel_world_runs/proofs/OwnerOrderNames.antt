@@ -1,4 +1,4 @@
--- Names in the order of waking: who has a place, who was woken, and that no one was twice.
+-- Names in the order of waking: which have a place, which were woken, and that none was woken twice.
 use Rattle.std.proofs.Common.{◌≡◌, Bool, true, false, cond, not, ◌||◌, if◌then◌else◌, List, [], ◌∷◌, ◌++◌, Option, None, Some, ◌⊎◌, inl, inr, refl, sym, ap, ◌∙◌, subst}
 use Rattle.event_listener.specs.declared.key.Key.{Key}
 use Rattle.channel_world_model.specs.Lines.{same_waiter, is_among, without_waiter}
@@ -127,7 +127,7 @@ module _ {T : Type 0} (r : NameTable T) where
   abbrev woke : Waiter → WakeOrder → WakeOrder
   woke w o = next (is_name_pending r w) (is_among w o.places) w o
 
-  -- whoever has a place keeps it, and whoever was woken stays so
+  -- each that has a place keeps it, and each that was woken stays so
   pub all_placed : (names : List Waiter) (v : Waiter) (o : WakeOrder) → IsAmong v o.places → IsAmong v (all_woken r names o).places
   all_placed [] v o i = i
   all_placed (n ∷ names) v o i = all_placed names v (woke n o) (next_places (is_name_pending r n) (is_among n o.places) n v o i)
@@ -136,7 +136,7 @@ module _ {T : Type 0} (r : NameTable T) where
   all_stay [] v o i = i
   all_stay (n ∷ names) v o i = all_stay names v (woke n o) (next_stays (is_name_pending r n) (is_among n o.places) n v o i)
 
-  -- whoever comes is named and pending,
+  -- each that comes is named and pending,
   pub all_come : (names : List Waiter) (v : Waiter) (o : WakeOrder) → IsAmong v (all_woken r names o).woken
       → IsAmong v o.woken ⊎ (IsAmong v names × (is_name_pending r v ≡ true))
   all_come [] v o i = inl i
@@ -151,7 +151,7 @@ module _ {T : Type 0} (r : NameTable T) where
       by (inl j) = first (next_comes (is_name_pending r n) (is_among n o.places) n v o j)
       by (inr (j, p)) = inr (inr j, p)
 
-  -- and whoever is named, pending and has a place comes
+  -- and each that is named, pending and has a place comes
   pub all_there : (names : List Waiter) (v : Waiter) (o : WakeOrder) → IsAmong v names → is_name_pending r v ≡ true → IsAmong v o.places
       → IsAmong v (all_woken r names o).woken
   all_there [] v o i p k = absurd i
@@ -195,7 +195,7 @@ module _ {T : Type 0} where
   settled_places (on_return.PollNext receiver) key v o other i = kept_places key (Stream receiver) v o (apart_from v (Stream receiver) other) i
   settled_places e key v o other i = i
 
-  -- with a listener left, whoever has a place keeps it
+  -- with a listener left, each that has a place keeps it
   pub settled_keeps : (e : OnReturn T) (key : Key) (v : Waiter) (o : WakeOrder) → IsAmong v o.places → IsAmong v (order_settled e (Some key) o).places
   settled_keeps (on_return.Poll op) key v o i = i
   settled_keeps (on_return.PollNext receiver) key v o i = i

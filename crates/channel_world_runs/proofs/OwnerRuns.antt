@@ -40,7 +40,7 @@ module _ {T : Type 0} where
   known_of now [] u vs h = h.0
   known_of now (x ∷ us) u vs h = known_of now us u vs h.1
 
-  -- ---- those who hold, beside the call that makes the step
+  -- ---- those that hold, beside the call that makes the step
 
   abbrev Beyond : ℕ → ListenerRef → List (ActiveCall T Waiter) → List (ActiveCall T Waiter) → Type 0
   Beyond q h before behind = AnyOf (HasIt q h) before ⊎ AnyOf (HasIt q h) behind

@@ -60,9 +60,9 @@ module _ {W : Type 0} where
   woken_on Closings l names r had task t w i = let x = t.woken w i in (record { line = Closings; key = x.0 }, x.1, x.2)
 
 module _ {T W : Type 0} where
-  -- A channel after a step that wakes these, by a call with this listener in hand, which may be to wake this task: those who were
+  -- A channel after a step that wakes these, by a call with this listener in hand, which may be to wake this task: those that were
   -- told are told still, but for the one in hand; a listener that waits waited for the same, or is the one in hand, and waits for
-  -- its task; whoever is woken waited, and is told.
+  -- its task; each that is woken waited, and is told.
   pub record Follows (c d : Channel T W) (names : List W) (had : Option ListenerRef) (task : Option W) : Type 0 where
     pub told : (h : ListenerRef) → (had ≡ Some h → ⊥) → IsTold h c → IsTold h d
     pub tasks : (h : ListenerRef) (w : W) → WaitsToWake h w d → WaitsToWake h w c ⊎ ((had ≡ Some h) × (task ≡ Some w))

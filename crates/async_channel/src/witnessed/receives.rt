@@ -1,4 +1,4 @@
-//! The calls of a receiver that receive.
+//! The calls of a receiver that receive, with a witness.
 
 ghost use Rattle.std.specs.Prelude.{◌≡◌, ◌≤◌, ◌<◌, [], Some, length, Err, IfOk, IfErr, OnErr};
 ghost use Rattle.std.specs.Vec.{vec_capacity, vec_ptr};
@@ -18,7 +18,7 @@ use event_listener::waking::WakeNow;
 use std::sync::Wait;
 
 impl<'a, T: Drop, R: Wait + Copy> Witnessed<'a, T, R, OfReceivers> {
-    /// Takes the oldest message.
+    /// Removes the oldest message.
     #[inline(always)]
     pub fn try_recv(&self, witness: Witness<T>) -> (Result<T, TryRecvError>, Witness<T>)
         requires here { self.now.table ≡ Some (seat_table witness) }
@@ -31,7 +31,7 @@ impl<'a, T: Drop, R: Wait + Copy> Witnessed<'a, T, R, OfReceivers> {
             .try_recv(self.rt, witness, &mut WakeNow { rt: self.rt })
     }
 
-    /// Takes the oldest messages, at most `limit`, in order.
+    /// Removes the oldest messages, at most `limit`, in order.
     pub fn recv_many(
         &self,
         witness: Witness<T>,
@@ -53,7 +53,7 @@ impl<'a, T: Drop, R: Wait + Copy> Witnessed<'a, T, R, OfReceivers> {
             .recv_many(self.rt, witness, limit, alloc, sink)
     }
 
-    /// Takes the oldest messages into the room that is there, behind what is in it, in order.
+    /// Moves the oldest messages into the room that is there, behind what is in it, in order.
     pub fn recv_many_into(
         &self,
         witness: Witness<T>,
@@ -76,8 +76,7 @@ impl<'a, T: Drop, R: Wait + Copy> Witnessed<'a, T, R, OfReceivers> {
             .recv_many_into(self.rt, witness, into, sink)
     }
 
-    /// Takes the oldest message, and blocks the thread while there is none. It makes several calls, of which the last
-    /// one answers.
+    /// Removes the oldest message, and blocks the thread while there is none. It makes several calls, of which the last one answers.
     #[inline(always)]
     pub fn recv_blocking(&self, witness: Witness<T>) -> (Result<T, Refused<RecvError>>, Witness<T>)
         requires here { self.now.table ≡ Some (seat_table witness) }
@@ -90,7 +89,7 @@ impl<'a, T: Drop, R: Wait + Copy> Witnessed<'a, T, R, OfReceivers> {
 }
 
 impl<'a, T: Drop, R> Witnessed<'a, T, R, OfReceivers> {
-    /// Whether this receiver as a stream has ended. It waits for nobody.
+    /// Whether this receiver as a stream has ended.
     #[inline(always)]
     pub fn is_terminated(&self, witness: Witness<T>) -> (bool, Witness<T>)
         requires here { self.now.table ≡ Some (seat_table witness) }

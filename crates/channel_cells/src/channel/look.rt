@@ -1,4 +1,4 @@
-//! What is told of a channel's history, to whoever has a seat of one of its parties.
+//! What a look proves of a channel's history, for any seat of one of its parties. It reads one word and changes nothing.
 
 ghost use Rattle.std.specs.Prelude.{◌≡◌};
 ghost use Rattle.concurrent_queue.specs.history.Shared.{both_views};
@@ -12,9 +12,9 @@ use channel_history::laws::{
 };
 
 impl<T: Drop, W: Drop> ChannelTable<T, W> {
-    /// At any moment, whatever other threads are in the midst of: there is one history of all that was done to this channel, in which the
-    /// party of this seat stands where its view says, with all that it asked and was answered. As long as positions last, it is a run of
-    /// which the whole headline holds. It costs a load, and waits for nobody.
+    /// At any moment, whatever other threads are doing: there is one history of all that was done to this channel, in which the party of
+    /// this seat is where its view says, with all that it asked and was answered. As long as positions last, it is a run of which the whole
+    /// headline holds. It costs one load and never waits.
     pub fn look(&self, seat: &mut Seat<T, W>)
         requires here { seat_table seat.old ≡ id_of self.now }
         ensures told { IsTold (view_in seat.old) }
@@ -29,7 +29,8 @@ impl<T: Drop, W: Drop> ChannelTable<T, W> {
         let _ = self.table.look(seat);
     }
 
-    /// Takes another seat of this channel into this one, so that one look tells of both parties in one history. It costs a load.
+    /// Joins another seat of this channel into this one, so that one look says of both parties that they are in one history. It costs one
+    /// load.
     pub fn join(&self, one: &mut Seat<T, W>, other: Seat<T, W>)
         requires one { seat_table one.old ≡ id_of self.now }
         requires other { seat_table other ≡ id_of self.now }

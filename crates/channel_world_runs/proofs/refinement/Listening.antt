@@ -142,7 +142,7 @@ module _ (kind : Kind) (held : KeysHeld) (closed : Bool) (a : WaitLists Waiter) 
       (λ other apart. unmoved kind new closed other (listeners (list_of other) a) m (at_last line w m) (with_other_line line other (untold line m ++ w ∷ []) m apart)
       (ap (λ (ws : List Waiter). of_line kind other ws) (with_same_woken line (untold line m ++ w ∷ []) m)) (g other))
 
-  -- the wait lists of one who listened and was registered
+  -- the wait lists of one that listened and was registered
   pub joins_wait_lists : (b : WaitLists Waiter) → b ≡ with_listeners (list_of line) (listened key (listeners (list_of line) a)) a
       → with_listeners (list_of line) (registration key w (listeners (list_of line) b)) b ≡ with_listeners (list_of line) (joined key w (listeners (list_of line) a)) a
   joins_wait_lists b e =

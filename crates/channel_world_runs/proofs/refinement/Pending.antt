@@ -52,7 +52,7 @@ second_of told waiting p q r e f = rw (e, f) refl
 
 module _ (kind : Kind) (held : KeysHeld) (closed : Bool) (streams : StreamsAreStreams kind) (line : WaitList) (w : Waiter) (k : kind w ≡ Some line) (l : Waiting) (placed : Placed kind l) (keys : KeysFit kind held l)
     (shut : closed ≡ true → (line : WaitList) → untold line l ≡ []) (a : WaitLists Waiter) (h : ShowsLines kind held closed a l) where
-  -- ---- one who stands nowhere
+  -- ---- one that stands nowhere
 
   -- where it held nothing
   pub away_unheld : held w ≡ None → Waited kind held closed w a a None (gone w l)
@@ -87,7 +87,7 @@ module _ (kind : Kind) (held : KeysHeld) (closed : Bool) (streams : StreamsAreSt
         },
       )
 
-  -- ---- one who stays
+  -- ---- one that stays
 
   pub stays : (key : Key) → held w ≡ Some key → is_among w l.woken ≡ false → is_among w (untold line l) ≡ true
       → (waits key (listeners (list_of line) a) ≡ true) × Waited kind held closed w a (with_listeners (list_of line) (registration key w (listeners (list_of line) a)) a) (Some key) (standing line w l)
@@ -115,7 +115,7 @@ module _ (kind : Kind) (held : KeysHeld) (closed : Bool) (streams : StreamsAreSt
         },
       )
 
-  -- ---- one who comes
+  -- ---- one that comes
 
   pub comes : (b : WaitLists Waiter) (key : Key) → is_among w (untold line l) ≡ false → kind_of (listeners (list_of line) b) key ≡ None → Waited kind held closed w a b None (gone w l)
       → (d : WaitLists Waiter) → d ≡ with_listeners (list_of line) (joined key w (listeners (list_of line) b)) b → Waited kind held closed w a d (Some key) (standing line w l)

@@ -126,7 +126,7 @@ module _ {T : Type 0} where
     holds_it (Op op) h e = (op_at (lookup (nat_eq op.0) r.operations) h e).0
     holds_it (Stream handle) h e = (hold_at (lookup (nat_eq handle.0) r.handles) h e).0
 
-    -- only who is pending holds one
+    -- only one that is pending holds one
     pub pends : (w : Waiter) (key : Key) → held_of r w ≡ Some key → Pends (status r w) key
     pends (Op op) key e = op_pends (lookup (nat_eq op.0) r.operations) key e
     pends (Stream handle) key e = handle_entry_pends (lookup (nat_eq handle.0) r.handles) key e
