@@ -18,7 +18,7 @@ pub enum WaitList {
     Closings,
 }
 
-/// Which of the waiting listeners of a list a notification tells. It is additional: those that were told before don't count.
+/// Which of the listeners that wait on a list, and were not told before, a notification tells.
 #[derive(Clone, Copy, PartialEq, Eq, Debug)]
 pub enum Telling {
     /// The one that has waited longest.

@@ -53,7 +53,7 @@ impl<T, L> Homes<T, L> {
 }
 
 impl<T, L: Steps<T>> Homes<T, L> {
-    /// The list's place, with a list made here if nobody has listened yet. If two threads make one, the first one's stays.
+    /// Access to the list, which is made here if nobody has listened yet. If two threads make one, the first one's stays.
     fn shown<R: Wait>(&self, rt: &R) -> Result<OnceToken<'_, Arc<Home<T, L>>>, NoMemory>
         ensures of { IfOk result (λ token. token.of ≡ self.now.once.id) }
         ensures refused { OnErr result L.refused }

@@ -29,7 +29,8 @@ use std::alloc::Global;
 use std::sync::{Arc, OnceLock, OnceToken, Wait};
 use std::time::{Clock, Duration, Instant};
 
-/// A list of the listeners of one event, by the steps that are made on it and for it. A [`List`] is one, and every event's list.
+/// A list of the listeners of one event, by the steps that are made on it and for it. [`List`] implements it, and an ordinary event has a
+/// [`List`].
 ///
 /// A section is given the right to one step on its list, which names the list by its seal. So a body with two steps is no section.
 pub trait Steps<T>: Drop {
@@ -244,7 +245,7 @@ impl<T: Drop> Steps<T> for List<T, Task> {
         match List::poll(self, key) {
             Ok(Some(tag)) => Some(tag),
             Ok(None) | Err(_) => {
-                // Under the list's lock. Kept after it is released, a notification in between would find no waker, and the task would never
+                // Under the list's lock. Kept after it is released, a notification in between would find no waker, and the task might never
                 // be polled.
                 cell.keep(rt, waker);
                 None

@@ -56,9 +56,9 @@ use std::sync::Wait;
 ///
 /// # Waiting
 ///
-/// `is_closed`, `is_empty`, `is_full`, `is_terminated`, `capacity`, the counts, `same_channel` and `downgrade` never wait. All other calls,
-/// and the drop, may wait for another call's next steps and for the locks of the wait queues; `recv_blocking` and items of `iter` may wait
-/// for a message for ever.
+/// `is_closed`, `is_empty`, `is_full`, `is_terminated`, `capacity`, the counts, `same_channel`, `downgrade`, `calls`, and making an
+/// operation or a walk by `recv`, `iter` or `try_iter` never wait. All other calls, and the drop, may wait for another call's next steps
+/// and for the locks of the wait queues; `recv_blocking` and items of `iter` may wait for a message for ever.
 pub struct Receiver<T: Drop, R: Wait + Copy, S: Trace<T> + Copy = NoTrace> {
     pub(crate) counted: Counted<T, OfReceivers>,
     pub(crate) rt: R,

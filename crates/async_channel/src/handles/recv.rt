@@ -46,7 +46,7 @@ impl<'a, T: Drop, R: Wait + Copy, S: Trace<T> + Copy> Model for Recv<'a, T, R, S
 
     ghost Value = { Listening T };
 
-    // The listener itself, and not only whether there is one, so a poll with another listener doesn't type-check.
+    // The listener itself, and not only whether there is one, so a body that polls with another listener is refused.
     ghost view = { λ o. record { channel = o.receiver.now.channel; key = o.waits.key; party = party_of o.waits.seat } };
 }
 

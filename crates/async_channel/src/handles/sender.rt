@@ -43,8 +43,9 @@ use std::sync::Wait;
 ///
 /// # Waiting
 ///
-/// `is_closed`, `is_empty`, `is_full`, `capacity`, the counts, `same_channel` and `downgrade` never wait. All other calls, and the drop,
-/// may wait for another call's next steps and for the locks of the wait queues; `send_blocking` may wait for a place for ever.
+/// `is_closed`, `is_empty`, `is_full`, `capacity`, the counts, `same_channel`, `downgrade`, `calls`, and making an operation by `send` or
+/// `closed` never wait. All other calls, and the drop, may wait for another call's next steps and for the locks of the wait queues;
+/// `send_blocking` may wait for a place for ever.
 pub struct Sender<T: Drop, R: Wait + Copy, S: Trace<T> + Copy = NoTrace> {
     pub(crate) counted: Counted<T, OfSenders>,
     pub(crate) rt: R,

@@ -1,4 +1,4 @@
-//! The weak handles of a channel, which don't keep it open. They share the channel's memory and touch no count.
+//! The weak handles of a channel, which don't keep it open. They share the channel's memory and aren't counted.
 //!
 //! `try_clone` never waits; `upgrade` retries while other clones or upgrades come in between.
 
