@@ -60,20 +60,15 @@ impl<T: Drop, K: Kind> Counted<T, K> {
         match link {
             Link::Bounded(channel) => {
                 let Ok(tie) = Arc::try_clone(channel) else {
-                    return Err(HandleError::NoMemory);
+                    return Err(channel.no_memory(&watch));
                 };
-                let table = &channel.table;
-                let (made, seat) = table.clone_handle(rt, table.new_seat(), &mut WakeNow { rt });
-                match made {
-                    Ok(raised) => {
+                match channel.clone_handle(rt, &watch) {
+                    Ok((raised, seat)) => {
                         let link = Link::Bounded(tie);
                         let seat = Some(Kept::new(seat));
                         Ok(Counted { link, raised, seat })
                     }
-                    Err(error) => {
-                        seen::tell(&watch, seat);
-                        Err(error)
-                    }
+                    Err(error) => Err(error),
                 }
             }
             Link::Unbounded(shared) => {
@@ -109,24 +104,16 @@ impl<T: Drop, K: Kind> Counted<T, K> {
         match link {
             Link::Bounded(channel) => {
                 let Ok(tie) = Arc::try_clone(channel) else {
-                    return Err(HandleError::NoMemory);
+                    return Err(channel.no_memory(&watch));
                 };
-                let table = &channel.table;
-                let (made, seat) = table.upgrade(rt, table.new_seat(), &mut WakeNow { rt });
-                match made {
-                    Ok(Some(raised)) => {
+                match channel.upgrade(rt, &watch) {
+                    Ok(Some((raised, seat))) => {
                         let link = Link::Bounded(tie);
                         let seat = Some(Kept::new(seat));
                         Ok(Some(Counted { link, raised, seat }))
                     }
-                    Ok(None) => {
-                        seen::tell(&watch, seat);
-                        Ok(None)
-                    }
-                    Err(error) => {
-                        seen::tell(&watch, seat);
-                        Err(error)
-                    }
+                    Ok(None) => Ok(None),
+                    Err(error) => Err(error),
                 }
             }
             Link::Unbounded(shared) => {

@@ -1,6 +1,7 @@
 //! A channel with a bound: the table of its queue and its counts, under the rule that there is one history of all that was done to it.
 
 pub(crate) mod blocking;
+mod counts;
 pub(crate) mod polls;
 
 ghost use Rattle.std.specs.Prelude.{◌≡◌, ◌<◌, ◌≤◌, ◌^◌, [], ◌∷◌, IfOk};
