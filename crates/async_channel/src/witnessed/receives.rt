@@ -38,7 +38,8 @@ impl<'a, T: Drop, R: Wait + Copy> Witnessed<'a, T, R, OfReceivers> {
         }
     }
 
-    /// Takes the oldest messages, at most `limit`, in order.
+    /// Takes the oldest messages, at most `limit`, in order. It looks at the end as [`try_recv`](Witnessed::try_recv), and so does
+    /// [`recv_many_into`](Witnessed::recv_many_into).
     pub fn recv_many(
         &self,
         witness: Witness<T>,
@@ -52,12 +53,26 @@ impl<'a, T: Drop, R: Wait + Copy> Witnessed<'a, T, R, OfReceivers> {
         ensures none { IfOk result.0 (λ messages. messages.items ≡ [] → limit ≡ 0) }
         ensures wanted { OnErr result.0 (0 < limit) }
         ensures reason { result.0 ≡ Err (Refused.SerialsUsedUp tt) → ⊥ }
+        ensures over { result.0 ≡ Err (Refused.Plain TryRecvError.Closed) → IsOver result.1 }
     {
+        let table = &self.channel.table;
         let alloc = self.channel.alloc;
         let sink = &mut WakeNow { rt: self.rt };
-        self.channel
-            .table
-            .recv_many(self.rt, witness, limit, alloc, sink)
+        let (received, witness) = table.recv_many(self.rt, witness, limit, alloc, sink);
+        match received {
+            Ok(messages) => (Ok(messages), witness),
+            Err(Refused::Plain(TryRecvError::Empty)) => {
+                (Err(Refused::Plain(TryRecvError::Empty)), witness)
+            }
+            Err(Refused::Plain(TryRecvError::Closed)) => {
+                (
+                    Err(Refused::Plain(TryRecvError::Closed)),
+                    self.at_end(witness),
+                )
+            }
+            Err(Refused::NoMemory(())) => (Err(Refused::NoMemory(())), witness),
+            Err(Refused::SerialsUsedUp(())) => (Err(Refused::SerialsUsedUp(())), witness),
+        }
     }
 
     /// Takes the oldest messages into the room that is there, behind what is in it, in order.
@@ -76,11 +91,16 @@ impl<'a, T: Drop, R: Wait + Copy> Witnessed<'a, T, R, OfReceivers> {
         ensures wanted { IfErr result.0 (λ _. 0 < room_in into.old) }
         ensures room { vec_capacity into.new ≡ vec_capacity into.old }
         ensures in_place { vec_ptr into.new ≡ vec_ptr into.old }
+        ensures over { result.0 ≡ Err TryRecvError.Closed → IsOver result.1 }
     {
+        let table = &self.channel.table;
         let sink = &mut WakeNow { rt: self.rt };
-        self.channel
-            .table
-            .recv_many_into(self.rt, witness, into, sink)
+        let (received, witness) = table.recv_many_into(self.rt, witness, into, sink);
+        match received {
+            Ok(count) => (Ok(count), witness),
+            Err(TryRecvError::Empty) => (Err(TryRecvError::Empty), witness),
+            Err(TryRecvError::Closed) => (Err(TryRecvError::Closed), self.at_end(witness)),
+        }
     }
 
     /// Takes the oldest message, and blocks the thread while there is none. It makes several calls, of which the last one answers. Where no
