@@ -62,20 +62,15 @@ impl<T: Drop, K: Kind> Counted<T, K> {
             Link::Bounded(channel) => {
                 // The reference before the count: if it is refused, no count was raised, which no handle would lower.
                 let Ok(tie) = Arc::try_clone(channel) else {
-                    return Err(HandleError::NoMemory);
+                    return Err(channel.no_memory(&watch));
                 };
-                let table = &channel.table;
-                let (made, seat) = table.clone_handle(rt, table.new_seat(), &mut WakeNow { rt });
-                match made {
-                    Ok(raised) => {
+                match channel.clone_handle(rt, &watch) {
+                    Ok((raised, seat)) => {
                         let link = Link::Bounded(tie);
                         let seat = Some(Kept::new(seat));
                         Ok(Counted { link, raised, seat })
                     }
-                    Err(error) => {
-                        seen::tell(&watch, seat);
-                        Err(error)
-                    }
+                    Err(error) => Err(error),
                 }
             }
             Link::Unbounded(shared) => {
@@ -113,24 +108,16 @@ impl<T: Drop, K: Kind> Counted<T, K> {
             Link::Bounded(channel) => {
                 // The reference before the count, as in `one_more`.
                 let Ok(tie) = Arc::try_clone(channel) else {
-                    return Err(HandleError::NoMemory);
+                    return Err(channel.no_memory(&watch));
                 };
-                let table = &channel.table;
-                let (made, seat) = table.upgrade(rt, table.new_seat(), &mut WakeNow { rt });
-                match made {
-                    Ok(Some(raised)) => {
+                match channel.upgrade(rt, &watch) {
+                    Ok(Some((raised, seat))) => {
                         let link = Link::Bounded(tie);
                         let seat = Some(Kept::new(seat));
                         Ok(Some(Counted { link, raised, seat }))
                     }
-                    Ok(None) => {
-                        seen::tell(&watch, seat);
-                        Ok(None)
-                    }
-                    Err(error) => {
-                        seen::tell(&watch, seat);
-                        Err(error)
-                    }
+                    Ok(None) => Ok(None),
+                    Err(error) => Err(error),
                 }
             }
             Link::Unbounded(shared) => {

@@ -116,7 +116,8 @@ pub trait Trace<T>: queue::Trace<T> {
     fn saw(&mut self, sight: &Sight<Self>, it: Shown<'_>)
         ensures { Sees entered shown offering parked slept it.entry self.old self.new };
 
-    /// A call was made on a channel with a bound, and left this.
+    /// A call was made on a channel with a bound, and left this. A clone or an upgrade without memory makes none, and leaves a party that has
+    /// asked nothing.
     fn heard(&self, sight: &Sight<Self>, call: Witness<T>)
         ensures { called call };
 }

@@ -5,6 +5,7 @@
 //! [`Witness`].
 
 pub(crate) mod blocking;
+mod counts;
 pub(crate) mod polls;
 
 ghost use Rattle.std.specs.Prelude.{◌≡◌, ◌<◌, ◌≤◌, ◌^◌, [], ◌∷◌, IfOk};

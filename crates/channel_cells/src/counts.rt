@@ -10,10 +10,11 @@ ghost use Rattle.channel_calls.specs.declared.reply.Reply.TheVariants as reply;
 ghost use Rattle.channel_calls.specs.declared.stage.Side.TheVariants.{Senders, Receivers};
 ghost use Rattle.channel_calls.specs.declared.stage.WaitList.TheVariants.{Streams};
 ghost use Rattle.channel_history.specs.InHand.{listed_on};
-ghost use Rattle.channel_history.specs.Machine.{both};
+ghost use Rattle.channel_history.specs.Machine.{both, left};
 ghost use Rattle.channel_cells.specs.Calls.{HasCalled};
 ghost use Rattle.channel_history.specs.CallEnds.{Rests};
 ghost use Rattle.channel_cells.specs.Channel.{id_of, seat_table, standing_of};
+ghost use Rattle.channel_cells.specs.Lists.{with_handles};
 
 use crate::channel::{ChannelTable, Seat};
 use channel_calls::error::HandleError;
@@ -103,6 +104,20 @@ impl<T: Drop, W: Drop> ChannelTable<T, W> {
         let mut cells = self.begin_on::<Brand, R, Option<Key>>(rt, seat, &key);
         raised::drop_receiver(rt, raised, key, &mut cells, sink);
         cells.end::<Brand, (), ()>(&(), &())
+    }
+
+    /// The handle that lies with this seat goes to a new seat, of a party that has made no call. What this party asked and was answered stays
+    /// with it. It costs two loads.
+    pub fn part_handle<K: Kind>(&self, seat: Seat<T, W>) -> (Seat<T, W>, Seat<T, W>)
+        requires here { seat_table seat ≡ id_of self.now }
+        requires handle { Rests (K.side ∷ []) [] (standing_of seat) }
+        ensures stays { standing_of result.0 ≡ left (standing_of seat) }
+        ensures goes { standing_of result.1 ≡ with_handles (K.side ∷ []) }
+        ensures here { (seat_table result.0 ≡ id_of self.now) × (seat_table result.1 ≡ id_of self.now) }
+    {
+        let mut seat = self.table.go_on(seat);
+        let handle = seat.part::<Brand, Side>(&K::side());
+        (seat.rest(), self.table.name(handle))
     }
 
     /// The seat of a receiver takes in that of its stream, with the listener that the stream may have. It costs one load.

@@ -2,8 +2,9 @@
 
 ghost use Rattle.std.specs.Prelude.{◌≡◌};
 ghost use Rattle.concurrent_queue.specs.history.Shared.{both_views};
-ghost use Rattle.channel_cells.specs.Channel.{id_of, seat_table, view_in};
+ghost use Rattle.channel_cells.specs.Channel.{id_of, seat_table, standing_of, view_in};
 ghost use Rattle.channel_cells.specs.Look.{IsTold};
+ghost use Rattle.channel_cells.specs.Over.{IsOver, WasToldTheEnd};
 
 use crate::channel::{ChannelTable, Seat};
 use channel_history::laws::{
@@ -27,6 +28,17 @@ impl<T: Drop, W: Drop> ChannelTable<T, W> {
         handles_are_counted::<T, W>();
         registrations_are_live::<T, W>();
         let _ = self.table.look(seat);
+    }
+
+    /// The same to a party that was told that no message will come any more: the channel is at its end, so that all that was accepted was
+    /// taken, in order.
+    pub fn look_at_end(&self, seat: &mut Seat<T, W>)
+        requires here { seat_table seat.old ≡ id_of self.now }
+        requires end { WasToldTheEnd (standing_of seat.old) }
+        ensures over { IsOver (view_in seat.old) }
+        ensures kept { (view_in seat.new ≡ view_in seat.old) × (seat_table seat.new ≡ seat_table seat.old) }
+    {
+        self.look(seat);
     }
 
     /// Joins another seat of this channel into this one, so that one look says of both parties that they are in one history. It costs one
