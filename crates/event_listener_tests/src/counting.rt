@@ -1,5 +1,5 @@
-//! How many steps each call makes on the list of its event, by a list that counts them. A second plain notification beside the right one
-//! meets every contract; this test sees it.
+//! How many steps each call makes on the list of its event, by a list that counts them. A public call that is begun twice meets every
+//! contract; this test sees it.
 
 use crate::checks::expect_equal;
 use crate::event::{task, waker};
@@ -11,6 +11,7 @@ use event_listener::list::List;
 use event_listener::listener::Listener;
 use event_listener::notify::Notification;
 use event_listener::parker::Parker;
+use event_listener::stack::StackSlot;
 use event_listener::steps::Steps;
 use event_listener::waking::{Task, WakerCell};
 use event_listener::{Home, Step};
@@ -210,6 +211,25 @@ impl<R: Wait + Clock + Copy> Watched<'_, R> {
         Some([listen, self.made()])
     }
 
+    /// Those of a poll by hand and of one as a future, of a listener that waits.
+    fn by_polls(&mut self, task: &MockTask) -> Option<[usize; 2]> {
+        let mut listener = self.event.listen(&self.rt).ok()?;
+        self.made();
+        let _ = listener.poll(waker(task)?);
+        let poll = self.made();
+        let _ = task.poll(&mut listener);
+        Some([poll, self.made()])
+    }
+
+    /// Those of a slot, and of a listening in it.
+    fn by_slot(&mut self, alloc: Global) -> Option<[usize; 2]> {
+        self.made();
+        let mut slot = StackSlot::new(self.rt, alloc, self.event).ok()?;
+        let new = self.made();
+        let _listener = slot.listen().ok()?;
+        Some([new, self.made()])
+    }
+
     /// Those of a discarding, and of a drop.
     fn by_leaving(&mut self) -> Option<[usize; 2]> {
         let discarded = self.event.listen(&self.rt).ok()?;
@@ -258,4 +278,11 @@ fn each_call_makes_its_steps(rt: HostRuntime) {
     expect_equal(&rt, &told, &([1, 1, 1, 1, 1], [1, 1, 1, 1]));
     expect_equal(&rt, &watched.by_wait().expect(&rt, "memory"), &[1, 2]);
     expect_equal(&rt, &watched.by_leaving().expect(&rt, "memory"), &[1, 1]);
+    expect_equal(
+        &rt,
+        &watched.by_polls(&polled).expect(&rt, "memory"),
+        &[1, 1],
+    );
+    let by_slot = watched.by_slot(rt.alloc()).expect(&rt, "memory");
+    expect_equal(&rt, &by_slot, &[0, 1]);
 }
