@@ -3,7 +3,7 @@ ghost use Rattle.std.specs.Prelude.{◌≡◌, ◌<◌, ◌^◌, ◌∷◌, leng
 ghost use Rattle.std.specs.Option.{option_map, option_to_list};
 ghost use Rattle.channel_world_language.specs.Table.{named_in};
 ghost use Rattle.channel_world_language.specs.Asked.{used, given, handle_of, question_call, call_of};
-ghost use Rattle.channel_world_language.specs.Said.{said, asked_as, sort_of, sending_call, making_call, doing_call};
+ghost use Rattle.channel_world_language.specs.Said.{said, sort_of, sending_call, making_call, doing_call};
 
 use crate::command::{Command, Doing, Making, Question, Sending};
 use crate::table::{Named, Sort, Table};
@@ -84,7 +84,7 @@ fn making_call(making: Making, number: u32, handle: HandleId) -> Call<u64>
 
 /// A question to a handle.
 fn question_call(question: Question, handle: HandleId) -> Call<u64>
-    ensures { result ≡ question_call (asked_as question) handle }
+    ensures { result ≡ question_call question handle }
 {
     match question {
         Question::IsClosed => Call::IsClosed { handle },

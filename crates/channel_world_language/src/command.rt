@@ -4,7 +4,7 @@ ghost use Rattle.std.specs.Option.{option_map};
 ghost use Rattle.channel_world_language.specs.Words.{words_after};
 ghost use Rattle.channel_world_language.specs.Command.{openings, parse, read, that_is, for_word, call_commands};
 ghost use Rattle.channel_world_language.specs.Language.{today};
-ghost use Rattle.channel_world_language.specs.Said.{said, said_line, said_first, form_of};
+ghost use Rattle.channel_world_language.specs.Said.{said, said_line, form_of};
 
 use crate::words::{first_word, next_name, next_number};
 
@@ -248,7 +248,7 @@ pub fn parse_line(line: &[u8]) -> Option<Line<'_>>
 
 /// The channel that the first line of a script says; `None` if it can't be read.
 pub fn parse_opening(line: &[u8]) -> Option<Opening>
-    ensures { option_map said_first result ≡ parse openings line.now }
+    ensures { result ≡ parse openings line.now }
 {
     if line.len() > LINE_LIMIT {
         return None;

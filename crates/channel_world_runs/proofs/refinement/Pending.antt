@@ -7,7 +7,7 @@ use Rattle.channel_world_runs.proofs.refinement.Telling.{replaced}
 use Rattle.channel_world_runs.proofs.refinement.Standing.{Nowhere, gone_nowhere, nowhere_gone, keyless_nowhere, rekeyed_lines, keys_gone}
 use Rattle.channel_world_runs.proofs.refinement.Departing.{same_senders, same_receivers}
 use Rattle.channel_world_runs.proofs.refinement.Leaving.{StreamsAreStreams, own_gone, other_gone}
-use Rattle.channel_world_runs.proofs.refinement.Listening.{joins_keys, joins_lines, joins_wait_lists, joined, at_last}
+use Rattle.channel_world_runs.proofs.refinement.Listening.{second_of, joins_keys, joins_lines, joins_wait_lists, joined, at_last}
 
 -- ---- keys held
 
@@ -46,9 +46,6 @@ told_by told waiting e = rw e refl
 
 first_of : (told waiting : Bool) (p q r : Listeners Waiter) → told ≡ true → (if told then p else (if waiting then q else r)) ≡ p
 first_of told waiting p q r e = rw e refl
-
-second_of : (told waiting : Bool) (p q r : Listeners Waiter) → told ≡ false → waiting ≡ true → (if told then p else (if waiting then q else r)) ≡ q
-second_of told waiting p q r e f = rw (e, f) refl
 
 module _ (kind : Kind) (held : KeysHeld) (closed : Bool) (streams : StreamsAreStreams kind) (line : WaitList) (w : Waiter) (k : kind w ≡ Some line) (l : Waiting) (placed : Placed kind l) (keys : KeysFit kind held l)
     (shut : closed ≡ true → (line : WaitList) → untold line l ≡ []) (a : WaitLists Waiter) (h : ShowsLines kind held closed a l) where

@@ -1,5 +1,5 @@
 -- A call that was made alone leaves those that were woken in the order in which the model leaves them.
-use Rattle.channel_world_runs.proofs.rest.Words.{◌≡◌, ◌≤◌, ◌+◌, arith, List, [], ◌∷◌, ◌++◌, Bool, true, false, not, cond, Option, None, Some, ◌⊎◌, inl, inr, refl, sym, ap, subst, ◌∙◌, false_from_ne_true, filter, filter-append, append_assoc, append-nil, option_map_or, Key, ListenerRef, Outcome, count_append, among_counts, among_self, or_right, same_sound, decided, without_absent, times, same_waiter, is_among, without_waiter, Call, Waiter, Op, Stream, asks, on_return_of, names_begun, all_woken, order_begun, order_settled, WakeOrder, placed, IsAmong, waits, free, status, is_name_pending, names_of, OnReturn, NameTable, Admitted, order_alone, but_for, NameState, Configuration, WorldInvariant}
+use Rattle.channel_world_runs.proofs.rest.Words.{◌≡◌, ◌≤◌, ◌+◌, arith, List, [], ◌∷◌, ◌++◌, Bool, true, false, not, cond, Option, None, Some, ◌⊎◌, inl, inr, refl, sym, ap, subst, ◌∙◌, false_from_ne_true, filter, filter-append, append_assoc, append-nil, option_map_or, Key, ListenerRef, Outcome, count_append, among_counts, among_self, or_right, same_sound, decided, without_absent, times, same_waiter, is_among, without_waiter, Call, Waiter, Op, Stream, asks, on_return_of, names_begun, all_woken, order_begun, order_settled, WakeOrder, IsAmong, waits, free, status, is_name_pending, names_of, OnReturn, NameTable, Admitted, order_alone, but_for, NameState, Configuration, WorldInvariant}
 use Rattle.channel_world_runs.specs.declared.names.OnReturn.TheVariants as on_return
 use Rattle.channel_world_model.specs.Asked.{keeper_in}
 use Rattle.channel_world_runs.specs.Owners.{subject}

@@ -6,12 +6,8 @@ use Rattle.channel_world_model.specs.declared.name.Operation.TheVariants as live
 abbrev pub on : WaitList → Key → ListenerRef
 on line key = record { line = line; key = key }
 
-abbrev status_held : ListenerRef → NameStatus → ListenerRef
-status_held h (waits k) = k
-status_held h x = h
-
 pub same_held : (h k : ListenerRef) → waits h ≡ waits k → h ≡ k
-same_held h k e = ap (λ (p : NameStatus). status_held h p) e
+same_held h k e = cc e
 
 -- ---- what is pending
 
