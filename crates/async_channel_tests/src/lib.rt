@@ -19,8 +19,6 @@ mod checks;
 #[cfg(test)]
 mod counting;
 #[cfg(test)]
-mod ending;
-#[cfg(test)]
 mod errors;
 #[cfg(test)]
 mod handle_rows;
