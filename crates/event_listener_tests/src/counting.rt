@@ -1,5 +1,5 @@
-//! How many steps each call makes on the list of its event, by a list that counts them. A second plain notification beside the right one
-//! meets every contract; this test sees it.
+//! How many steps each call makes on the list of its event, by a list that counts them. A public call that is begun twice meets every
+//! contract; this test sees it.
 
 use crate::checks::expect_equal;
 use crate::event::{task, waker};
@@ -11,6 +11,7 @@ use event_listener::list::List;
 use event_listener::listener::Listener;
 use event_listener::notify::Notification;
 use event_listener::parker::Parker;
+use event_listener::stack::StackSlot;
 use event_listener::steps::Steps;
 use event_listener::waking::{Task, WakerCell};
 use event_listener::{Home, Step};
@@ -211,6 +212,26 @@ impl<R: Wait + Abort + Clock + Copy> Watched<'_, R> {
         [listen, self.made()]
     }
 
+    /// Those of a poll by hand and of one as a future, of a listener that waits.
+    fn by_polls(&mut self, task: &MockTask) -> [usize; 2] {
+        let waker = waker(task).expect(&self.rt, "a waker");
+        let mut listener = self.event.listen(&self.rt).expect(&self.rt, "memory");
+        self.made();
+        let _ = listener.poll(waker);
+        let poll = self.made();
+        let _ = task.poll(&mut listener);
+        [poll, self.made()]
+    }
+
+    /// Those of a slot, and of a listening in it.
+    fn by_slot(&mut self, alloc: Global) -> [usize; 2] {
+        self.made();
+        let mut slot = StackSlot::new(self.rt, alloc, self.event).expect(&self.rt, "memory");
+        let new = self.made();
+        let _listener = slot.listen().expect(&self.rt, "memory");
+        [new, self.made()]
+    }
+
     /// Those of a discarding, and of a drop.
     fn by_leaving(&mut self) -> [usize; 2] {
         let discarded = self.event.listen(&self.rt).expect(&self.rt, "memory");
@@ -261,4 +282,6 @@ fn each_call_makes_its_steps(rt: HostRuntime) {
     expect_equal(&rt, &told, &([1, 1, 1, 1, 1], [1, 1, 1, 1]));
     expect_equal(&rt, &watched.by_wait(), &[1, 2]);
     expect_equal(&rt, &watched.by_leaving(), &[1, 1]);
+    expect_equal(&rt, &watched.by_polls(&polled), &[1, 1]);
+    expect_equal(&rt, &watched.by_slot(rt.alloc()), &[0, 1]);
 }
