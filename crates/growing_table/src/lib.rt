@@ -1,0 +1,4 @@
+//! Memory that grows under one rule.
+#![tactic(auto)]
+
+mod bits;
