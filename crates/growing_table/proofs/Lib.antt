@@ -1,0 +1,4 @@
+mod Plain
+mod Stays
+mod Powers
+mod Steps
