@@ -9,6 +9,12 @@ use Rattle.growing_table.specs.State as state
 use Rattle.growing_table.specs.Laid.{front, Rows, word, home, plain_block, plain_words, plain_blocks}
 
 module _ {A : Type 0} where
+  front_long : (l : List A) (n i : ℕ) → i < n → i < length l → i < length (front l n)
+  front_long [] n i h h' = h'
+  front_long (x ∷ xs) zero i h h' = absurd (omega arith)
+  front_long (x ∷ xs) (suc n) zero h h' = omega arith
+  front_long (x ∷ xs) (suc n) (suc i) h h' = let t = front_long xs n i (omega arith) (omega arith) in omega arith
+
   front_set : (l : List A) (n i : ℕ) (a : A) → front (set l i a) n ≡ set (front l n) i a
   front_set [] n i a = refl
   front_set (x ∷ xs) zero zero a = refl
@@ -105,6 +111,9 @@ module _ {S : Type 0} where
   pub own_set : (rows : Rows S) (i x : ℕ) → 0 < length rows → plain_words (with_word rows 0 i x) ≡ set (plain_words rows) i x
   own_set rows i x h = let c : Cell S = cell x (link_of rows 0 i) (home_of rows 0 i) in words_set rows (row_at (row rows 0).at (set (row rows 0).cells i c)) h ∙ map_set word (row rows 0).cells i c
 
+  pub own_blocks : (n : ℕ) (rows : Rows S) (i x : ℕ) → plain_blocks n (with_word rows 0 i x) ≡ plain_blocks n rows
+  own_blocks n rows i x = blocks_stay n rows (row_at (row rows 0).at (set (row rows 0).cells i (cell x (link_of rows 0 i) (home_of rows 0 i))))
+
   module _ (n : ℕ) (rows : Rows S) (k i : ℕ) where
     abbrev r : Row S
     r = row rows (suc (suc k))
@@ -136,3 +145,6 @@ module _ {S : Type 0} where
 
     pub block_words : (x : ℕ) → plain_words (with_word rows (suc (suc k)) i x) ≡ plain_words rows
     block_words x = words_stay rows (suc k) (row_at r.at (set r.cells i (cell x (link_of rows (suc (suc k)) i) (home_of rows (suc (suc k)) i))))
+
+    pub block_long : i < n → i < length r.cells → i < length b.words
+    block_long h near = subst (λ (y : BlockState S). i < length y.words) (sym (block_at n rows k)) (let e = lib.ListN.length-map (front r.cells n) word in let t = front_long r.cells n i h near in omega arith)

@@ -2,7 +2,7 @@
 use Rattle.std.proofs.Common.{◌≡◌, ◌≢◌, ℕ, zero, suc, ◌+◌, ◌-◌, ◌<◌, ◌≤◌, ◌^◌, ⊎_elim, is_some, Bool, true, false, true≢false, List, [], ◌∷◌, ◌++◌, map, length, get_or, set, refl, sym, ap, ◌∙◌, subst, arith}
 use Rattle.std.specs.Prelude.{Option, Some, None}
 use mathlib.Core.Option.{some, some-injective, some-ne-none}
-use lib.ListN.{get_elem?}
+use lib.ListN.{get_elem?, length-map}
 use denote.RawPtr.{Ptr, InBlock}
 use Rattle.atomic_table.proofs.Lists.{at_map}
 use Rattle.atomic_blocks.specs.Cells as cells
@@ -53,14 +53,17 @@ module _ {S V : Type 0} where
       recalls rows″ a k p e = let t = (g.knows id v here).charted k p e in at_places rows″ k (subst (λ (x : ℕ). k < x) (sym a.count) t.0) ∙ ap some ((a.place k).0 ∙ t.1)
 
       abbrev pub KitGoes : (Me S V → Type 0) → Type 0
-      KitGoes then = cells.Goes G s rows' id m (λ (r : KitMe S V). Stays m r × then (plain_me r))
+      KitGoes then = cells.Goes G s rows' id m (λ (r : KitMe S V). Stays m r × (length r.view.chart.places ≡ length s.rows) × then (plain_me r))
+
+      charts : (rows″ : Rows S) → Same s.rows rows″ → length (places rows″) ≡ length s.rows
+      charts rows″ a = length-map rows″ (λ (x : cells.Row S). x.at) ∙ a.count
 
       pub goes : (then : Me S V → Type 0) → plain.Goes holds (plain_words rows') (plain_blocks n rows') (map client s.views) id (plain_me m) then → KitGoes then
       goes then r = by_act r.0 r.1 r.2 r.3 r.4
         where
           by_act : (w : V) (a : Act S) → plain.Valid (plain_blocks n rows') (plain_me m) a → holds (state (plain_words rows') (blocks_after (plain_blocks n rows') a) (set (map client s.views) id w)) → then (plain.me_after (plain_me m) w a) → KitGoes then
           by_act w keeps valid good told = let u : Sight V = renewed rows' v w v.at in
-              (u, cells.keeps, tt, grown_on s g rows' same id v here w v.at good, (((recalls rows' same, refl, refl, held_on v u m.hand (recalls rows' same) refl refl holding), refl, refl, refl), told))
+              (u, cells.keeps, tt, grown_on s g rows' same id v here w v.at good, (((recalls rows' same, refl, refl, held_on v u m.hand (recalls rows' same) refl refl holding), refl, refl, refl), charts rows' same, told))
           by_act w (takes k j y) valid good told = let t = facts.home_there n rows' k j y valid in let rows″ : Rows S = with_home rows' (suc (suc k)) j None in
               let after : Same rows' rows″ = same_home rows' (suc (suc k)) j None t.0 in let both = same_then same after in
               let u : Sight V = renewed rows″ v w k in
@@ -68,7 +71,7 @@ module _ {S V : Type 0} where
               let lies = at_places rows″ (suc (suc k)) there ∙ ap some (after.place (suc (suc k))).0 in
               (u, cells.takes (suc (suc k)) j y, (t.0, t.1),
                 grown_on s g rows″ both id v here w k (subst (λ (b : List ℕ × List (BlockState S)). holds (state b.0 b.1 (set (map client s.views) id w))) (λ i. (sym (facts.home_words n rows' k j None) i, sym (facts.home_set n rows' k j None) i)) good),
-                (((recalls rows″ both, refl, refl, (lies, subst (λ (x : ℕ). j < x) (sym sized) t.2)), refl, refl, refl), told))
+                (((recalls rows″ both, refl, refl, (lies, subst (λ (x : ℕ). j < x) (sym sized) t.2)), refl, refl, refl), charts rows″ both, told))
           by_act w (gives k j y) valid good told = let t = given_as v.at m.hand k j y valid in let rows″ : Rows S = with_home rows' (suc (suc k)) j (Some y) in
               let held : Held v (Some (t.0, j, y)) = subst (Held v) t.1 holding in
               let charted = (g.knows id v here).charted (suc (suc v.at)) t.0 held.0 in
@@ -79,4 +82,43 @@ module _ {S V : Type 0} where
               let u : Sight V = renewed rows″ v w v.at in
               (u, cells.gives (suc (suc k)) j y, (fits, t.1 ∙ ap Some (λ i. (sym placed i, j, y))),
                 grown_on s g rows″ both id v here w v.at (subst (λ (b : List ℕ × List (BlockState S)). holds (state b.0 b.1 (set (map client s.views) id w))) (λ i. (sym (facts.home_words n rows' k j (Some y)) i, sym (facts.home_set n rows' k j (Some y)) i)) good),
-                (((recalls rows″ both, refl, refl, tt), refl, refl, refl), told))
+                (((recalls rows″ both, refl, refl, tt), refl, refl, refl), charts rows″ both, told))
+
+    abbrev Fully : KitState S V → KitMe S V → (Me S V → Type 0) → KitMe S V → Type 0
+    Fully s m then r = Stays m r × (length r.view.chart.places ≡ length s.rows) × then (plain_me r)
+
+    -- less is told
+    less : (s : KitState S V) (rows' : Rows S) (id : ℕ) (m : KitMe S V) (A B : KitMe S V → Type 0) → ((x : KitMe S V) → A x → B x) → cells.Goes G s rows' id m A → cells.Goes G s rows' id m B
+    less s rows' id m A B f r = (r.0, r.1, r.2, r.3, f _ r.4)
+
+    module _ (id : ℕ) (m : KitMe S V) (sized : m.view.cells ≡ n) (holding : Holding m) (f : ℕ → ℕ) (then : ℕ → Me S V → Type 0) where
+      abbrev Told : ℕ → KitMe S V → Type 0
+      Told r m' = Stays m m' × then r (plain_me m')
+
+      -- A WORD OF THE TABLE'S OWN
+      pub allows_own : (i : ℕ) → i < wide → plain.Allows holds id (plain_me m) (own i) f then → cells.Allows G id m 0 root i f Told
+      allows_own i inside law s g here = let rows : Rows S = s.rows in let ws : List ℕ = plain_words rows in let bs : List (BlockState S) = plain_blocks n rows in
+          let near : i < length (row rows 0).cells = subst (λ (x : ℕ). i < x) (sym g.laid.root_long) inside in
+          ((g.laid.root_at, near), λ small. let x : ℕ = word_of rows 0 i in let rows' : Rows S = with_word rows 0 i (f x) in let same = same_word rows 0 i (f x) near (λ e. absurd (omega arith)) in
+            let found : get_or ws i 0 ≡ x = facts.own_found rows i in
+            let long : length ws ≡ length (row rows 0).cells = length-map (row rows 0).cells (λ (c : cells.Cell S). c.word) in
+            let r = law (state ws bs (map client s.views)) g.agreed (at_map client s.views id m.view here) (subst (λ (y : ℕ). i < y) (sym long) near) (subst (λ (y : ℕ). y < 18446744073709551616) (sym found) small) in
+            let r' = subst (λ (y : ℕ). plain.Goes holds (set ws i (f y)) bs (map client s.views) id (plain_me m) (then y)) found r in
+            let r″ = subst (λ (b : List ℕ × List (BlockState S)). plain.Goes holds b.0 b.1 (map client s.views) id (plain_me m) (then x))
+              (λ k. (sym (facts.own_set rows i (f x) (let t : 2 ≤ length rows = g.laid.tall in omega arith)) k, sym (facts.own_blocks n rows i (f x)) k)) r' in
+            less s rows' id m (Fully s m (then x)) (Told x) (λ m' t. (t.0, t.2)) (goes s g rows' same id m here sized holding (then x) r″))
+
+      -- A WORD OF A BLOCK whose place the seat knows
+      at_block : (k i : ℕ) (p : Ptr) → i < n → get_elem? m.view.chart.places (suc (suc k)) ≡ some p → plain.Allows holds id (plain_me m) (within k i) f then → cells.Allows G id m (suc (suc k)) p i f Told
+      at_block k i p inside lies law s g here = let rows : Rows S = s.rows in let ws : List ℕ = plain_words rows in let bs : List (BlockState S) = plain_blocks n rows in let K : ℕ = suc (suc k) in
+          let charted = (g.knows id m.view here).charted K p lies in
+          let near : i < length (row rows K).cells = (let x : ℕ = length (row rows K).cells in let a : n ≤ x = long_enough rows g.laid k charted.0 in omega arith) in
+          ((charted.1, near), λ small. let x : ℕ = word_of rows K i in let rows' : Rows S = with_word rows K i (f x) in let same = same_word rows K i (f x) near (λ e. absurd (omega arith)) in
+            let b : BlockState S = plain.block bs k in let found : get_or b.words i 0 ≡ x = facts.block_found n rows k i inside in
+            let many : length bs + 2 ≡ length rows = facts.blocks_count n rows g.laid.tall in
+            let has : (k < length bs) × (i < length b.words) = ((let h : suc (suc k) < length rows = charted.0 in omega arith), facts.block_long n rows k i inside near) in
+            let r = law (state ws bs (map client s.views)) g.agreed (at_map client s.views id m.view here) has (subst (λ (y : ℕ). y < 18446744073709551616) (sym found) small) in
+            let r' = subst (λ (y : ℕ). plain.Goes holds ws (set bs k (plain.block_of (set b.words i (f y)) b.homes)) (map client s.views) id (plain_me m) (then y)) found r in
+            let r″ = subst (λ (z : List ℕ × List (BlockState S)). plain.Goes holds z.0 z.1 (map client s.views) id (plain_me m) (then x))
+              (λ j. (sym (facts.block_words n rows k i (f x)) j, sym (facts.block_set n rows k i (f x)) j)) r' in
+            less s rows' id m (Fully s m (then x)) (Told x) (λ m' t. (t.0, t.2)) (goes s g rows' same id m here sized holding (then x) r″))
