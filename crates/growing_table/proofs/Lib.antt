@@ -2,3 +2,4 @@ mod Plain
 mod Stays
 mod Powers
 mod Steps
+mod Asks

@@ -10,7 +10,7 @@ use Rattle.atomic_blocks.specs.Cells.{row, with_word, with_home, word_of, link_o
 use Rattle.atomic_blocks.proofs.After.{cell_again}
 use Rattle.growing_table.specs.State as plain
 use Rattle.growing_table.specs.State.{BlockState, State, Me, Spot, Step, Act, own, within, count, keeps, takes, gives, state, step, blocks_after, blocks_with, words_with}
-use Rattle.growing_table.specs.Laid.{Rows, KitState, KitMe, IsAt, entry, places, hand_of, plain_words, plain_blocks, plain_me, Held, Holding, Laid, Knows, Grown, client, sight}
+use Rattle.growing_table.specs.Laid.{Rows, KitState, KitMe, IsAt, entry, places, hand_of, plain_words, plain_blocks, plain_me, Holding, Laid, Knows, Grown, client, sight}
 use Rattle.growing_table.specs.Told.{Recalls, Stays, on_own, on_block, on_count}
 use Rattle.growing_table.specs.declared.sight.Sight.{Sight}
 use Rattle.growing_table.proofs.Plain as facts
@@ -33,10 +33,6 @@ given_as {S} at None k j y e = absurd (none_some (k, j, y) e)
 given_as {S} at (Some h) k j y e = let i = some_same (at, h.1, h.2) (k, j, y) e in (h.0, ap Some (λ t. (h.0, (i t).1, (i t).2)), ap (λ (z : ℕ × ℕ × S). z.0) i)
 
 module _ {S V : Type 0} where
-  held_on : (v u : Sight V) (h : Option (Ptr × ℕ × S)) → ((k : ℕ) (p : Ptr) → get_elem? v.chart.places k ≡ some p → get_elem? u.chart.places k ≡ some p) → u.at ≡ v.at → u.cells ≡ v.cells → Held v h → Held u h
-  held_on v u None recall same size ok = tt
-  held_on v u (Some h) recall same size ok = (ap (λ (x : ℕ). get_elem? u.chart.places (suc (suc x))) same ∙ recall (suc (suc v.at)) h.0 ok.0, subst (λ (x : ℕ). h.1 < x) (sym size) ok.1)
-
   module _ (wide n : ℕ) (root top : Ptr) (holds : State S V → Type 0) where
     abbrev G : KitState S V → Type 0
     G = Grown wide n root top holds
@@ -63,7 +59,7 @@ module _ {S V : Type 0} where
         where
           by_act : (w : V) (a : Act S) → plain.Valid (plain_blocks n rows') (plain_me m) a → holds (state (plain_words rows') (blocks_after (plain_blocks n rows') a) (set (map client s.views) id w)) → then (plain.me_after (plain_me m) w a) → KitGoes then
           by_act w keeps valid good told = let u : Sight V = renewed rows' v w v.at in
-              (u, cells.keeps, tt, grown_on s g rows' same id v here w v.at good, (((recalls rows' same, refl, refl, held_on v u m.hand (recalls rows' same) refl refl holding), refl, refl, refl), charts rows' same, told))
+              (u, cells.keeps, tt, grown_on s g rows' same id v here w v.at good, (((recalls rows' same, refl, refl, λ h e. (recalls rows' same (suc (suc v.at)) h.0 (holding h e).0, (holding h e).1)), refl, refl, refl), charts rows' same, told))
           by_act w (takes k j y) valid good told = let t = facts.home_there n rows' k j y valid in let rows″ : Rows S = with_home rows' (suc (suc k)) j None in
               let after : Same rows' rows″ = same_home rows' (suc (suc k)) j None t.0 in let both = same_then same after in
               let u : Sight V = renewed rows″ v w k in
@@ -71,9 +67,9 @@ module _ {S V : Type 0} where
               let lies = at_places rows″ (suc (suc k)) there ∙ ap some (after.place (suc (suc k))).0 in
               (u, cells.takes (suc (suc k)) j y, (t.0, t.1),
                 grown_on s g rows″ both id v here w k (subst (λ (b : List ℕ × List (BlockState S)). holds (state b.0 b.1 (set (map client s.views) id w))) (λ i. (sym (facts.home_words n rows' k j None) i, sym (facts.home_set n rows' k j None) i)) good),
-                (((recalls rows″ both, refl, refl, (lies, subst (λ (x : ℕ). j < x) (sym sized) t.2)), refl, refl, refl), charts rows″ both, told))
+                (((recalls rows″ both, refl, refl, λ h e. let i = some_same ((row rows' (suc (suc k))).at, j, y) h e in (lies ∙ ap (λ (z : Ptr × ℕ × S). some z.0) i, subst (λ (z : Ptr × ℕ × S). z.1 < v.cells) i (subst (λ (x : ℕ). j < x) (sym sized) t.2))), refl, refl, refl), charts rows″ both, told))
           by_act w (gives k j y) valid good told = let t = given_as v.at m.hand k j y valid in let rows″ : Rows S = with_home rows' (suc (suc k)) j (Some y) in
-              let held : Held v (Some (t.0, j, y)) = subst (Held v) t.1 holding in
+              let held = holding (t.0, j, y) t.1 in
               let charted = (g.knows id v here).charted (suc (suc v.at)) t.0 held.0 in
               let near : suc (suc k) < length rows' = subst (λ (x : ℕ). suc (suc x) < length rows') t.2 (subst (λ (x : ℕ). suc (suc v.at) < x) (sym same.count) charted.0) in
               let placed : (row rows' (suc (suc k))).at ≡ t.0 = subst (λ (x : ℕ). (row rows' (suc (suc x))).at ≡ t.0) t.2 ((same.place (suc (suc v.at))).0 ∙ charted.1) in
@@ -82,7 +78,7 @@ module _ {S V : Type 0} where
               let u : Sight V = renewed rows″ v w v.at in
               (u, cells.gives (suc (suc k)) j y, (fits, t.1 ∙ ap Some (λ i. (sym placed i, j, y))),
                 grown_on s g rows″ both id v here w v.at (subst (λ (b : List ℕ × List (BlockState S)). holds (state b.0 b.1 (set (map client s.views) id w))) (λ i. (sym (facts.home_words n rows' k j (Some y)) i, sym (facts.home_set n rows' k j (Some y)) i)) good),
-                (((recalls rows″ both, refl, refl, tt), refl, refl, refl), charts rows″ both, told))
+                (((recalls rows″ both, refl, refl, λ h e. absurd (none_some h e)), refl, refl, refl), charts rows″ both, told))
 
     abbrev Fully : KitState S V → KitMe S V → (Me S V → Type 0) → KitMe S V → Type 0
     Fully s m then r = Stays m r × (length r.view.chart.places ≡ length s.rows) × then (plain_me r)
@@ -122,3 +118,9 @@ module _ {S V : Type 0} where
             let r″ = subst (λ (z : List ℕ × List (BlockState S)). plain.Goes holds z.0 z.1 (map client s.views) id (plain_me m) (then x))
               (λ j. (sym (facts.block_words n rows k i (f x)) j, sym (facts.block_set n rows k i (f x)) j)) r' in
             less s rows' id m (Fully s m (then x)) (Told x) (λ m' t. (t.0, t.2)) (goes s g rows' same id m here sized holding (then x) r″))
+
+      pub allows_block : (k i : ℕ) (p : Ptr) → i < n → get_elem? m.view.chart.places (suc (suc k)) ≡ some p → plain.Allows holds id (plain_me m) (within k i) f then → cells.Allows G id m (k + 2) p i f Told
+      allows_block k i p inside lies law = subst (λ (x : ℕ). cells.Allows G id m x p i f Told) (let e : suc (suc k) ≡ k + 2 = omega arith in e) (at_block k i p inside lies law)
+
+      pub allows_root : (i : ℕ) (p : Ptr) → root ≡ p → i < wide → plain.Allows holds id (plain_me m) (own i) f then → cells.Allows G id m 0 p i f Told
+      allows_root i p is inside law = subst (λ (x : Ptr). cells.Allows G id m 0 x i f Told) is (allows_own i inside law)

@@ -4,11 +4,16 @@
 use Rattle.std.specs.Prelude.{◌≡◌, ℕ, zero, suc, ◌+◌, ◌^◌, ◌<◌, ◌≤◌, Bool, true, false, List, [], ◌∷◌, map, length, Option, Some, None}
 use mathlib.Core.Option.{some}
 use lib.ListN.{get_elem?}
-use denote.RawPtr.{Ptr, InBlock}
+use mathlib.Core.Path.{refl}
+use denote.RawPtr.{Ptr, InBlock, block_ptr, null_ptr}
 use Rattle.atomic_blocks.specs.Cells as cells
 use Rattle.growing_table.specs.State.{BlockState, State, Me, me, block_of, state}
 use Rattle.growing_table.specs.declared.sight.Known.{Known}
 use Rattle.growing_table.specs.declared.sight.Sight.{Sight}
+
+pub in_block_prop : (p : Ptr) → IsProp (InBlock p)
+in_block_prop (block_ptr b o) x y = refl
+in_block_prop null_ptr x y = absurd x
 
 abbrev pub known : List Ptr → Known
 known ps = record { marker = record {}; places = ps }
@@ -115,12 +120,8 @@ module _ {S V : Type 0} where
   plain_me m = me m.view.client (hand_of m.view.at m.hand)
 
   -- the slot that is out is of a block that the seat knows
-  abbrev pub Held : Sight V → Option (Ptr × ℕ × S) → Type 0
-  Held v None = Unit {0}
-  Held v (Some h) = (get_elem? v.chart.places (suc (suc v.at)) ≡ some h.0) × (h.1 < v.cells)
-
   abbrev pub Holding : KitMe S V → Type 0
-  Holding m = Held m.view m.hand
+  Holding m = (h : Ptr × ℕ × S) → m.hand ≡ Some h → (get_elem? m.view.chart.places (suc (suc m.view.at)) ≡ some h.0) × (h.1 < m.view.cells)
 
   pub record Grown (wide n : ℕ) (root top : Ptr) (holds : State S V → Type 0) (s : KitState S V) : Type 0 where
     pub laid : Laid wide n root top s.rows

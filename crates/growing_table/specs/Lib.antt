@@ -1,3 +1,4 @@
 pub mod State
 pub mod Laid
 pub mod Told
+pub mod Seats

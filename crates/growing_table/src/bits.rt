@@ -1,5 +1,5 @@
 // Two steps on a word of a row that the kit's rows lack.
-ghost use Rattle.std.specs.Prelude.{◌≡◌, ◌^◌, ◌<◌, bit_or};
+ghost use Rattle.std.specs.Prelude.{◌≡◌, ◌^◌, ◌<◌, bit_and, bit_or};
 ghost use denote.RawPtr.{InBlock};
 ghost use Rattle.atomic_blocks.specs.Cells.{step, Allows};
 
@@ -22,4 +22,19 @@ pub(crate) fn fetch_or<S, V, K, P: RowRule<S, V, K>, A: Allocator, M: Play<S, V>
     ensures { (seat.new.rows ≡ seat.old.rows) × (seat.new.heap ≡ seat.old.heap) × (seat.new.id ≡ seat.old.id) × M.then (step row link.ptr index k 0) seat.old.me result seat.new.me }
 {
     unsafe { raw::fetch_or::<Brand>(link.ptr.add(index) as *const u64, k, SeqCst) }
+}
+
+/// Keeps the bits of `k` in that word and clears all others.
+pub(crate) fn fetch_and<S, V, K, P: RowRule<S, V, K>, A: Allocator, M: Play<S, V>>(
+    rows: &Rows<S, V, K, P, A>,
+    seat: &mut Seat<S, V, A>,
+    row: u64,
+    link: Link<S>,
+    index: usize,
+    k: u64,
+) -> u64
+    requires { (seat.old.rows ≡ rows.now.id) × (seat.old.heap ≡ rows.now.heap) × InBlock link.ptr × (index < 2 ^ 40) × Allows (P.holds rows.now.key) seat.old.id seat.old.me row link.ptr index (λ n. bit_and n k) (M.then (step row link.ptr index k 0) seat.old.me) }
+    ensures { (seat.new.rows ≡ seat.old.rows) × (seat.new.heap ≡ seat.old.heap) × (seat.new.id ≡ seat.old.id) × M.then (step row link.ptr index k 0) seat.old.me result seat.new.me }
+{
+    unsafe { raw::fetch_and::<Brand>(link.ptr.add(index) as *const u64, k, SeqCst) }
 }

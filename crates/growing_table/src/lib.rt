@@ -2,4 +2,15 @@
 #![tactic(auto)]
 
 mod bits;
+mod blocks;
+mod plays;
+mod rule;
+mod seat;
 mod sight;
+mod table;
+mod words;
+
+pub use atomic_table::{Join, Split};
+pub use rule::{GrowingRule, Play};
+pub use seat::{GrowingSeat, Place};
+pub use table::GrowingTable;

@@ -1,0 +1,24 @@
+//! The table.
+ghost use Rattle.std.specs.Prelude.{◌≡◌, ◌^◌, ◌<◌, ◌≤◌};
+ghost use denote.RawPtr.{InBlock};
+ghost use Rattle.growing_table.specs.Laid.{in_block_prop};
+
+use crate::plays::{Grows, Shape};
+use crate::rule::GrowingRule;
+use crate::sight::Sight;
+use atomic_blocks::rows::{Link, Rows};
+use std::alloc::Allocator;
+
+/// Words of its own, and blocks of words and slots, under one rule.
+pub struct GrowingTable<T, V, K, P: GrowingRule<Option<T>, V, K>, A: Allocator> {
+    pub(crate) rows: Rows<Option<T>, Sight<V>, Shape<Option<T>, K>, Grows<P>, A>,
+    pub(crate) words: usize,
+    pub(crate) cells: usize,
+    pub(crate) root: Link<Option<T>>,
+    pub(crate) top: Link<Option<T>>,
+    pub(crate) alloc: A,
+    ghost keyed: { (rows.key.words ≡ words) × (rows.key.cells ≡ cells) × (rows.key.root.ptr ≡ root.ptr) × (rows.key.top.ptr ≡ top.ptr) × (rows.heap ≡ alloc) },
+    ghost rooted: { InBlock root.ptr } by { in_block_prop root.ptr },
+    ghost topped: { InBlock top.ptr } by { in_block_prop top.ptr },
+    ghost small: { (words ≤ 2 ^ 39) × (0 < cells) × (cells ≤ 2 ^ 39) },
+}
