@@ -3,3 +3,4 @@ mod Stays
 mod Powers
 mod Steps
 mod Asks
+mod Links

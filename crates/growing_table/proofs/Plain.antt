@@ -2,8 +2,9 @@
 use Rattle.std.proofs.Common.{◌≡◌, ◌≢◌, ℕ, zero, suc, ◌+◌, ◌<◌, ◌≤◌, is_some, true, false, true≢false, List, [], ◌∷◌, ◌++◌, map, length, get_or, set, refl, sym, ap, ◌∙◌, subst, arith}
 use Rattle.std.specs.Prelude.{Option, Some, None}
 use lib.ListN.{get_or-map}
+use lib.Seq.{set-get_or, map-set_same}
 use denote.RawPtr.{Ptr}
-use Rattle.atomic_blocks.specs.Cells.{Cell, Row, cell, cell_in, row, no_row, row_at, cell_of, with_cell, with_word, with_home, link_of, word_of, home_of}
+use Rattle.atomic_blocks.specs.Cells.{Cell, Row, cell, cell_in, row, no_row, row_at, cell_of, with_cell, with_word, with_home, with_link, link_of, word_of, home_of}
 use Rattle.growing_table.specs.State.{BlockState, block_of, block, no_block}
 use Rattle.growing_table.specs.State as state
 use Rattle.growing_table.specs.Laid.{front, Rows, word, home, plain_block, plain_words, plain_blocks}
@@ -148,3 +149,22 @@ module _ {S : Type 0} where
 
     pub block_long : i < n → i < length r.cells → i < length b.words
     block_long h near = subst (λ (y : BlockState S). i < length y.words) (sym (block_at n rows k)) (let e = lib.ListN.length-map (front r.cells n) word in let t = front_long r.cells n i h near in omega arith)
+
+  -- ---- a cell that differs in its link alone
+  link_words : (rows : Rows S) (k i : ℕ) (c : Cell S) → c.word ≡ word_of rows k i → plain_words (with_cell rows k i c) ≡ plain_words rows
+  link_words [] zero i c e = refl
+  link_words (x ∷ rows) zero i c e = map-set_same word x.cells i c no_cell e
+  link_words rows (suc k) i c e = words_stay rows k (row_at (row rows (suc k)).at (set (row rows (suc k)).cells i c))
+
+  link_blocks : (n : ℕ) (rows : Rows S) (k i : ℕ) (c : Cell S) → c.word ≡ word_of rows k i → c.home ≡ home_of rows k i → plain_blocks n (with_cell rows k i c) ≡ plain_blocks n rows
+  link_blocks n rows zero i c e e' = blocks_stay n rows (row_at (row rows 0).at (set (row rows 0).cells i c))
+  link_blocks n rows (suc zero) i c e e' = blocks_stay' n rows (row_at (row rows 1).at (set (row rows 1).cells i c))
+  link_blocks n rows (suc (suc k)) i c e e' = let r : Row S = row rows (suc (suc k)) in
+      let same : plain_block n (row_at r.at (set r.cells i c)) ≡ plain_block n r = set_cell n rows k i c ∙ (λ t. block_of ((ap (set (map word (front r.cells n)) i) e ∙ again word r.cells n i no_cell) t) ((ap (set (map home (front r.cells n)) i) e' ∙ again home r.cells n i no_cell) t)) in
+      blocks_set n rows k (row_at r.at (set r.cells i c)) ∙ (ap (set (plain_blocks n rows) k) (same ∙ sym (block_at n rows k)) ∙ set-get_or (plain_blocks n rows) k no_block)
+
+  pub linked_words : (rows : Rows S) (k i : ℕ) (q : Ptr) → plain_words (with_link rows k i q) ≡ plain_words rows
+  linked_words rows k i q = link_words rows k i (cell (word_of rows k i) q (home_of rows k i)) refl
+
+  pub linked_blocks : (n : ℕ) (rows : Rows S) (k i : ℕ) (q : Ptr) → plain_blocks n (with_link rows k i q) ≡ plain_blocks n rows
+  linked_blocks n rows k i q = link_blocks n rows k i (cell (word_of rows k i) q (home_of rows k i)) refl refl

@@ -13,7 +13,7 @@ use Rattle.growing_table.specs.declared.sight.Sight.{Sight}
 use Rattle.growing_table.proofs.Plain.{map_set}
 
 -- a seat that makes blocks did so before
-was : {V : Type 0} (views : List (Sight V)) (id : ℕ) (v u : Sight V) → get_elem? views id ≡ some v → u.maker ≡ v.maker → (j : ℕ) (x : Sight V) → get_elem? (set views id u) j ≡ some x
+pub was : {V : Type 0} (views : List (Sight V)) (id : ℕ) (v u : Sight V) → get_elem? views id ≡ some v → u.maker ≡ v.maker → (j : ℕ) (x : Sight V) → get_elem? (set views id u) j ≡ some x
     → (y : Sight V) × (get_elem? views j ≡ some y) × (y.maker ≡ x.maker)
 was {V} views id v u at same j x e = ⊎_elim
     (λ (t : (j ≡ id) × (u ≡ x)). (v, ap (get_elem? views) t.0 ∙ at, sym same ∙ ap (λ (y : Sight V). y.maker) t.1))

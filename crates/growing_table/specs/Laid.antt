@@ -47,6 +47,15 @@ abbrev pub entry : ℕ → ℕ → ℕ → ℕ × ℕ
 entry n d zero = (1, d)
 entry n d (suc j) = (2 ^ d + 1, n + suc j)
 
+-- that cell lies in the row at p, as far as it is known where the rows lie
+abbrev pub Found : Ptr → List Ptr → ℕ → ℕ → Ptr → Type 0
+Found top chart d zero p = (p ≡ top) × (d < 64)
+Found top chart d (suc j) p = get_elem? chart (2 ^ d + 1) ≡ some p
+
+-- the row at p has the link to the block b in its cell i
+abbrev pub Reaches : ℕ → Ptr → List Ptr → ℕ → ℕ → Ptr → ℕ → Type 0
+Reaches n top chart b k p i = (d : ℕ) × (j : ℕ) × IsAt b d j × (k ≡ (entry n d j).0) × (i ≡ (entry n d j).1) × Found top chart d j p
+
 -- how many cells the block has for such links
 abbrev pub more_cells : ℕ → ℕ → ℕ
 more_cells d zero = 2 ^ d
