@@ -4,3 +4,4 @@ mod Powers
 mod Steps
 mod Asks
 mod Links
+mod Making
