@@ -5,3 +5,4 @@ mod Steps
 mod Asks
 mod Links
 mod Making
+mod Seating

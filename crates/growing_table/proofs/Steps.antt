@@ -124,3 +124,19 @@ module _ {S V : Type 0} where
 
       pub allows_root : (i : ℕ) (p : Ptr) → root ≡ p → i < wide → plain.Allows holds id (plain_me m) (own i) f then → cells.Allows G id m 0 p i f Told
       allows_root i p is inside law = subst (λ (x : Ptr). cells.Allows G id m 0 x i f Told) is (allows_own i inside law)
+
+    -- THE NUMBER OF BLOCKS IS READ
+    pub allows_count : (id : ℕ) (m : KitMe S V) → m.view.cells ≡ n → Holding m → (then : ℕ → Me S V → Type 0) → plain.Allows holds id (plain_me m) count (λ (r : ℕ). r) then
+        → cells.Allows G id m 1 top 0 (λ (r : ℕ). r) (λ (r : ℕ) (m' : KitMe S V). Stays m m' × (r + 2 ≡ length m'.view.chart.places) × (r + 2 ≤ 2 ^ 39) × (m.view.maker ≡ true → r ≡ m.view.made) × then r (plain_me m'))
+    allows_count id m sized holding then law s g here = let rows : Rows S = s.rows in let ws : List ℕ = plain_words rows in let bs : List (BlockState S) = plain_blocks n rows in let x : ℕ = word_of rows 1 0 in
+        let near : 0 < length (row rows 1).cells = (let e = g.laid.top_long in omega arith) in
+        let counted : x + 2 ≡ length rows = g.laid.counted in let few : length rows ≤ 549755813888 = g.laid.few in
+        let many : length bs ≡ x = (let e : length bs + 2 ≡ length rows = facts.blocks_count n rows g.laid.tall in omega arith) in
+        let r = law (state ws bs (map client s.views)) g.agreed (at_map client s.views id m.view here) tt (let h : length bs < 18446744073709551616 = omega arith in h) in
+        let r' = subst (λ (y : ℕ). plain.Goes holds ws bs (map client s.views) id (plain_me m) (then y)) many r in
+        let made : m.view.maker ≡ true → x ≡ m.view.made = (λ e. let a = (g.knows id m.view here).whole e in omega arith) in
+        ((g.laid.top_at, near), λ small. subst (λ (y : Rows S). cells.Goes G s y id m (λ (m' : KitMe S V). Stays m m' × (x + 2 ≡ length m'.view.chart.places) × (x + 2 ≤ 2 ^ 39) × (m.view.maker ≡ true → x ≡ m.view.made) × then x (plain_me m')))
+            (sym (cell_again rows 1 0))
+            (less s rows id m (Fully s m (then x)) (λ (m' : KitMe S V). Stays m m' × (x + 2 ≡ length m'.view.chart.places) × (x + 2 ≤ 2 ^ 39) × (m.view.maker ≡ true → x ≡ m.view.made) × then x (plain_me m'))
+            (λ m' t. (t.0, (let e : length m'.view.chart.places ≡ length rows = t.1 in omega arith), omega arith, made, t.2))
+            (goes s g rows (same_all rows) id m here sized holding (then x) r')))
