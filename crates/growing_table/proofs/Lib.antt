@@ -4,5 +4,6 @@ mod Powers
 mod Steps
 mod Asks
 mod Links
-mod Making
+mod NewBlock
 mod Seating
+mod Entries

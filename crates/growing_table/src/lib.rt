@@ -3,6 +3,8 @@
 
 mod bits;
 mod blocks;
+mod fresh;
+mod making;
 mod plays;
 mod rule;
 mod seat;

@@ -20,5 +20,5 @@ pub struct GrowingTable<T, V, K, P: GrowingRule<Option<T>, V, K>, A: Allocator> 
     ghost keyed: { (rows.key.words ≡ words) × (rows.key.cells ≡ cells) × (rows.key.root.ptr ≡ root.ptr) × (rows.key.top.ptr ≡ top.ptr) × (rows.heap ≡ alloc) },
     ghost rooted: { InBlock root.ptr } by { in_block_prop root.ptr },
     ghost topped: { InBlock top.ptr } by { in_block_prop top.ptr },
-    ghost small: { (words ≤ 2 ^ 39) × (0 < cells) × (cells ≤ 2 ^ 39) },
+    ghost small: { (words ≤ 2 ^ 39) × (0 < words) × (cells ≤ 2 ^ 39) × (0 < cells) },
 }
