@@ -4,6 +4,7 @@ use Rattle.std.specs.Prelude.{Option, Some, None}
 use mathlib.Core.Option.{some}
 use lib.ListN.{get_elem?}
 use denote.RawPtr.{Ptr, InBlock}
+use Rattle.atomic_table.proofs.Lists.{set_again}
 use Rattle.atomic_blocks.specs.Cells as cells
 use Rattle.atomic_blocks.specs.Cells.{Row, Cell, row_at, AllHome}
 use Rattle.atomic_blocks.specs.declared.rows.shared.Seat.{Seat}
@@ -60,6 +61,10 @@ module _ {S : Type 0} where
 pub home_zeros : {S : Type 0} (n : ℕ) (c : Cell S) (y : S) → c.home ≡ Some y → AllHome (replicate n c)
 home_zeros zero c y e = tt
 home_zeros (suc n) c y e = ((y, e), home_zeros n c y e)
+
+-- a step at which the client does nothing
+pub still : {S V : Type 0} (holds : State S V → Type 0) (id : ℕ) (m : Me S V) → Allows holds id m count (λ (r : ℕ). r) (λ (_ : ℕ) (m' : Me S V). m' ≡ m)
+still {S} {V} holds id m s good here has small = (m.view, plain.keeps, tt, subst (λ (vs : List V). holds (plain.state s.words s.blocks vs)) (sym (set_again s.views id m.view here)) good, refl)
 
 module _ {T V K P A : Type 0} (holds : State (Option T) V → Type 0) (t : GrowingTable T V K P A) (s : Seat (Option T) (Sight V) A) (sits : (s.rows ≡ t.rows.id) × (s.heap ≡ t.rows.heap) × (s.me.view.cells ≡ t.cells)) where
   abbrev G : cells.State (Option T) (Sight V) → Type 0
