@@ -7,3 +7,4 @@ mod Links
 mod NewBlock
 mod Seating
 mod Entries
+mod SeatAsks

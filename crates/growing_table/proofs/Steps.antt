@@ -28,7 +28,7 @@ none_some : {A : Type 0} (y : A) → None ≡ Some y → ⊥
 none_some y e = true≢false (sym (ap is_some e))
 
 -- the slot that is out with the seat
-given_as : {S : Type 0} (at : ℕ) (h : Option (Ptr × ℕ × S)) (k j : ℕ) (y : S) → hand_of at h ≡ Some (k, j, y) → (p : Ptr) × (h ≡ Some (p, j, y)) × (at ≡ k)
+pub given_as : {S : Type 0} (at : ℕ) (h : Option (Ptr × ℕ × S)) (k j : ℕ) (y : S) → hand_of at h ≡ Some (k, j, y) → (p : Ptr) × (h ≡ Some (p, j, y)) × (at ≡ k)
 given_as {S} at None k j y e = absurd (none_some (k, j, y) e)
 given_as {S} at (Some h) k j y e = let i = some_same (at, h.1, h.2) (k, j, y) e in (h.0, ap Some (λ t. (h.0, (i t).1, (i t).2)), ap (λ (z : ℕ × ℕ × S). z.0) i)
 
