@@ -8,3 +8,4 @@ mod NewBlock
 mod Seating
 mod Entries
 mod SeatAsks
+mod Ends

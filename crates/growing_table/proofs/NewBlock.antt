@@ -19,7 +19,7 @@ use Rattle.growing_table.proofs.Plain as facts
 use Rattle.growing_table.proofs.Stays.{was, places_at, at_places}
 use Rattle.growing_table.proofs.Steps.{some_same}
 
-entry_before : (n b d j m : ℕ) → IsAt b d j → 1 < m → suc (suc b) ≤ m → (entry n d j).0 < m
+pub entry_before : (n b d j m : ℕ) → IsAt b d j → 1 < m → suc (suc b) ≤ m → (entry n d j).0 < m
 entry_before n b d zero m at tall h = tall
 entry_before n b d (suc j) m at tall h = let e = at.0 in let q : ℕ = 2 ^ d in let e' : q + suc j ≡ b + 1 = e in omega arith
 

@@ -57,12 +57,6 @@ module _ {T V K P A : Type 0} (holds : State (Option T) V → Type 0) (t : Growi
         subst (λ (p : Ptr). cells.Joins G 1 p s.seat.id v o.seat.id o.seat.me.view (joined v o.seat.me.view both) (over spent)) t.keyed.3
           (seating.joins t.rows.key.words t.rows.key.cells t.rows.key.root.ptr t.rows.key.top.ptr holds s.seat.id v o.seat.id o.seat.me.view both spent (sits.2 ∙ sym t.keyed.1) law))
 
--- the slot that is out with the seat is of the block that lies there
-pub slot_out : {T V A : Type 0} (s : GrowingSeat T V A) (p : Place T) (j : ℕ) (y : Option T) → Finds s p → (me_of s).hand ≡ Some (p.number, j, y) → (s.seat.me.hand ≡ Some (p.link.ptr, j, y)) × (s.seat.me.view.at ≡ p.number)
-slot_out {T} s p j y finds out = let g = given_as s.seat.me.view.at s.seat.me.hand p.number j y out in let lies = s.holding (g.0, j, y) g.1 in
-    let same : g.0 ≡ p.link.ptr = some-injective g.0 p.link.ptr (sym lies.0 ∙ (ap (λ (x : ℕ). get_elem? s.seat.me.view.chart.places (suc (suc x))) g.2 ∙ finds)) in
-    (subst (λ (x : Ptr). s.seat.me.hand ≡ Some (x, j, y)) same g.1, g.2)
-
 -- ---- the first rows
 pub home_words : {S : Type 0} (ws : List ℕ) (p : Ptr) (y : S) → AllHome (map (λ (x : ℕ). cells.cell x p (Some y)) ws)
 home_words [] p y = tt

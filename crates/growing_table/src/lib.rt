@@ -3,6 +3,7 @@
 
 mod bits;
 mod blocks;
+mod closing;
 mod fresh;
 mod making;
 mod open;
