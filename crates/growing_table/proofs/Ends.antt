@@ -98,7 +98,7 @@ module _ {S V : Type 0} (wide n : ℕ) (root top : Ptr) (holds : State S V → T
   out_of_range (x ∷ l) zero h = absurd (omega arith)
   out_of_range (x ∷ l) (suc k) h = out_of_range l k (omega arith)
 
-  pub ending : Final (Grown {S} {V} wide n root top holds) rows → Ending wide n root top (word_of rows 1 0) rows × (0 < length (row rows 1).cells)
+  pub ending : Final (Grown wide n root top holds) rows → Ending wide n root top (word_of rows 1 0) rows × (0 < length (row rows 1).cells)
   ending f = let s : KitState S V = f.0 in let g = f.1 in let l = g.laid in let b = rows_back s.rows rows f.2 in let long = back_long s.rows rows f.2 in
       let at : (k : ℕ) → (row rows k).at ≡ (row s.rows k).at = (λ k. (b k).0) in
       let c : (k : ℕ) → (length (row rows k).cells ≡ length (row s.rows k).cells) × AllHome (row rows k).cells × ((i : ℕ) → ((cell_in (row rows k).cells i).word ≡ (cell_in (row s.rows k).cells i).word) × ((cell_in (row rows k).cells i).link ≡ (cell_in (row s.rows k).cells i).link))
@@ -118,3 +118,32 @@ module _ {S V : Type 0} (wide n : ℕ) (root top : Ptr) (holds : State S V → T
             ((subst InBlock (sym (at (suc (suc k)))) t.0, (c (suc (suc k))).0 ∙ t.1, ((c (entry n d j).0).2 (entry n d j).1).1 ∙ (t.2 ∙ sym (at (suc (suc k))))), (c (suc (suc k))).1);
         gone = λ k h. out_of_range rows (suc (suc k)) (let x : ℕ = word_of rows 1 0 in let q : x + 2 ≡ length rows = count in let h' : x ≤ k = h in let z : length rows ≤ suc (suc k) = omega arith in z);
       }, (let z : length (row rows 1).cells ≡ 64 = (c 1).0 ∙ l.top_long in omega arith))
+
+-- ---- the rows of words and links are freed last
+module _ {S : Type 0} (wide n : ℕ) (root top : Ptr) (rows : Rows S) (e : Ending wide n root top 0 rows) where
+  pub top_there : Lies rows 1 top 0
+  top_there = (e.top_at, subst (λ (x : ℕ). 0 < x) (sym e.top_long) (let z : 0 < 64 = omega arith in z))
+
+  module _ (rows' : Rows S) (freed : rows' ≡ set rows 1 no_row) where
+    root_same : row rows' 0 ≡ row rows 0
+    root_same = ap (λ (x : Rows S). row x 0) freed ∙ get_or-set_other rows 1 0 no_row no_row (λ h. absurd (let z : 0 ≡ 1 = h in omega arith))
+
+    pub root_there : 0 < wide → Lies rows' 0 root 0
+    root_there some = (ap (λ (x : Row S). x.at) root_same ∙ e.root_at, subst (λ (x : Row S). 0 < length x.cells) (sym root_same) (subst (λ (x : ℕ). 0 < x) (sym e.root_long) some))
+
+    pub root_cells : length (row rows' 0).cells ≡ wide
+    root_cells = ap (λ (x : Row S). length x.cells) root_same ∙ e.root_long
+
+    pub root_homes : AllHome (row rows' 0).cells
+    root_homes = subst (λ (x : Row S). AllHome x.cells) (sym root_same) e.root_home
+
+    emptied : (l : Rows S) (k : ℕ) → (row (set l k no_row) k).cells ≡ []
+    emptied [] k = refl
+    emptied (x ∷ l) zero = refl
+    emptied (x ∷ l) (suc k) = emptied l k
+
+    pub all_gone : (rows″ : Rows S) → rows″ ≡ set rows' 0 no_row → (k : ℕ) → (row rows″ k).cells ≡ []
+    all_gone rows″ freed' zero = ap (λ (x : Rows S). (row x 0).cells) freed' ∙ emptied rows' 0
+    all_gone rows″ freed' (suc zero) = ap (λ (x : Rows S). (row x 1).cells) freed' ∙ (ap (λ (x : Row S). x.cells) (get_or-set_other rows' 0 1 no_row no_row (λ h. absurd (let z : 1 ≡ 0 = h in omega arith))) ∙ (ap (λ (x : Rows S). (row x 1).cells) freed ∙ emptied rows 1))
+    all_gone rows″ freed' (suc (suc k)) = ap (λ (x : Rows S). (row x (suc (suc k))).cells) freed' ∙ (ap (λ (x : Row S). x.cells) (get_or-set_other rows' 0 (suc (suc k)) no_row no_row (λ h. absurd (let z : suc (suc k) ≡ 0 = h in omega arith)))
+        ∙ (ap (λ (x : Rows S). (row x (suc (suc k))).cells) freed ∙ (ap (λ (x : Row S). x.cells) (get_or-set_other rows 1 (suc (suc k)) no_row no_row (λ h. absurd (let z : suc (suc k) ≡ 1 = h in omega arith))) ∙ e.gone k (omega arith))))

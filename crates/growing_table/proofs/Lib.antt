@@ -9,3 +9,4 @@ mod Seating
 mod Entries
 mod SeatAsks
 mod Ends
+mod TableEnds

@@ -16,8 +16,7 @@ fn last_place<T, A: Allocator>(
     top: Link<Option<T>>,
     number: u64,
 ) -> (Link<Option<T>>, usize)
-    ghost about: { ℕ × Ptr }
-    requires rows { Ending about.0 cells about.1 top.ptr (number + 1) closed.old.rows }
+    requires rows { (wide : ℕ) × (root : Ptr) × Ending wide cells root top.ptr (number + 1) closed.old.rows }
     requires place { InBlock top.ptr × (0 < cells) }
     ensures same { closed.new ≡ closed.old }
     ensures place { IsLast closed.old.rows number result.0.ptr result.1 }
@@ -41,10 +40,9 @@ pub(crate) fn free_last<T: Drop, A: Allocator>(
     top: Link<Option<T>>,
     number: u64,
 )
-    ghost about: { ℕ × Ptr }
-    requires rows { Ending about.0 cells about.1 top.ptr (number + 1) closed.old.rows }
+    requires rows { (wide : ℕ) × (root : Ptr) × Ending wide cells root top.ptr (number + 1) closed.old.rows }
     requires heap { (closed.old.heap ≡ alloc.now) × InBlock top.ptr × (0 < cells) }
-    ensures rows { Ending about.0 cells about.1 top.ptr number closed.new.rows }
+    ensures rows { (wide : ℕ) (root : Ptr) → Ending wide cells root top.ptr (number + 1) closed.old.rows → Ending wide cells root top.ptr number closed.new.rows }
     ensures heap { closed.new.heap ≡ closed.old.heap }
 {
     let (link, len) = last_place(closed, cells, top, number);

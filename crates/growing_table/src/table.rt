@@ -48,7 +48,7 @@ impl<T: Drop, V, K, P: GrowingRule<Option<T>, V, K>, A: Allocator> Drop
         } = self;
         let mut closed = rows.close();
         let mut number = closed.word(TOP, top, COUNT);
-        'blocks: while number > 0 {
+        'rest: while number > 0 {
             number -= 1;
             free_last(&mut closed, &alloc, cells, top, number);
         }
