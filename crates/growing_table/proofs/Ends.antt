@@ -1,17 +1,13 @@
 -- The rows at the end, as blocks are freed.
-use Rattle.std.proofs.Common.{◌≡◌, ◌≢◌, ℕ, zero, suc, ◌+◌, ◌-◌, ◌*◌, ◌<◌, ◌≤◌, ◌^◌, List, [], ◌∷◌, length, set, refl, sym, ap, ◌∙◌, subst, arith, pow_pos, length-set, get_or-set_same, get_or-set_other}
-use Rattle.std.specs.Prelude.{Option}
+use Rattle.std.proofs.Common.{◌≡◌, ◌≢◌, ℕ, zero, suc, ◌+◌, ◌-◌, ◌*◌, ◌<◌, ◌≤◌, ◌^◌, [], ◌∷◌, length, set, refl, sym, ap, ◌∙◌, subst, arith, pow_pos, get_or-set_other}
 use mathlib.Core.Logic.{dite}
 use native.Mathlib.Decide.{ℕ_discrete}
 use denote.RawPtr.{Ptr, InBlock}
-use Rattle.atomic_blocks.specs.Cells as cells
-use Rattle.atomic_blocks.specs.Cells.{Cell, Row, cell_in, row, no_row, link_of, word_of, Lies, AllHome, CellsBack, RowsBack, Final}
+use Rattle.atomic_blocks.specs.Cells.{Row, cell_in, row, no_row, link_of, word_of, Lies, AllHome, RowsBack, Final}
 use Rattle.atomic_blocks.proofs.Homes.{cells_back, rows_back}
 use Rattle.growing_table.specs.State.{State}
-use Rattle.growing_table.specs.Laid.{Rows, KitState, IsAt, entry, more_cells, Entered, Grown}
+use Rattle.growing_table.specs.Laid.{Rows, KitState, IsAt, entry, Entered, Grown}
 use Rattle.growing_table.specs.Ending.{Ending, IsLast}
-use Rattle.growing_table.specs.declared.sight.Sight.{Sight}
-use Rattle.growing_table.proofs.Plain.{in_range}
 use Rattle.growing_table.proofs.Links.{first_row, first_at}
 use Rattle.growing_table.proofs.NewBlock.{entry_before}
 
@@ -77,9 +73,14 @@ module _ {S : Type 0} (wide n : ℕ) (root top : Ptr) (number : ℕ) (rows : Row
       top_home = subst (λ (x : Row S). AllHome x.cells) (sym r₁) e.top_home;
       left = λ k d j h at. let t = e.left k d j (omega arith) at in let same : row rows' (suc (suc k)) ≡ row rows (suc (suc k)) = else_row (suc (suc k)) (λ z. omega arith) in
           let before : (entry n d j).0 < suc (suc k) = entry_before n k d j (suc (suc k)) at (omega arith) (let z : suc (suc k) ≤ suc (suc k) = omega arith in z) in
-          let same' : row rows' (entry n d j).0 ≡ row rows (entry n d j).0 = else_row (entry n d j).0 (λ z. omega arith) in
-          ((subst (λ (x : Row S). InBlock x.at) (sym same) t.0.0, ap (λ (x : Row S). length x.cells) same ∙ t.0.1,
-            ap (λ (x : Row S). (cell_in x.cells (entry n d j).1).link) same' ∙ (t.0.2 ∙ sym (ap (λ (x : Row S). x.at) same))), subst (λ (x : Row S). AllHome x.cells) (sym same) t.1);
+          let same' : row rows' (entry n d j).0 ≡ row rows (entry n d j).0 = else_row (entry n d j).0 (λ z. omega arith) in (
+            (
+              subst (λ (x : Row S). InBlock x.at) (sym same) t.0.0,
+              ap (λ (x : Row S). length x.cells) same ∙ t.0.1,
+              ap (λ (x : Row S). (cell_in x.cells (entry n d j).1).link) same' ∙ (t.0.2 ∙ sym (ap (λ (x : Row S). x.at) same)),
+            ),
+            subst (λ (x : Row S). AllHome x.cells) (sym same) t.1,
+          );
       gone = λ k h. dite (ℕ_discrete (suc (suc k)) (number + 2))
           (λ z. subst (λ (x : ℕ). (row rows' x).cells ≡ []) (sym z) that_row)
           (λ ne. ap (λ (x : Row S). x.cells) (else_row (suc (suc k)) ne) ∙ e.gone k (omega arith));
@@ -102,22 +103,24 @@ module _ {S V : Type 0} (wide n : ℕ) (root top : Ptr) (holds : State S V → T
   ending f = let s : KitState S V = f.0 in let g = f.1 in let l = g.laid in let b = rows_back s.rows rows f.2 in let long = back_long s.rows rows f.2 in
       let at : (k : ℕ) → (row rows k).at ≡ (row s.rows k).at = (λ k. (b k).0) in
       let c : (k : ℕ) → (length (row rows k).cells ≡ length (row s.rows k).cells) × AllHome (row rows k).cells × ((i : ℕ) → ((cell_in (row rows k).cells i).word ≡ (cell_in (row s.rows k).cells i).word) × ((cell_in (row rows k).cells i).link ≡ (cell_in (row s.rows k).cells i).link))
-          = (λ k. cells_back (row s.rows k).cells (row rows k).cells (b k).1) in
+      = (λ k. cells_back (row s.rows k).cells (row rows k).cells (b k).1) in
       let number : word_of rows 1 0 ≡ word_of s.rows 1 0 = ((c 1).2 0).0 in
-      let count : word_of rows 1 0 + 2 ≡ length rows = ap (λ (x : ℕ). x + 2) number ∙ (l.counted ∙ sym long) in
-      (record {
-        small = l.small.1;
-        few = let h : length s.rows ≤ 549755813888 = l.few in let h' : length rows ≡ length s.rows = long in (let x : ℕ = word_of rows 1 0 in let q : x + 2 ≡ length rows = count in let z : x ≤ 549755813888 = omega arith in z);
-        root_at = at 0 ∙ l.root_at;
-        root_long = (c 0).0 ∙ l.root_long;
-        root_home = (c 0).1;
-        top_at = at 1 ∙ l.top_at;
-        top_long = (c 1).0 ∙ l.top_long;
-        top_home = (c 1).1;
-        left = λ k d j h is. let t = l.entered k d j (let x : ℕ = word_of rows 1 0 in let q : x + 2 ≡ length rows = count in let h' : length rows ≡ length s.rows = long in let h″ : k < x = h in let z : suc (suc k) < length s.rows = omega arith in z) is in
-            ((subst InBlock (sym (at (suc (suc k)))) t.0, (c (suc (suc k))).0 ∙ t.1, ((c (entry n d j).0).2 (entry n d j).1).1 ∙ (t.2 ∙ sym (at (suc (suc k))))), (c (suc (suc k))).1);
-        gone = λ k h. out_of_range rows (suc (suc k)) (let x : ℕ = word_of rows 1 0 in let q : x + 2 ≡ length rows = count in let h' : x ≤ k = h in let z : length rows ≤ suc (suc k) = omega arith in z);
-      }, (let z : length (row rows 1).cells ≡ 64 = (c 1).0 ∙ l.top_long in omega arith))
+      let count : word_of rows 1 0 + 2 ≡ length rows = ap (λ (x : ℕ). x + 2) number ∙ (l.counted ∙ sym long) in (
+        record {
+          small = l.small.1;
+          few = let h : length s.rows ≤ 549755813888 = l.few in let h' : length rows ≡ length s.rows = long in (let x : ℕ = word_of rows 1 0 in let q : x + 2 ≡ length rows = count in let z : x ≤ 549755813888 = omega arith in z);
+          root_at = at 0 ∙ l.root_at;
+          root_long = (c 0).0 ∙ l.root_long;
+          root_home = (c 0).1;
+          top_at = at 1 ∙ l.top_at;
+          top_long = (c 1).0 ∙ l.top_long;
+          top_home = (c 1).1;
+          left = λ k d j h is. let t = l.entered k d j (let x : ℕ = word_of rows 1 0 in let q : x + 2 ≡ length rows = count in let h' : length rows ≡ length s.rows = long in let h″ : k < x = h in let z : suc (suc k) < length s.rows = omega arith in z) is in
+              ((subst InBlock (sym (at (suc (suc k)))) t.0, (c (suc (suc k))).0 ∙ t.1, ((c (entry n d j).0).2 (entry n d j).1).1 ∙ (t.2 ∙ sym (at (suc (suc k))))), (c (suc (suc k))).1);
+          gone = λ k h. out_of_range rows (suc (suc k)) (let x : ℕ = word_of rows 1 0 in let q : x + 2 ≡ length rows = count in let h' : x ≤ k = h in let z : length rows ≤ suc (suc k) = omega arith in z);
+        },
+        (let z : length (row rows 1).cells ≡ 64 = (c 1).0 ∙ l.top_long in omega arith),
+      )
 
 -- ---- the rows of words and links are freed last
 module _ {S : Type 0} (wide n : ℕ) (root top : Ptr) (rows : Rows S) (e : Ending wide n root top 0 rows) where

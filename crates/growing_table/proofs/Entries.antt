@@ -11,7 +11,7 @@ use Rattle.atomic_blocks.specs.declared.rows.shared.Seat.{Seat}
 use Rattle.atomic_blocks.specs.declared.rows.loose.Loose.{Loose}
 use Rattle.growing_table.specs.State as plain
 use Rattle.growing_table.specs.State.{State, Me, Step, step, count, Allows, Makes}
-use Rattle.growing_table.specs.Laid.{KitMe, IsAt, IsNext, Found, Reaches, front, word, home, more_cells, plain_block, plain_me, Holding, Grown}
+use Rattle.growing_table.specs.Laid.{KitMe, IsAt, IsNext, Reaches, front, word, home, more_cells, plain_block, plain_me, Holding, Grown}
 use Rattle.growing_table.specs.Told.{on_count, on_making, saw_link, wrote_link}
 use Rattle.growing_table.specs.declared.sight.Sight.{Sight}
 use Rattle.growing_table.specs.declared.table.GrowingTable.{GrowingTable}
@@ -86,9 +86,14 @@ module _ {T V K P A : Type 0} (holds : State (Option T) V → Type 0) (t : Growi
 
   pub count_asks : Holding s.me → (then : Step → Me (Option T) V → ℕ → Me (Option T) V → Type 0) → Allows holds s.id (plain_me s.me) count (λ (r : ℕ). r) (then (step count 0 0) (plain_me s.me))
       → (s.rows ≡ t.rows.id) × (s.heap ≡ t.rows.heap) × InBlock t.top.ptr × (0 < 2 ^ 40) × cells.Allows G s.id s.me 1 t.top.ptr 0 (λ (r : ℕ). r) (on_count then (cells.step 1 t.top.ptr 0 0 0) s.me)
-  count_asks holding then law = (sits.0, sits.1, t.topped, omega arith,
-      subst (λ (p : Ptr). cells.Allows G s.id s.me 1 p 0 (λ (r : ℕ). r) (on_count then (cells.step 1 p 0 0 0) s.me)) t.keyed.3
-        (allows_count t.rows.key.words t.rows.key.cells t.rows.key.root.ptr t.rows.key.top.ptr holds s.id s.me sized holding (then (step count 0 0) (plain_me s.me)) law))
+  count_asks holding then law = (
+    sits.0,
+    sits.1,
+    t.topped,
+    omega arith,
+    subst (λ (p : Ptr). cells.Allows G s.id s.me 1 p 0 (λ (r : ℕ). r) (on_count then (cells.step 1 p 0 0 0) s.me)) t.keyed.3
+        (allows_count t.rows.key.words t.rows.key.cells t.rows.key.root.ptr t.rows.key.top.ptr holds s.id s.me sized holding (then (step count 0 0) (plain_me s.me)) law),
+  )
 
   -- the seat carries the block
   module _ (holding : Holding s.me) (block : Loose (Option T) A) (number : ℕ) (next : (s.me.view.maker ≡ true) × (s.me.view.made ≡ number) × (number + 3 ≤ 2 ^ 39)) (placed : InBlock block.at) (planned : s.me.view.plan.places ≡ block.at ∷ [])
@@ -125,5 +130,10 @@ module _ {T V K P A : Type 0} (holds : State (Option T) V → Type 0) (t : Growi
     pub making_asks : (s' : Seat (Option T) (Sight V) A) → (s'.rows ≡ s.rows) × (s'.heap ≡ s.heap) × (s'.id ≡ s.id) × (s'.me ≡ carrying)
         → (s'.rows ≡ t.rows.id) × (s'.heap ≡ t.rows.heap) × InBlock t.top.ptr × (0 < 2 ^ 40)
         × cells.Allows G s'.id s'.me 1 t.top.ptr 0 (λ (_ : ℕ). number + 1) (λ (_ : ℕ). on_making then (cells.step 1 t.top.ptr 0 (number + 1) 0) s'.me (number + 1))
-    making_asks s' e = (e.0 ∙ sits.0, e.1 ∙ sits.1, t.topped, omega arith,
-        subst (λ (x : KitMe (Option T) V × ℕ × Ptr). cells.Allows G x.1 x.0 1 x.2 0 (λ (_ : ℕ). number + 1) (λ (_ : ℕ). on_making then (cells.step 1 x.2 0 (number + 1) 0) x.0 (number + 1))) (λ i. (sym e.3 i, sym e.2 i, t.keyed.3 i)) joined)
+    making_asks s' e = (
+      e.0 ∙ sits.0,
+      e.1 ∙ sits.1,
+      t.topped,
+      omega arith,
+      subst (λ (x : KitMe (Option T) V × ℕ × Ptr). cells.Allows G x.1 x.0 1 x.2 0 (λ (_ : ℕ). number + 1) (λ (_ : ℕ). on_making then (cells.step 1 x.2 0 (number + 1) 0) x.0 (number + 1))) (λ i. (sym e.3 i, sym e.2 i, t.keyed.3 i)) joined,
+    )

@@ -1,22 +1,17 @@
 -- What the rows ask where a seat comes, parts, joins or reads its slot, and where they begin, from what the table asks.
 use Rattle.std.proofs.Common.{◌≡◌, ℕ, zero, suc, ◌<◌, ◌≤◌, ◌^◌, ◌∙◌, is_some, true≢false, false, List, [], ◌∷◌, map, length, replicate, sym, refl, ap, subst, arith}
 use Rattle.std.specs.Prelude.{Option, Some, None}
-use mathlib.Core.Option.{some, some-injective}
-use lib.ListN.{get_elem?}
 use denote.RawPtr.{Ptr, InBlock}
 use Rattle.atomic_blocks.specs.Cells as cells
 use Rattle.atomic_blocks.specs.Cells.{Cell, Row, row_at, cell_in, AllHome}
-use Rattle.atomic_blocks.specs.declared.rows.shared.Seat.{Seat}
 use Rattle.growing_table.specs.State as plain
 use Rattle.growing_table.specs.State.{State, Me, Step, step, own, state, Enters, Splits, Joins}
-use Rattle.growing_table.specs.Laid.{KitMe, word, hand_of, plain_me, Grown, maker}
+use Rattle.growing_table.specs.Laid.{word, hand_of, Grown, maker}
 use Rattle.growing_table.specs.Told.{on_entry, with_client, new_seat, joined, over}
-use Rattle.growing_table.specs.Seats.{me_of, Sits, Finds}
+use Rattle.growing_table.specs.Seats.{me_of, Sits}
 use Rattle.growing_table.specs.declared.sight.Sight.{Sight}
 use Rattle.growing_table.specs.declared.seat.GrowingSeat.{GrowingSeat}
-use Rattle.growing_table.specs.declared.seat.Place.{Place}
 use Rattle.growing_table.specs.declared.table.GrowingTable.{GrowingTable}
-use Rattle.growing_table.proofs.Steps.{given_as}
 use Rattle.growing_table.proofs.Seating as seating
 
 some_none : {A : Type 0} (y : A) → Some y ≡ None → ⊥
@@ -32,9 +27,12 @@ module _ {T V K P A : Type 0} (holds : State (Option T) V → Type 0) (t : Growi
 
   pub entry_asks : (first : V) (i : ℕ) → i < t.words → (then : Step → Me (Option T) V → ℕ → Me (Option T) V → Type 0) → Enters holds i (λ (r : ℕ) (w : V). then (step (own i) 0 0) (plain.me first None) r (plain.me w None))
       → InBlock t.root.ptr × (i < 2 ^ 40) × cells.Enters G 0 t.root.ptr i (λ (r : ℕ) (u : Sight V). on_entry then (cells.step 0 t.root.ptr i 0 0) (cells.me (maker t.rows.key.cells [] 0 first) None None) r (cells.me u None None))
-  entry_asks first i inside then law = let small : t.words ≤ 549755813888 = t.small.0 in (t.rooted, omega arith,
-      subst (λ (p : Ptr). cells.Enters G 0 p i (λ (r : ℕ) (u : Sight V). on_entry then (cells.step 0 p i 0 0) (cells.me (maker t.rows.key.cells [] 0 first) None None) r (cells.me u None None))) t.keyed.2
-        (seating.enters t.rows.key.words t.rows.key.cells t.rows.key.root.ptr t.rows.key.top.ptr holds i first (λ (r : ℕ) (w : V). then (step (own i) 0 0) (plain.me first None) r (plain.me w None)) (subst (λ (x : ℕ). i < x) (sym t.keyed.0) inside) law))
+  entry_asks first i inside then law = let small : t.words ≤ 549755813888 = t.small.0 in (
+    t.rooted,
+    omega arith,
+    subst (λ (p : Ptr). cells.Enters G 0 p i (λ (r : ℕ) (u : Sight V). on_entry then (cells.step 0 p i 0 0) (cells.me (maker t.rows.key.cells [] 0 first) None None) r (cells.me u None None))) t.keyed.2
+        (seating.enters t.rows.key.words t.rows.key.cells t.rows.key.root.ptr t.rows.key.top.ptr holds i first (λ (r : ℕ) (w : V). then (step (own i) 0 0) (plain.me first None) r (plain.me w None)) (subst (λ (x : ℕ). i < x) (sym t.keyed.0) inside) law),
+  )
 
   module _ (s : GrowingSeat T V A) (sits : Sits t s) where
     abbrev v : Sight V
@@ -42,20 +40,38 @@ module _ {T V K P A : Type 0} (holds : State (Option T) V → Type 0) (t : Growi
 
     pub split_asks : (left right : V) → Splits holds s.seat.id v.client left right
         → (s.seat.rows ≡ t.rows.id) × (s.seat.heap ≡ t.rows.heap) × InBlock t.top.ptr × cells.Splits G 1 t.top.ptr s.seat.id v (with_client v v.maker left) (new_seat v false right)
-    split_asks left right law = (sits.0, sits.1, t.topped, subst (λ (p : Ptr). cells.Splits G 1 p s.seat.id v (with_client v v.maker left) (new_seat v false right)) t.keyed.3
-        (seating.parts t.rows.key.words t.rows.key.cells t.rows.key.root.ptr t.rows.key.top.ptr holds s.seat.id v left right law))
+    split_asks left right law = (
+      sits.0,
+      sits.1,
+      t.topped,
+      subst (λ (p : Ptr). cells.Splits G 1 p s.seat.id v (with_client v v.maker left) (new_seat v false right)) t.keyed.3
+          (seating.parts t.rows.key.words t.rows.key.cells t.rows.key.root.ptr t.rows.key.top.ptr holds s.seat.id v left right law),
+    )
 
     pub hand_asks : (left right : V) → Splits holds s.seat.id v.client left right
         → (s.seat.rows ≡ t.rows.id) × (s.seat.heap ≡ t.rows.heap) × InBlock t.top.ptr × cells.Splits G 1 t.top.ptr s.seat.id v (with_client v false left) (new_seat v v.maker right)
-    hand_asks left right law = (sits.0, sits.1, t.topped, subst (λ (p : Ptr). cells.Splits G 1 p s.seat.id v (with_client v false left) (new_seat v v.maker right)) t.keyed.3
-        (seating.hands t.rows.key.words t.rows.key.cells t.rows.key.root.ptr t.rows.key.top.ptr holds s.seat.id v left right law))
+    hand_asks left right law = (
+      sits.0,
+      sits.1,
+      t.topped,
+      subst (λ (p : Ptr). cells.Splits G 1 p s.seat.id v (with_client v false left) (new_seat v v.maker right)) t.keyed.3
+          (seating.hands t.rows.key.words t.rows.key.cells t.rows.key.root.ptr t.rows.key.top.ptr holds s.seat.id v left right law),
+    )
 
     pub join_asks : (o : GrowingSeat T V A) → Sits t o → (me_of o).hand ≡ None → (both spent : V) → Joins holds s.seat.id v.client o.seat.id o.seat.me.view.client both spent
         → (s.seat.rows ≡ t.rows.id) × (s.seat.heap ≡ t.rows.heap) × (o.seat.rows ≡ t.rows.id) × (o.seat.heap ≡ t.rows.heap) × (o.seat.me.hand ≡ None) × (o.seat.me.spare ≡ None) × InBlock t.top.ptr
         × cells.Joins G 1 t.top.ptr s.seat.id v o.seat.id o.seat.me.view (joined v o.seat.me.view both) (over spent)
-    join_asks o sits' free both spent law = (sits.0, sits.1, sits'.0, sits'.1, empty_hand o.seat.me.view.at o.seat.me.hand free, o.bare, t.topped,
-        subst (λ (p : Ptr). cells.Joins G 1 p s.seat.id v o.seat.id o.seat.me.view (joined v o.seat.me.view both) (over spent)) t.keyed.3
-          (seating.joins t.rows.key.words t.rows.key.cells t.rows.key.root.ptr t.rows.key.top.ptr holds s.seat.id v o.seat.id o.seat.me.view both spent (sits.2 ∙ sym t.keyed.1) law))
+    join_asks o sits' free both spent law = (
+      sits.0,
+      sits.1,
+      sits'.0,
+      sits'.1,
+      empty_hand o.seat.me.view.at o.seat.me.hand free,
+      o.bare,
+      t.topped,
+      subst (λ (p : Ptr). cells.Joins G 1 p s.seat.id v o.seat.id o.seat.me.view (joined v o.seat.me.view both) (over spent)) t.keyed.3
+          (seating.joins t.rows.key.words t.rows.key.cells t.rows.key.root.ptr t.rows.key.top.ptr holds s.seat.id v o.seat.id o.seat.me.view both spent (sits.2 ∙ sym t.keyed.1) law),
+    )
 
 -- ---- the first rows
 pub home_words : {S : Type 0} (ws : List ℕ) (p : Ptr) (y : S) → AllHome (map (λ (x : ℕ). cells.cell x p (Some y)) ws)

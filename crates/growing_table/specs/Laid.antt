@@ -76,7 +76,6 @@ hand_of n None = None
 hand_of n (Some h) = Some (n, h.1, h.2)
 
 module _ {S : Type 0} where
-
   abbrev pub word : cells.Cell S → ℕ
   word c = c.word
 

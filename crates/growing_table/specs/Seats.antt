@@ -1,9 +1,8 @@
 -- What the functions say of a table, its seats and places.
-use Rattle.std.specs.Prelude.{◌≡◌, ℕ, zero, suc, ◌+◌, ◌<◌, Bool, List, [], Option}
-
+use Rattle.std.specs.Prelude.{◌≡◌, ℕ, suc, Bool, Option}
 use mathlib.Core.Option.{some}
 use lib.ListN.{get_elem?}
-use denote.RawPtr.{Ptr, InBlock}
+use denote.RawPtr.{Ptr}
 use Rattle.growing_table.specs.State.{Me}
 use Rattle.growing_table.specs.Laid.{plain_me}
 use Rattle.growing_table.specs.declared.seat.GrowingSeat.{GrowingSeat}

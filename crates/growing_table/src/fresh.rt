@@ -21,10 +21,7 @@ pub(crate) fn zeros<T, A: Allocator>(alloc: &A, len: usize) -> Result<NewRow<T, 
 }
 
 // A row of these words.
-pub(crate) fn row_of<T, A: Allocator>(
-    alloc: &A,
-    words: &[u64],
-) -> Result<NewRow<T, A>, AllocError>
+pub(crate) fn row_of<T, A: Allocator>(alloc: &A, words: &[u64]) -> Result<NewRow<T, A>, AllocError>
     ensures { IfOk result (λ r. (r.1.heap ≡ alloc.now) × (r.1.at ≡ r.0.ptr) × InBlock r.0.ptr × (r.1.left ≡ 0) × (r.1.cells ≡ map (λ x. cell x r.0.ptr (Some None)) words.now)) }
 {
     let (link, mut row) = Loose::reserve(alloc, words.len())?;

@@ -127,13 +127,8 @@ impl<T, V, K, P: GrowingRule<Option<T>, V, K>, A: Allocator> GrowingTable<T, V, 
         // Every block of a power of two less one has the links to the blocks up to the next such block, its own among them in the top row.
         let more = if at.row == TOP { number + 1 } else { 0 };
         let (link, block) = zeros(&self.alloc, self.cells + more as usize)?;
-        self.rows.store_link::<WritesLink>(
-            &mut seat.seat,
-            at.row,
-            at.link,
-            at.index,
-            link,
-        );
+        self.rows
+            .store_link::<WritesLink>(&mut seat.seat, at.row, at.link, at.index, link);
         self.lay::<M>(&mut seat.seat, block, number);
         Ok(Place { number, link })
     }

@@ -17,26 +17,18 @@ const TOP: u64 = 1;
 
 impl<T, V, K, P: GrowingRule<Option<T>, V, K>, A: Allocator> GrowingTable<T, V, K, P, A> {
     /// Reads a word of the table's own, and makes a new seat.
-    pub fn load_new_seat<M: Play<Option<T>, V>>(
-        &self,
-        word: usize,
-    ) -> (u64, GrowingSeat<T, V, A>)
+    pub fn load_new_seat<M: Play<Option<T>, V>>(&self, word: usize) -> (u64, GrowingSeat<T, V, A>)
         requires word { word < self.now.words }
         requires rule { Enters (P.holds (about self.now)) word (λ r w. M.then (step (own word) 0 0) (me (P.first (about self.now)) None) r (me w None)) }
         ensures seat { Sits self.now (result.1) × (makes_blocks (result.1) ≡ false) × ((me_of (result.1)).hand ≡ None) }
         ensures told { M.then (step (own word) 0 0) (me (P.first (about self.now)) None) (result.0) (me_of (result.1)) }
     {
-        let (found, seat) = self
-            .rows
-            .load_new_seat::<OnEntry<M>>(ROOT, self.root, word);
+        let (found, seat) = self.rows.load_new_seat::<OnEntry<M>>(ROOT, self.root, word);
         (found, GrowingSeat { seat })
     }
 
     /// Cuts a view in two, for a new seat, which makes no blocks. It costs one load.
-    pub fn split_seat<M: Split<V>>(
-        &self,
-        seat: &mut GrowingSeat<T, V, A>,
-    ) -> GrowingSeat<T, V, A>
+    pub fn split_seat<M: Split<V>>(&self, seat: &mut GrowingSeat<T, V, A>) -> GrowingSeat<T, V, A>
         requires seat { Sits self.now seat.old }
         requires rule { Splits (P.holds (about self.now)) (number_of seat.old) (me_of seat.old).view (M.left (me_of seat.old).view) (M.right (me_of seat.old).view) }
         ensures old { Follows seat.old seat.new × (me_of seat.new ≡ me (M.left (me_of seat.old).view) (me_of seat.old).hand) }
@@ -49,10 +41,7 @@ impl<T, V, K, P: GrowingRule<Option<T>, V, K>, A: Allocator> GrowingTable<T, V, 
     }
 
     /// The same, and the new seat makes the blocks if the old one did.
-    pub fn split_maker<M: Split<V>>(
-        &self,
-        seat: &mut GrowingSeat<T, V, A>,
-    ) -> GrowingSeat<T, V, A>
+    pub fn split_maker<M: Split<V>>(&self, seat: &mut GrowingSeat<T, V, A>) -> GrowingSeat<T, V, A>
         requires seat { Sits self.now seat.old }
         requires rule { Splits (P.holds (about self.now)) (number_of seat.old) (me_of seat.old).view (M.left (me_of seat.old).view) (M.right (me_of seat.old).view) }
         ensures old { IsSame seat.old seat.new × (makes_blocks seat.new ≡ false) × (me_of seat.new ≡ me (M.left (me_of seat.old).view) (me_of seat.old).hand) }
@@ -93,7 +82,6 @@ impl<T, V, K, P: GrowingRule<Option<T>, V, K>, A: Allocator> GrowingTable<T, V, 
         ensures same { Follows seat.old seat.new }
         ensures slot { ((me_of seat.old).hand ≡ Some (place.number, slot, result)) × (me_of seat.new ≡ me (me_of seat.old).view (Some (place.number, slot, new))) }
     {
-        self.rows
-            .exchange(&mut seat.seat, place.link, slot, new)
+        self.rows.exchange(&mut seat.seat, place.link, slot, new)
     }
 }

@@ -35,8 +35,7 @@ pub struct GrowingTable<T, V, K, P: GrowingRule<Option<T>, V, K>, A: Allocator> 
 }
 
 impl<T: Drop, V, K, P: GrowingRule<Option<T>, V, K>, A: Allocator> Drop
-    for GrowingTable<T, V, K, P, A>
-{
+    for GrowingTable<T, V, K, P, A> {
     fn drop(self) {
         let Self {
             rows,

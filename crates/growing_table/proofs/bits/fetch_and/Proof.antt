@@ -9,8 +9,8 @@ use base.Logic.{SProp, ent, emp, via, id⊢}
 use base.Fml.{Lft, Fml, ftrue, fsep, flft}
 use prog.Wp.{WpFn}
 use types.Kit.{◌∵◌, mean, ‵, raw, ◌⊛◌, given, at_ret, ◌$◌, !, qed, by, move, keep, drop, use0, use3, split, split3, join, fsplit, fsplit3, fjoin, fjoin3, fpick, learn, suffices, rewrite, feq_i, flt_i}
-use types.Run.{stop, fld, addr, lit, size_word, of_opd, bin, no_more, and_then, first, blocks, exec, Calls-last, returns, enter}
-use types.ByLocal.{alloc_all, pass_all, free_all, look_at, get, get_in, through, sets, lands_last, is, env}
+use types.Run.{stop, fld, lit, size_word, of_opd, bin, no_more, and_then, first, blocks, exec, Calls-last, returns, enter}
+use types.ByLocal.{alloc_all, pass_all, free_all, look_at, get, get_in, sets, lands_last, is, env}
 use types.Part.{agg, sub, whole as all_of_it}
 use types.Tokens.{shr_bor-open, obor_close}
 use types.Within.{tokens_halve}
@@ -30,7 +30,7 @@ use denote.Triple.Walked.{Stays, stay_dropped, stay_ref, walk_of, Goes-dropped, 
 use mir.Syntax.{Body, seq}
 use Rattle.atomic_table.proofs.Walks.{proved, leaves}
 use Rattle.atomic_table.proofs.Calls.{fm, seq_cst, found, finds, ands}
-use Rattle.atomic_blocks.specs.Cells.{Me, step, me, Allows}
+use Rattle.atomic_blocks.specs.Cells.{Me, step, Allows}
 use Rattle.atomic_blocks.specs.Lent.{RowsId, age, mine, place, stride}
 use Rattle.atomic_blocks.specs.contracts.rows.loose.Link as link
 use Rattle.atomic_blocks.specs.contracts.rows.shared.Rows as web

@@ -1,4 +1,4 @@
-use Rattle.std.proofs.Common.{◌≡◌, ◌+◌, ◌∙◌, ap, set}
+use Rattle.std.proofs.Common.{◌+◌, ◌∙◌, ap, set}
 use Rattle.atomic_blocks.specs.Cells.{no_row}
 use Rattle.growing_table.proofs.Ends.{one_less}
 use Rattle.growing_table.proofs.closing.free_last.Goals as goal

@@ -1,6 +1,6 @@
-use Rattle.std.proofs.Common.{◌≡◌, ℕ, ◌+◌, ◌-◌, ◌<◌, ◌≤◌, ◌∙◌, length, set, refl, sym, ap, subst, arith}
+use Rattle.std.proofs.Common.{◌≡◌, ℕ, ◌+◌, ◌-◌, ◌<◌, ◌∙◌, length, refl, sym, ap, subst, arith}
 use Rattle.std.specs.Prelude.{Option}
-use Rattle.atomic_blocks.specs.Cells.{AllHome, row}
+use Rattle.atomic_blocks.specs.Cells.{AllHome}
 use Rattle.growing_table.specs.Laid.{Rows}
 use Rattle.growing_table.specs.Ending.{Ending}
 use Rattle.growing_table.proofs.Ends.{top_there, root_there, root_cells, root_homes, all_gone}
@@ -19,9 +19,10 @@ pub free_last-requires-clause-heap : goal.free_last-requires-clause-heap
 free_last-requires-clause-heap g c = let t = c.args.self in (c.rest.invariant.0 ∙ (ap (λ z. z.heap) c.word-number.ensures.0 ∙ (c.close-closed.ensures.0 ∙ t.keyed.4)), t.topped, t.small.3)
 
 pub rest-preserved : goal.rest-preserved
-rest-preserved g c = let t = c.args.self in let h : 0 < c.rest.number = c.rest-test.true in
-    (c.free_last.ensures.heap ∙ c.rest.invariant.0,
-      c.free_last.ensures.rows t.words t.root.ptr (subst (λ (x : ℕ). Ending t.words t.cells t.root.ptr t.top.ptr x c.rest.closed.rows) (let e : c.rest.number ≡ c.rest.number - 1 + 1 = omega arith in e) c.rest.invariant.1))
+rest-preserved g c = let t = c.args.self in let h : 0 < c.rest.number = c.rest-test.true in (
+  c.free_last.ensures.heap ∙ c.rest.invariant.0,
+  c.free_last.ensures.rows t.words t.root.ptr (subst (λ (x : ℕ). Ending t.words t.cells t.root.ptr t.top.ptr x c.rest.closed.rows) (let e : c.rest.number ≡ c.rest.number - 1 + 1 = omega arith in e) c.rest.invariant.1),
+)
 
 pub take-requires : goal.take-requires
 take-requires g c = let t = c.args.self in let none : c.rest.number ≡ 0 = (let h = c.rest-test.false in omega arith) in
@@ -37,10 +38,14 @@ take-requires-2 g c = let t = c.args.self in let none : c.rest.number ≡ 0 = (l
 
 pub free-requires-2 : goal.free-requires-2
 free-requires-2 g c = let t = c.args.self in let none : c.rest.number ≡ 0 = (let h = c.rest-test.false in omega arith) in let so = c.take-2.ensures.taken in
-    let e = subst (λ (x : ℕ). Ending t.words t.cells t.root.ptr t.top.ptr x c.rest.closed.rows) none c.rest.invariant.1 in
-    (so.0 ∙ (c.take.ensures.left.0 ∙ (c.rest.invariant.0 ∙ (ap (λ z. z.heap) c.word-number.ensures.0 ∙ (c.close-closed.ensures.0 ∙ t.keyed.4)))), so.1, t.rooted,
-      ap length so.2 ∙ root_cells t.words t.cells t.root.ptr t.top.ptr c.rest.closed.rows e c.take.new.self.rows c.take.ensures.left.1, so.3,
-      subst AllHome (sym so.2) (root_homes t.words t.cells t.root.ptr t.top.ptr c.rest.closed.rows e c.take.new.self.rows c.take.ensures.left.1))
+    let e = subst (λ (x : ℕ). Ending t.words t.cells t.root.ptr t.top.ptr x c.rest.closed.rows) none c.rest.invariant.1 in (
+      so.0 ∙ (c.take.ensures.left.0 ∙ (c.rest.invariant.0 ∙ (ap (λ z. z.heap) c.word-number.ensures.0 ∙ (c.close-closed.ensures.0 ∙ t.keyed.4)))),
+      so.1,
+      t.rooted,
+      ap length so.2 ∙ root_cells t.words t.cells t.root.ptr t.top.ptr c.rest.closed.rows e c.take.new.self.rows c.take.ensures.left.1,
+      so.3,
+      subst AllHome (sym so.2) (root_homes t.words t.cells t.root.ptr t.top.ptr c.rest.closed.rows e c.take.new.self.rows c.take.ensures.left.1),
+    )
 
 pub drop-closed-requires : goal.drop-closed-requires
 drop-closed-requires g c = let t = c.args.self in let none : c.rest.number ≡ 0 = (let h = c.rest-test.false in omega arith) in

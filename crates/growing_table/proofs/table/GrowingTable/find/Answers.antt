@@ -1,8 +1,7 @@
-use Rattle.std.proofs.Common.{◌≡◌, ℕ, suc, ◌+◌, ◌<◌, ◌≤◌, ◌∙◌, length, sym, refl, ap, subst, arith}
-use mathlib.Core.Option.{some}
+use Rattle.std.proofs.Common.{◌≡◌, suc, ◌+◌, ◌<◌, ◌≤◌, ◌∙◌, length, sym, refl, ap, subst, arith}
 use lib.ListN.{get_elem?}
 use Rattle.growing_table.specs.State.{step, count}
-use Rattle.growing_table.specs.Laid.{KitMe, Reaches, plain_me}
+use Rattle.growing_table.specs.Laid.{Reaches, plain_me}
 use Rattle.growing_table.proofs.Entries.{count_asks, link_asks, link_found}
 use Rattle.growing_table.proofs.table.GrowingTable.find.Goals as goal
 
@@ -21,7 +20,7 @@ invariant_of-result g c = let t = c.args.self.now in let q = c.requires.seat in 
       placed = (link_found c.entry-at.new.seat.seat.me c.load_link-link.new.seat.me t.top.ptr c.args.number r.row r.index r.link.ptr c.load_link-link.result.ptr
           (subst (λ m'. suc (suc c.args.number) < length m'.view.chart.places) (sym same.3) (omega arith))
           (subst (λ m'. Reaches m'.view.cells t.top.ptr m'.view.chart.places c.args.number r.row r.link.ptr r.index) (sym same.3)
-            (subst (λ x. Reaches x t.top.ptr m.view.chart.places c.args.number r.row r.link.ptr r.index) (sym (e.3.0.0.1 ∙ q.2)) c.entry-at.ensures.entry.0))
+          (subst (λ x. Reaches x t.top.ptr m.view.chart.places c.args.number r.row r.link.ptr r.index) (sym (e.3.0.0.1 ∙ q.2)) c.entry-at.ensures.entry.0))
           c.load_link-link.ensures.3).1;
       small = omega arith;
     }
@@ -31,9 +30,11 @@ returns-clause-told g c = let t = c.args.self.now in let q = c.requires.seat in 
     let m = c.load-found.new.seat.me in let many : c.load-found.result + 2 ≡ length m.view.chart.places = e.3.1 in let less : c.args.number < c.load-found.result = c.if-number-found.false in
     let after : c.load_link-link.new.seat.me ≡ m = c.load_link-link.ensures.3.0 ∙ same.3 in
     let found = (link_found c.entry-at.new.seat.seat.me c.load_link-link.new.seat.me t.top.ptr c.args.number r.row r.index r.link.ptr c.load_link-link.result.ptr
-      (subst (λ m'. suc (suc c.args.number) < length m'.view.chart.places) (sym same.3) (omega arith))
-      (subst (λ m'. Reaches m'.view.cells t.top.ptr m'.view.chart.places c.args.number r.row r.link.ptr r.index) (sym same.3)
-        (subst (λ x. Reaches x t.top.ptr m.view.chart.places c.args.number r.row r.link.ptr r.index) (sym (e.3.0.0.1 ∙ q.2)) c.entry-at.ensures.entry.0))
-      c.load_link-link.ensures.3).0 in
-    (c.load-found.result, subst (λ m'. g.M.Play.then (step count 0 0) (plain_me c.args.seat.now.seat.me) c.load-found.result (plain_me m')) (sym after) e.3.4,
-      (less, refl, ap (λ m'. get_elem? m'.view.chart.places (suc (suc c.args.number))) c.load_link-link.ensures.3.0 ∙ found))
+    (subst (λ m'. suc (suc c.args.number) < length m'.view.chart.places) (sym same.3) (omega arith))
+    (subst (λ m'. Reaches m'.view.cells t.top.ptr m'.view.chart.places c.args.number r.row r.link.ptr r.index) (sym same.3)
+    (subst (λ x. Reaches x t.top.ptr m.view.chart.places c.args.number r.row r.link.ptr r.index) (sym (e.3.0.0.1 ∙ q.2)) c.entry-at.ensures.entry.0))
+    c.load_link-link.ensures.3).0 in (
+      c.load-found.result,
+      subst (λ m'. g.M.Play.then (step count 0 0) (plain_me c.args.seat.now.seat.me) c.load-found.result (plain_me m')) (sym after) e.3.4,
+      (less, refl, ap (λ m'. get_elem? m'.view.chart.places (suc (suc c.args.number))) c.load_link-link.ensures.3.0 ∙ found),
+    )

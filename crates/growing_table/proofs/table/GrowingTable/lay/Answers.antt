@@ -1,4 +1,4 @@
-use Rattle.std.proofs.Common.{◌≡◌, ◌∙◌, sym, subst, refl}
+use Rattle.std.proofs.Common.{◌∙◌, sym, subst, refl}
 use Rattle.atomic_blocks.specs.Cells.{AllHome}
 use Rattle.growing_table.proofs.Entries.{home_zeros, making_asks}
 use Rattle.growing_table.proofs.table.GrowingTable.lay.Goals as goal

@@ -1,4 +1,4 @@
-use Rattle.std.proofs.Common.{◌≡◌, ℕ, ◌∙◌, sym, refl, ap, subst}
+use Rattle.std.proofs.Common.{◌≡◌, ℕ, ◌∙◌, sym, ap, subst}
 use Rattle.std.specs.Prelude.{Option, None}
 use Rattle.growing_table.specs.State.{Me, Makes, step, count}
 use Rattle.growing_table.specs.Laid.{Holding, Reaches, plain_me}
@@ -25,14 +25,13 @@ lay-requires-clause-rule g c = let t = c.args.self.now in let e = c.load-number.
     subst (λ (x : ℕ × Me (Option g.row.T.Denot) g.row.V.Denot). Makes (g.P.GrowingRule.holds t.rows.key.about) t.cells None x.0 x.1 (g.M.Play.then (step count 0 0) x.1)) (λ i. (sym id i, sym after i)) c.requires.rule
 
 pub returns-clause-same : goal.returns-clause-same
-returns-clause-same g c = let e = c.load-number.ensures in let same = c.entry-at.ensures.same in let w = c.store_link.ensures in let l = c.lay.ensures.same in
-    (
-      (
-        l.0 ∙ (w.0 ∙ (same.0 ∙ e.0)),
-        l.1 ∙ (w.1 ∙ (same.1 ∙ e.1)),
-        l.2 ∙ (w.2 ∙ (same.2 ∙ e.2)),
-        l.3.1 ∙ (ap (λ m. m.view.cells) w.3 ∙ (ap (λ m. m.view.cells) same.3 ∙ e.3.0.0.1)),
-        λ k p is. l.3.0 k p (ap (λ m. lib.ListN.get_elem? m.view.chart.places k) (w.3) ∙ (ap (λ m. lib.ListN.get_elem? m.view.chart.places k) same.3 ∙ e.3.0.0.0 k p is)),
-      ),
-      l.3.2 ∙ (ap (λ m. m.view.maker) w.3 ∙ (ap (λ m. m.view.maker) same.3 ∙ e.3.0.0.2)),
-    )
+returns-clause-same g c = let e = c.load-number.ensures in let same = c.entry-at.ensures.same in let w = c.store_link.ensures in let l = c.lay.ensures.same in (
+  (
+    l.0 ∙ (w.0 ∙ (same.0 ∙ e.0)),
+    l.1 ∙ (w.1 ∙ (same.1 ∙ e.1)),
+    l.2 ∙ (w.2 ∙ (same.2 ∙ e.2)),
+    l.3.1 ∙ (ap (λ m. m.view.cells) w.3 ∙ (ap (λ m. m.view.cells) same.3 ∙ e.3.0.0.1)),
+    λ k p is. l.3.0 k p (ap (λ m. lib.ListN.get_elem? m.view.chart.places k) (w.3) ∙ (ap (λ m. lib.ListN.get_elem? m.view.chart.places k) same.3 ∙ e.3.0.0.0 k p is)),
+  ),
+  l.3.2 ∙ (ap (λ m. m.view.maker) w.3 ∙ (ap (λ m. m.view.maker) same.3 ∙ e.3.0.0.2)),
+)

@@ -1,4 +1,4 @@
-use Rattle.std.proofs.Common.{◌≡◌, ◌∙◌, ◌≤◌, sym, refl, ap, subst, length, arith}
+use Rattle.std.proofs.Common.{◌∙◌, ◌≤◌, sym, refl, ap, subst, length}
 use Rattle.std.specs.Prelude.{Some, None}
 use Rattle.atomic_blocks.specs.Cells.{AllHome, cell}
 use Rattle.growing_table.proofs.Entries.{home_zeros}
