@@ -1,3 +1,4 @@
+use crate::guarded;
 use crate::plain::{each_operation, has_blocks, make_blocks, nothing_is_lost, open, read};
 use std::test::Fail;
 
@@ -33,6 +34,13 @@ fn a_block_without_memory_changes_nothing(rt: HostRuntime) -> Result<(), Fail> {
 #[test]
 fn threads_find_blocks_as_they_are_made(rt: HostRuntime) -> Result<(), Fail> {
     let kept = nothing_is_lost(&rt, rt.alloc(), 300, 5000)?;
+    assert!(rt; kept);
+    Ok(())
+}
+
+#[test]
+fn slots_go_from_hand_to_hand(rt: HostRuntime) -> Result<(), Fail> {
+    let kept = guarded::nothing_is_lost(&rt, rt.alloc(), 9, 300)?;
     assert!(rt; kept);
     Ok(())
 }
