@@ -7,7 +7,7 @@ use mir.Val.{Val, vint, vptr}
 use mir.MapTy.{inst_fn}
 use base.Stored.{Coded}
 use base.Logic.{SProp, ent, emp, via, id⊢}
-use base.Fml.{Lft, Fml, ftrue, fsep, flft}
+use base.Fml.{Fml, ftrue, fsep, flft}
 use prog.Wp.{WpFn}
 use types.Kit.{◌∵◌, mean, ‵, raw, ◌⊛◌, given, at_ret, ◌$◌, !, qed, by, move, keep, drop, use0, use3, split, split3, join, fsplit, fsplit3, fjoin, fjoin3, fpick, learn, suffices, rewrite, feq_i, flt_i}
 use types.Run.{stop, fld, lit, size_word, of_opd, bin, no_more, and_then, first, blocks, exec, Calls-last, returns, enter}
@@ -63,7 +63,7 @@ fetch_and_spec 𝓤 𝓛 𝓜 𝓡 wired S V K P A M' _ _ _ _ _ _ rule rule-d he
     let body = inst_fn at-types code.function in
     let shared = RefOf (0 ∷ []) tt (plain (λ _. RowsRow)) (λ _. tt) in
     let stays : Stays end.signature.params end.kept =
-      (stay_dropped shared yes, (stay_ref (1 ∷ []) tt (plain (λ _. SeatRow)), (stay_dropped (plain (λ _. u64)) yes, (stay_dropped (plain (λ _. LinkRow)) no, (stay_dropped (plain (λ _. usize)) yes, (stay_dropped (plain (λ _. u64)) yes, tt)))))) in
+    (stay_dropped shared yes, (stay_ref (1 ∷ []) tt (plain (λ _. SeatRow)), (stay_dropped (plain (λ _. u64)) yes, (stay_dropped (plain (λ _. LinkRow)) no, (stay_dropped (plain (λ _. usize)) yes, (stay_dropped (plain (λ _. u64)) yes, tt)))))) in
     proved 𝓛 end stays told 𝓜 𝓡
     (Goes-dropped 𝓛 8 shared yes (λ κs x f. refl), (Goes-ref 𝓛 8 1 tt (plain (λ _. SeatRow)), (Goes-dropped 𝓛 8 (plain (λ _. u64)) yes (λ κs x f. refl), (Goes-dropped 𝓛 8 (plain (λ _. LinkRow)) no (λ κs x f. refl), (Goes-dropped 𝓛 8 (plain (λ _. usize)) yes (λ κs x f. refl), (Goes-dropped 𝓛 8 (plain (λ _. u64)) yes (λ κs x f. refl), tt))))))
     (#self at-types) body (code.unfolded 𝓤 𝓛.H 𝓜 𝓡 wired (S, (V, (K, (P, (A, (M', tt)))))) rule-d heap-d play-d heap-drop)
@@ -80,7 +80,7 @@ fetch_and_spec 𝓤 𝓛 𝓜 𝓡 wired S V K P A M' _ _ _ _ _ _ rule rule-d he
     let index : ℕ = args.1.1.1.1.0 in
     let bits : ℕ = args.1.1.1.1.1.0 in
     let entry : (walk_of 𝓛 end stays told).Ghost =
-      ((κs, shares, bounds, args, (vptr args.0.ref_ptr.0 args.0.ref_ptr.1 ∷ [], (vptr seat-b seat-o ∷ [], (vint w64 number ∷ [], (link_val place ∷ [], (vint w64 index ∷ [], (vint w64 bits ∷ [], tt))))))), ghost) in
+    ((κs, shares, bounds, args, (vptr args.0.ref_ptr.0 args.0.ref_ptr.1 ∷ [], (vptr seat-b seat-o ∷ [], (vint w64 number ∷ [], (link_val place ∷ [], (vint w64 index ∷ [], (vint w64 bits ∷ [], tt))))))), ghost) in
     let Post : Val → SProp 𝓤 = (walk_of 𝓛 end stays told).post entry in
     let id : ℕ = sitting.id in
     let mine-now : Me S.Denot V.Denot = sitting.me in
@@ -89,10 +89,10 @@ fetch_and_spec 𝓤 𝓛 𝓜 𝓡 wired S V K P A M' _ _ _ _ _ _ rule rule-d he
     let changed : ℕ → ℕ = λ n. bit_and n bits in
     let then : ℕ → Me S.Denot V.Denot → Type 0 = play.then (step number place index bits 0) mine-now in
     let lasting : Fml = fsep (flft κs.1.1.0 shares.1.1.0) (fsep (flft κs.1.1.1.0 shares.1.1.1.0) (fsep (flft κs.1.1.1.1.0 shares.1.1.1.1.0) (fsep (flft κs.1.1.1.1.1.0 shares.1.1.1.1.1.0)
-      (fsep (flft κs.1.1.1.1.1.1.0 shares.1.1.1.1.1.1.0) (fsep (flft κs.1.1.1.1.1.1.1.0 shares.1.1.1.1.1.1.1.0) ftrue))))) in
+    (fsep (flft κs.1.1.1.1.1.1.0 shares.1.1.1.1.1.1.0) (fsep (flft κs.1.1.1.1.1.1.1.0 shares.1.1.1.1.1.1.1.0) ftrue))))) in
     qed 𝓛 (((‵ (flft κs.0 shares.0) ⊛ ‵ (flft κs.1.0 shares.1.0) ⊛ ‵ lasting) ⊛ ‵ (owns (types_at end.signature.params κs) args entry.0.4))
-      ∷ raw (fact 𝓤 _) ∷ raw (fact 𝓤 _) ∷ raw (fact 𝓤 _) ∷ raw (fact 𝓤 _) ∷ raw (fact 𝓤 _) ∷ raw (fact 𝓤 _)
-      ∷ given ((sitting.rows ≡ table.id) × (sitting.heap ≡ table.heap) × InBlock place × (index < 2 ^ 40) × Allows holds id mine-now number place index changed then) (‵ ftrue) ∷ []) ∵
+    ∷ raw (fact 𝓤 _) ∷ raw (fact 𝓤 _) ∷ raw (fact 𝓤 _) ∷ raw (fact 𝓤 _) ∷ raw (fact 𝓤 _) ∷ raw (fact 𝓤 _)
+    ∷ given ((sitting.rows ≡ table.id) × (sitting.heap ≡ table.heap) × InBlock place × (index < 2 ^ 40) × Allows holds id mine-now number place index changed then) (‵ ftrue) ∷ []) ∵
     keep ! (7 ∷ 0 ∷ []) $
     learn ! (λ asked.
     drop ! $
@@ -131,8 +131,8 @@ fetch_and_spec 𝓤 𝓛 𝓜 𝓡 wired S V K P A M' _ _ _ _ _ _ rule rule-d he
     move ! (8 ∷ 7 ∷ 1 ∷ []) $
     let out = λ (n : ℕ). fsep (flft (age table.id) part) (moves.after 𝓛 SlotRow token view-code holds table.id id (then n)) in
     use3 𝓛 (raw (𝓣.C _ (vptr (block_of place) offset ∷ vint w64 bits ∷ seq_cst ∷ []) (λ u. mean 𝓛 (found out u))))
-      (via 𝓤 _ (moves.steps 𝓛 SlotRow token view-code holds table.id part number place id mine-now index changed then asked.4)
-        (ands 𝓛 𝓜 𝓡 (code.calls-std::sync::atomic::raw::fetch_and 𝓡.env wired) (block_ptr (block_of place) offset) bits are.1.1.1.1.1.0.1 out)) $
+    (via 𝓤 _ (moves.steps 𝓛 SlotRow token view-code holds table.id part number place id mine-now index changed then asked.4)
+    (ands 𝓛 𝓜 𝓡 (code.calls-std::sync::atomic::raw::fetch_and 𝓡.env wired) (block_ptr (block_of place) offset) bits are.1.1.1.1.1.0.1 out)) $
     sets ! (agg ! (and_then ! (lit ! tt) (no_more !))) refl (tt, (record { fits = lit< tt }, tt)) $
     Calls-last ! (fm 𝓛 𝓜 𝓡) (found out) (and_then ! (get ! refl) (and_then ! (get ! refl) (and_then ! (get ! refl) (no_more !)))) (λ u.
     finds ! out (λ n fits.
