@@ -136,8 +136,10 @@ module _ {S V : Type 0} (wide n : ℕ) (root top : Ptr) (holds : State S V → T
 
     -- A BLOCK MORE
     pub block_joins : (then : ℕ → Me S V → Type 0) → plain.Makes holds n x id (plain_me m) then → cells.Allows G id m 1 top 0 (λ (_ : ℕ). b + 1) (λ (_ : ℕ). Told then)
-    block_joins then law s g here = let y = law (state (plain_words s.rows) (plain_blocks n s.rows) (map client s.views)) g.agreed (at_map client s.views id v here) in let w : V = y.0 in
+    block_joins then law s g here =
         let many : length (plain_blocks n s.rows) ≡ v.made = (let a = facts.blocks_count n s.rows g.laid.tall in let e = (g.knows id v here).whole is_maker in omega arith) in
+        let few' : length (plain_blocks n s.rows) < 549755813888 = (let x : ℕ = length (plain_blocks n s.rows) in let e : x ≡ v.made = many in let e' : v.made ≡ b = made in let h : b + 3 ≤ 549755813888 = few in omega arith) in
+        let y = law (state (plain_words s.rows) (plain_blocks n s.rows) (map client s.views)) g.agreed (at_map client s.views id v here) few' in let w : V = y.0 in
         let there : suc (suc b) < length (all s g here) = (let e : length (all s g here) ≡ length s.rows + 1 = more s g here in let e' : b + 2 ≡ length s.rows = last s g here in omega arith) in
         let lies : get_elem? (places (all s g here)) (suc (suc v.made)) ≡ some r.at = subst (λ (z : ℕ). get_elem? (places (all s g here)) (suc (suc z)) ≡ some r.at) (sym made) (at_places (all s g here) (suc (suc b)) there ∙ ap (λ (z : Row S). some z.at) (new s g here)) in (
           (g.laid.top_at, near s g here),

@@ -113,7 +113,7 @@ module _ {S V : Type 0} where
 
     -- a block more may join, and is told its number
     abbrev pub Makes : ℕ → S → ℕ → Me S V → (ℕ → Me S V → Type 0) → Type 0
-    Makes n x id m then = (s : State S V) → holds s → get_elem? s.views id ≡ some m.view
+    Makes n x id m then = (s : State S V) → holds s → get_elem? s.views id ≡ some m.view → length s.blocks < 2 ^ 39
         → (w : V) × holds (state s.words (s.blocks ++ blank n x ∷ []) (slice_set s.views id w)) × then (length s.blocks) (me w m.hand)
 
     -- when a word is read, a new seat may have some view

@@ -94,4 +94,4 @@ module _ {S V : Type 0} (id : ℕ) (m : Me S V) where
   looks s good here' has small = (m.view, keeps, tt, good, refl)
 
   pub makes : (n : ℕ) (x : S) → Makes Guarded n x id m (looked (step count 0 0) m)
-  makes n x s good here' = (m.view, more s.blocks n x good, refl)
+  makes n x s good here' few = (m.view, more s.blocks n x good, refl)
