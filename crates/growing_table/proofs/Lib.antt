@@ -1,0 +1,12 @@
+mod Plain
+mod Stays
+mod Powers
+mod Steps
+mod Asks
+mod Links
+mod NewBlock
+mod Seating
+mod Entries
+mod SeatAsks
+mod Ends
+mod TableEnds

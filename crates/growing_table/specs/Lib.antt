@@ -1,0 +1,5 @@
+pub mod State
+pub mod Laid
+pub mod Told
+pub mod Seats
+pub mod Ending

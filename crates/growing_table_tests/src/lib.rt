@@ -1,0 +1,7 @@
+//! What threads find in the blocks of a growing table.
+#![tactic(auto)]
+
+pub mod guarded;
+pub mod plain;
+#[cfg(test)]
+mod tests;
