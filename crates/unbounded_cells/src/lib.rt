@@ -1,0 +1,4 @@
+//! The rule of one history for the cells of an unbounded queue, over memory that grows.
+#![tactic(auto)]
+
+pub mod rule;
