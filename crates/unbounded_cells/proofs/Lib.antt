@@ -1,2 +1,4 @@
 mod Blocks
 mod Steps
+mod Room
+mod Spares

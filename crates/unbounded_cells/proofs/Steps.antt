@@ -31,7 +31,7 @@ use Rattle.unbounded_cells.specs.Rule.{Blocks, TableState, inner, WordsShown, Sl
 use Rattle.unbounded_cells.specs.declared.rule.BlockView.{BlockView}
 use Rattle.unbounded_cells.proofs.Blocks as blocks
 
-or_false : (b : Bool) → (b ≡ true) ⊎ (b ≡ false)
+pub or_false : (b : Bool) → (b ≡ true) ⊎ (b ≡ false)
 or_false true = inl refl
 or_false false = inr refl
 
@@ -44,45 +44,45 @@ on_with v a = record v { party = going_on v.party a }
 
 module _ {T A : Type 0} {moves : QueueForm → A → Event T → A → Type 0} {enters : QueueForm → A → Type 0} {turns : QueueForm → A → A → Type 0} {counts : QueueForm → A → A → Counter → CountStep → ℕ → Type 0} {both : A → A → A} {left : A → A} {parts : QueueForm → A → A → A → Type 0} {opened : A} {counted : ℕ} {is_history : HistoryOf T A} (laws : KeepsHistory moves enters turns counts both left parts opened counted is_history)
     {size : (views : List (View T A)) (c : Contents T) (t : _) → is_history Unbounded views c t → ℕ} (machine : KeepsBlocks moves is_history size) (admits : Type 0) where
-  abbrev V : Type 0
+  abbrev pub V : Type 0
   V = BlockView T A
 
-  abbrev S : Type 0
+  abbrev pub S : Type 0
   S = TableState T A
 
-  abbrev M : Type 0
+  abbrev pub M : Type 0
   M = Me (Option T) V
 
-  abbrev R : S → Type 0
+  abbrev pub R : S → Type 0
   R = IsRuled moves is_history size admits
 
-  abbrev K : List ℕ → Blocks T → List V → Type 0
+  abbrev pub K : List ℕ → Blocks T → List V → Type 0
   K = IsKept moves is_history size
 
-  abbrev KeptOrLong : List ℕ → Blocks T → List V → Type 0
+  abbrev pub KeptOrLong : List ℕ → Blocks T → List V → Type 0
   KeptOrLong ws bs views = K ws bs views ⊎ Long moves is_history size
 
   -- what a step tells: the machine made this operation, and nothing else of the seat has changed
   abbrev pub Made : Deed T → M → M → Type 0
   Made d m m' = moves Unbounded m.view.party.state (does (Some d)) m'.view.party.state × (m' ≡ seen_as m (on_with m.view m'.view.party.state))
 
-  abbrev Away : List V → Contents T → Type 0
+  abbrev pub Away : List V → Contents T → Type 0
   Away views c = (j : ℕ) (v : V) (b i : ℕ) (x : Option T) → get_elem? views j ≡ home.some v → v.held ≡ Some (b, i, x) → slice_index_or (block_in c.blocks b).slots i None ≡ x
 
-  abbrev AllCleared : List V → Blocks T → Type 0
+  abbrev pub AllCleared : List V → Blocks T → Type 0
   AllCleared views bs = (j : ℕ) (v : V) → get_elem? views j ≡ home.some v → v.keeper ≡ true → Cleared bs v
 
   -- ---- the history
 
   -- one is short, or as long as there are positions
-  decided : (ws : List ℕ) (bs : Blocks T) (views : List V) (c : Contents T) → IsShown ws bs c → Away views c → AllCleared views bs → is_history Unbounded (parties views) c (tally_in Unbounded ws) → KeptOrLong ws bs views
+  pub decided : (ws : List ℕ) (bs : Blocks T) (views : List V) (c : Contents T) → IsShown ws bs c → Away views c → AllCleared views bs → is_history Unbounded (parties views) c (tally_in Unbounded ws) → KeptOrLong ws bs views
   decided ws bs views c shown away cleared h = ⊎_elim
       (λ short. inl (record { contents = c; shown = shown; away = away; cleared = cleared; history = h; short = short }))
       (λ long. inr (parties views, c, tally_in Unbounded ws, h, long))
       (cases_lt (size (parties views) c (tally_in Unbounded ws) h) (2 ^ 61))
 
   -- THE OPERATION: what the machine makes next, where the table shows what it does
-  by_deed : (ws ws' : List ℕ) (bs bs' : Blocks T) (views : List V) (q : K ws bs views) (id : ℕ) (v w : V) (d : Deed T) (e : Contents T) → get_elem? views id ≡ home.some v → Does d q.contents e → moves Unbounded v.party.state (does (Some d)) w.party.state
+  pub by_deed : (ws ws' : List ℕ) (bs bs' : Blocks T) (views : List V) (q : K ws bs views) (id : ℕ) (v w : V) (d : Deed T) (e : Contents T) → get_elem? views id ≡ home.some v → Does d q.contents e → moves Unbounded v.party.state (does (Some d)) w.party.state
       → tally_in Unbounded ws' ≡ tally_in Unbounded ws → IsShown ws' bs' e → Away (set views id w) e → AllCleared (set views id w) bs' → KeptOrLong ws' bs' (set views id w)
   by_deed ws ws' bs bs' views q id v w d e at done made tally shown away cleared =
       decided ws' bs' (set views id w) e shown away cleared
@@ -91,7 +91,7 @@ module _ {T A : Type 0} {moves : QueueForm → A → Event T → A → Type 0} {
       (laws.more Unbounded (parties views) q.contents e (tally_in Unbounded ws) id v.party w.party d q.history (at_map party views id v at) done made)))
 
   -- no operation is made
-  quiet : (ws ws' : List ℕ) (bs bs' : Blocks T) (views : List V) (q : K ws bs views) (id : ℕ) (v w : V) → get_elem? views id ≡ home.some v → w.party.state ≡ v.party.state
+  pub quiet : (ws ws' : List ℕ) (bs bs' : Blocks T) (views : List V) (q : K ws bs views) (id : ℕ) (v w : V) → get_elem? views id ≡ home.some v → w.party.state ≡ v.party.state
       → tally_in Unbounded ws' ≡ tally_in Unbounded ws → IsShown ws' bs' q.contents → Away (set views id w) q.contents → AllCleared (set views id w) bs' → KeptOrLong ws' bs' (set views id w)
   quiet ws ws' bs bs' views q id v w at same tally shown away cleared =
       decided ws' bs' (set views id w) q.contents shown away cleared
@@ -102,14 +102,14 @@ module _ {T A : Type 0} {moves : QueueForm → A → Event T → A → Type 0} {
   -- ---- the seats and the guards, where a view changes and holds what it held
 
   module _ (s : S) (id : ℕ) (v w : V) (at : get_elem? s.views id ≡ home.some v) where
-    was : (j : ℕ) (u : V) → slot_of w ≡ slot_of v → (w.keeper ≡ true → v.keeper ≡ true) → get_elem? (set s.views id w) j ≡ home.some u
+    pub was : (j : ℕ) (u : V) → slot_of w ≡ slot_of v → (w.keeper ≡ true → v.keeper ≡ true) → get_elem? (set s.views id w) j ≡ home.some u
         → (o : V) × (get_elem? s.views j ≡ home.some o) × (slot_of u ≡ slot_of o) × (u.keeper ≡ true → o.keeper ≡ true)
     was j u slot keeper e = ⊎_elim
         (λ (t : (j ≡ id) × (w ≡ u)). (v, ap (get_elem? s.views) t.0 ∙ at, subst (λ (y : V). slot_of y ≡ slot_of v) t.1 slot, subst (λ (y : V). y.keeper ≡ true → v.keeper ≡ true) t.1 keeper))
         (λ (t : (j ≢ id) × (get_elem? s.views j ≡ home.some u)). (u, t.1, refl, λ z. z))
         (at_set s.views id j w u e)
 
-    is_now : (j : ℕ) (o : V) → slot_of w ≡ slot_of v → get_elem? s.views j ≡ home.some o → (u : V) × (get_elem? (set s.views id w) j ≡ home.some u) × (slot_of u ≡ slot_of o)
+    pub is_now : (j : ℕ) (o : V) → slot_of w ≡ slot_of v → get_elem? s.views j ≡ home.some o → (u : V) × (get_elem? (set s.views id w) j ≡ home.some u) × (slot_of u ≡ slot_of o)
     is_now j o slot e = dite (ℕ_discrete j id)
         (λ same. (
           w,
@@ -118,7 +118,7 @@ module _ {T A : Type 0} {moves : QueueForm → A → Event T → A → Type 0} {
         ))
         (λ apart. (o, set_else s.views id j w apart ∙ e, refl))
 
-  ruled : (s : S) (ws' : List ℕ) (bs' : Blocks T) (id : ℕ) (v w : V) (r : R s) → get_elem? s.views id ≡ home.some v
+  pub ruled : (s : S) (ws' : List ℕ) (bs' : Blocks T) (id : ℕ) (v w : V) (r : R s) → get_elem? s.views id ≡ home.some v
       → length bs' ≡ length s.blocks → ((b i : ℕ) → i < 31 → inner bs' b i ≡ inner s.blocks b i) → ((b : ℕ) → (block bs' b).homes ≡ (block s.blocks b).homes)
       → (IsNamed id v.party → IsNamed id w.party) → w.party.form ≡ v.party.form → ListsNoMore w.party v.party → w.party.foreign ≡ v.party.foreign → v.party.spent ≡ false
       → slot_of w ≡ slot_of v → (w.keeper ≡ true → v.keeper ≡ true) → slice_index ws' 24 ≡ slice_index s.words 24
@@ -162,17 +162,16 @@ module _ {T A : Type 0} {moves : QueueForm → A → Event T → A → Type 0} {
       back b h = subst (λ (k : ℕ). b < k) long h
 
   -- what is cleared of the first spare block is beside a block in use
-  unseen : (s : S) (r : R s) (bs' : Blocks T) (n : ℕ) (q : K s.words s.blocks s.views) → times n q.contents.spares ≡ 0 → ((b i : ℕ) → b ≢ n → inner bs' b i ≡ inner s.blocks b i) → (j : ℕ) (g : V) → get_elem? s.views j ≡ home.some g → g.keeper ≡ true
+  pub unseen : (s : S) (r : R s) (bs' : Blocks T) (n : ℕ) (q : K s.words s.blocks s.views) → times n q.contents.spares ≡ 0 → ((b i : ℕ) → b ≢ n → inner bs' b i ≡ inner s.blocks b i) → (j : ℕ) (g : V) → get_elem? s.views j ≡ home.some g → g.keeper ≡ true
       → Cleared bs' g
-  unseen s r bs' n q used other j g there is b top =
+  unseen s r bs' n q used other j g there is b i top low few =
       let first = blocks.first_spare s.blocks (slice_index_or s.words 25 0) b q.contents.spares ((r.spares j g there is).top ∙ top) q.shown.chain in
       let ne : b ≢ n = (λ e. let z = subst (λ (k : ℕ). 1 ≤ times k q.contents.spares) e first in let k : ℕ = times n q.contents.spares in let o : 1 ≤ k = z in let p : k ≡ 0 = used in absurd (omega arith)) in
-      let old = q.cleared j g there is b top in
-      ((λ l. other b 31 ne ∙ old.0 l), (λ l. other b 32 ne ∙ old.1 l), (λ l. other b 33 ne ∙ old.2 l))
+      other b (31 + i) ne ∙ q.cleared j g there is b i top low few
 
   -- ---- AN OPERATION ON A WORD OF A BLOCK, whichever
 
-  by_block : (id n k : ℕ) (m : M) (f : ℕ → ℕ) (d : ℕ → Deed T) (edit : ℕ → BlockCells T → BlockCells T) → 31 ≤ k → k < 34 → m.view.party.spent ≡ false
+  pub by_block : (id n k : ℕ) (m : M) (f : ℕ → ℕ) (d : ℕ → Deed T) (edit : ℕ → BlockCells T → BlockCells T) → 31 ≤ k → k < 34 → m.view.party.spent ≡ false
       → ((x : ℕ) → deed_block (d x) ≡ Some n)
       → ((ws : List ℕ) (y : BlockCells T) → k < length ws → length y.written ≡ 31 → WordsShown ws y → WordsShown (set ws k (f (slice_index_or ws k 0))) (edit (slice_index_or ws k 0) y))
       → ((x : ℕ) (y : BlockCells T) → ((edit x y).slots ≡ y.slots) × (length (edit x y).written ≡ length y.written))

@@ -108,7 +108,7 @@ module _ {T A : Type 0} where
 
   -- so many words of the first spare block are 0
   abbrev pub Cleared : Blocks T → BlockView T A → Type 0
-  Cleared bs v = (b : ℕ) → v.top ≡ b + 1 → (1 ≤ v.cleared → inner bs b 31 ≡ 0) × (2 ≤ v.cleared → inner bs b 32 ≡ 0) × (3 ≤ v.cleared → inner bs b 33 ≡ 0)
+  Cleared bs v = (b i : ℕ) → v.top ≡ b + 1 → i < v.cleared → i < 3 → inner bs b (31 + i) ≡ 0
 
   module _ (moves : QueueForm → A → Event T → A → Type 0) (is_history : HistoryOf T A) (size : (views : List (View T A)) (c : Contents T) (t : _) → is_history Unbounded views c t → ℕ) where
     -- THE HISTORY: a short one has led to what the table shows
