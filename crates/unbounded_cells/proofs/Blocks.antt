@@ -2,7 +2,8 @@
 use Rattle.std.proofs.lemmas.Bool.Decides.{nat_tests}
 use Rattle.std.proofs.Common.{◌==◌, true, false, ◌≡◌, ◌≢◌, ℕ, zero, suc, ◌+◌, ◌<◌, ◌≤◌, ⊎_elim, inl, inr, ◌⊎◌, List, [], ◌∷◌, ◌++◌, length, replicate, get_or, set, refl, sym, ap, ◌∙◌, subst, arith, length-set, get_or-set_other, get_or-set_same}
 use Rattle.std.proofs.lemmas.Bool.{cases_lt}
-use Rattle.std.proofs.lemmas.List.{set-get_or}
+use Rattle.std.proofs.lemmas.List.{set-get_or, get_or-replicate}
+use Rattle.std.proofs.lemmas.Nat.Bits.{bit_at-zero}
 use Rattle.std.specs.Prelude.{Option, None, Some, slice_index, slice_index_or, slice_set}
 use mathlib.Core.Logic.{dite}
 use native.Mathlib.Decide.{ℕ_discrete}
@@ -43,6 +44,21 @@ many_zeros = refl
 
 pub listed : (b : ℕ) (spares : List ℕ) → 1 ≤ times b (b ∷ spares)
 listed b spares = let s = same_is b b refl in let k : ℕ = times b spares in let m : ℕ = same b b in let e : m ≡ 1 = s in let z : 1 ≤ m + k = omega arith in z
+
+pub longer : {X : Type 0} → (l : List X) (x : X) → length (l ++ x ∷ []) ≡ length l + 1
+longer [] x = refl
+longer (y ∷ ys) x = let e = longer ys x in omega arith
+
+pub before_it : {X : Type 0} → (l : List X) (x d : X) (i : ℕ) → i < length l → get_or (l ++ x ∷ []) i d ≡ get_or l i d
+before_it [] x d i h = absurd (omega arith)
+before_it (y ∷ ys) x d zero h = refl
+before_it (y ∷ ys) x d (suc i) h = before_it ys x d i (omega arith)
+
+pub at_it : {X : Type 0} → (l : List X) (x d : X) (i : ℕ) → i ≡ length l → get_or (l ++ x ∷ []) i d ≡ x
+at_it [] x d zero h = refl
+at_it [] x d (suc i) h = absurd (omega arith)
+at_it (y ∷ ys) x d zero h = absurd (omega arith)
+at_it (y ∷ ys) x d (suc i) h = at_it ys x d i (omega arith)
 
 module _ {T : Type 0} where
   -- one block of the table and the same of the queue are put in
@@ -220,3 +236,60 @@ module _ {T : Type 0} where
   first_spare bs top b (x ∷ spares) e c =
       let e' : top ≡ b + 1 = e in let c' : top ≡ x + 1 = c.0 in let same_one : b ≡ x = omega arith in
       subst (λ (j : ℕ). 1 ≤ times j (x ∷ spares)) (sym same_one) (listed x spares)
+
+  -- ---- one block more
+
+  module _ (bs : Blocks T) where
+    abbrev pub with_block : Blocks T
+    with_block = bs ++ state.blank 35 None ∷ []
+
+    pub old_block : (b : ℕ) → b < length bs → block with_block b ≡ block bs b
+    old_block b h = before_it bs (state.blank 35 None) state.no_block b h
+
+    pub new_block : (b : ℕ) → b ≡ length bs → block with_block b ≡ state.blank 35 None
+    new_block b e = at_it bs (state.blank 35 None) state.no_block b e
+
+    pub new_word : (b i : ℕ) → b ≡ length bs → inner with_block b i ≡ 0
+    new_word b i e = ap (λ (x : BlockState (Option T)). slice_index_or x.words i 0) (new_block b e) ∙ zero_at i (replicate 35 0) 35 refl
+
+    pub new_home : (b i : ℕ) → b ≡ length bs → i < 31 → home_of with_block b i ≡ Some None
+    new_home b i e near = ap (λ (x : BlockState (Option T)). slice_index_or x.homes i None) (new_block b e) ∙ get_or-replicate 35 i (Some None) None (omega arith)
+
+    pub one_of : (b : ℕ) → b < length with_block → (b < length bs) ⊎ (b ≡ length bs)
+    one_of b h = ⊎_elim (λ l. inl l) (λ g. inr (let e = longer bs (state.blank 35 None) in let x : ℕ = length bs in let y : ℕ = length with_block in let e' : y ≡ x + 1 = e in let h' : b < y = h in let g' : x ≤ b = g in let z : b ≡ x = omega arith in z)) (cases_lt b (length bs))
+
+    fresh_words : WordsShown (replicate 35 0) (blank {T = T})
+    fresh_words = record {
+      next = refl;
+      reads = refl;
+      written = λ i near. no_flag i ∙ sym (bit_at-zero i);
+    }
+
+    pub added : (cs : List (BlockCells T)) → BlocksShown bs cs [] → BlocksShown with_block (cs ++ blank ∷ []) []
+    added cs s = record {
+      made = longer cs blank ∙ (ap (λ (k : ℕ). k + 1) s.made ∙ sym (longer bs (state.blank 35 None)));
+      used = λ b h z. ⊎_elim
+          (λ l. subst (λ (x : BlockState (Option T)). WordsShown x.words (block_in (cs ++ blank ∷ []) b)) (sym (old_block b l)) (subst (λ (y : BlockCells T). WordsShown (block bs b).words y) (sym (older b l)) (s.used b l z)))
+          (λ e. subst (λ (x : BlockState (Option T)). WordsShown x.words (block_in (cs ++ blank ∷ []) b)) (sym (new_block b e)) (subst (λ (y : BlockCells T). WordsShown (replicate 35 0) y) (sym (newer b e)) fresh_words))
+          (one_of b h);
+      slots = λ b h. ⊎_elim
+          (λ l. subst (λ (x : BlockState (Option T)). SlotsShown x.homes (block_in (cs ++ blank ∷ []) b)) (sym (old_block b l)) (subst (λ (y : BlockCells T). SlotsShown (block bs b).homes y) (sym (older b l)) (s.slots b l)))
+          (λ e. subst (λ (x : BlockState (Option T)). SlotsShown x.homes (block_in (cs ++ blank ∷ []) b)) (sym (new_block b e)) (subst (λ (y : BlockCells T). SlotsShown (replicate 35 (Some None)) y) (sym (newer b e))
+          (slots_blank (replicate 35 (Some None)) (λ i y near f. some_same y None (sym f ∙ get_or-replicate 35 i (Some None) None (omega arith))))))
+          (one_of b h);
+      idle = λ b l. absurd (omega arith);
+      near = λ b l. refl;
+      once = λ b. omega arith;
+    }
+      where
+        some_same : (x y : Option T) → Some x ≡ Some y → x ≡ y
+        some_same x y e = cc
+
+        older : (b : ℕ) → b < length bs → block_in (cs ++ blank ∷ []) b ≡ block_in cs b
+        older b l = before_it cs blank no_block b (subst (λ (k : ℕ). b < k) (sym s.made) l)
+
+        newer : (b : ℕ) → b ≡ length bs → block_in (cs ++ blank ∷ []) b ≡ blank
+        newer b e = at_it cs blank no_block b (e ∙ sym s.made)
+
+    pub slots_remain : (cs : List (BlockCells T)) → length cs ≡ length bs → (b i : ℕ) (x : Option T) → b < length bs → slice_index_or (block_in cs b).slots i None ≡ x → slice_index_or (block_in (cs ++ blank ∷ []) b).slots i None ≡ x
+    slots_remain cs long b i x h e = ap (λ (y : BlockCells T). slice_index_or y.slots i None) (before_it cs blank no_block b (subst (λ (k : ℕ). b < k) (sym long) h)) ∙ e

@@ -10,7 +10,7 @@ use mathlib.Core.Option as home
 use mathlib.Core.Logic.{dite}
 use native.Mathlib.Decide.{ℕ_discrete}
 use lib.ListN.{get_elem?}
-use Rattle.atomic_table.proofs.Lists.{at_set, at_map, set_else}
+use Rattle.atomic_table.proofs.Lists.{at_set, at_map, set_else, set_again}
 use Rattle.growing_table.specs.State as state
 use Rattle.growing_table.specs.State.{Me, me, Act, keeps, takes, gives, own, within, count, block, block_of, home_of, Allows, Makes}
 use Rattle.concurrent_queue.specs.Bridge.{Event, does}
@@ -60,6 +60,9 @@ top_no_root (word.Written b i) h e = absurd h
 
 pub some_is : {X : Type 0} (x y : X) → Some x ≡ Some y → x ≡ y
 some_is x y e = cc
+
+pub pairs : (p q : ℕ × ℕ) → p ≡ q → (p.0 ≡ q.0) × (p.1 ≡ q.1)
+pairs p q e = (ap (λ (p : ℕ × ℕ). p.0) e, ap (λ (p : ℕ × ℕ). p.1) e)
 
 pub none_some : {X : Type 0} (x : X) → None ≢ Some x
 none_some x e = absurd (cc)
@@ -213,3 +216,114 @@ module _ {T A : Type 0} {moves : QueueForm → A → Event T → A → Type 0} {
       let zero_top : slice_index_or s.words 25 0 ≡ 0 = mine.top ∙ top in
       let empty : c.spares ≡ [] = no_spares s.blocks (slice_index_or s.words 25 0) c.spares zero_top q.shown.chain in
       (c.blocks, c.spares, (empty, refl), q.shown.blocks, subst (λ (t : ℕ). Chain s.blocks t c.spares) zero_top q.shown.chain, λ j i x e. e))
+
+  -- ---- the owner of the lock reads and writes words of its own
+
+  -- what the table shows stays, and so does the seat
+  stays : (s : TableState T A) (id k : ℕ) (v : BlockView T A) → Ruled s → get_elem? s.views id ≡ home.some v → Ruled (state.state (set s.words k (slice_index_or s.words k 0)) s.blocks (set s.views id v))
+  stays s id k v r at =
+      subst (λ (ws : List ℕ). Ruled (state.state ws s.blocks (set s.views id v))) (sym (set-get_or s.words k 0))
+      (subst (λ (vs : List (BlockView T A)). Ruled (state.state s.words s.blocks vs)) (sym (set_again s.views id v at)) r)
+
+  pub reads_top : (id : ℕ) (m : Seat) → m.view.keeper ≡ true → Allows Ruled id m (own 25) (λ x. x) (λ x m'. (m' ≡ m) × (x ≡ m.view.top))
+  reads_top id m keeper s r at has small = (m.view, keeps, tt, stays s id 25 m.view r at, (refl, (r.spares id m.view at keeper).top))
+
+  -- it reads or writes a word of a block that the history doesn't see
+  module _ (id n k : ℕ) (m : Seat) (f : ℕ → ℕ) (link : ℕ → Option (ℕ × ℕ)) (cleared : ℕ → ℕ) (behind : 31 ≤ k) (keeper : m.view.keeper ≡ true) (live : m.view.party.spent ≡ false) where
+    abbrev Handed : (s : TableState T A) → n < length s.blocks → Blocks T
+    Handed s there = blocks.with_word s.blocks n k (f (inner s.blocks n k)) there
+
+    by_word : ((s : TableState T A) (there : n < length s.blocks) → k < length (block s.blocks n).words → KeepsSpares s.words s.blocks m.view → (b y : ℕ) → link (inner s.blocks n k) ≡ Some (b, y) → inner (Handed s there) b 34 ≡ y)
+        → ((s : TableState T A) (there : n < length s.blocks) → k < length (block s.blocks n).words → Ruled s → (q : Kept s.words s.blocks s.views) → get_elem? s.views id ≡ home.some m.view
+        → (times n q.contents.spares ≡ 0 → WordsShown (block s.blocks n).words (block_in q.contents.blocks n) → WordsShown (set (block s.blocks n).words k (f (inner s.blocks n k))) (block_in q.contents.blocks n))
+        × ((b : ℕ) → 1 ≤ times b q.contents.spares → inner (Handed s there) b 34 ≡ inner s.blocks b 34) × Cleared (Handed s there) (by_hand m.view (link (inner s.blocks n k)) (cleared (inner s.blocks n k))))
+        → Allows Ruled id m (within n k) f (λ x m'. m' ≡ seen_as m (by_hand m.view (link x) (cleared x)))
+    by_word linked shows s r at has small =
+        let v = m.view in
+        let x : ℕ = inner s.blocks n k in
+        let w = by_hand v (link x) (cleared x) in
+        let bs' = Handed s has.0 in
+        let mine = r.spares id v at keeper in (
+          w,
+          keeps,
+          tt,
+          rule.ruled laws machine admits s s.words bs' id v w r at (length-set s.blocks n _)
+              (λ b i near. blocks.inner_stays s.blocks n k (f x) has.0 b i (λ _ e. absurd (omega arith)))
+              (blocks.homes_stay s.blocks n k (f x) has.0)
+              (λ z. z) refl (inl refl) refl live refl (λ z. z) refl
+              (λ _. record { top = mine.top; link = λ b y e. linked s has.0 has.1 mine b y e })
+              (λ none u g. absurd (let e : true ≡ false = sym keeper ∙ none in cc))
+              (λ q.
+              let g = shows s has.0 has.1 r q at in
+              rule.quiet laws machine admits s.words s.words s.blocks bs' s.views q id v w at refl refl
+              (record {
+                form = q.shown.form;
+                root = q.shown.root;
+                blocks = blocks.set_unseen s.blocks q.contents.blocks q.contents.spares n (set (block s.blocks n).words k (f x)) (block s.blocks n).homes q.shown.blocks has.0 g.0 (q.shown.blocks.slots n has.0);
+                chain = blocks.chain_stays s.blocks bs' (let l : ℕ = length s.blocks in let l' : ℕ = length bs' in let same : l' ≡ l = length-set s.blocks n _ in let z : l ≤ l' = omega arith in z) q.contents.spares (slice_index_or s.words 25 0) g.1 q.shown.chain;
+              })
+              (λ j u b i y e held. ⊎_elim
+              (λ (t : (j ≡ id) × (w ≡ u)). q.away id v b i y at (ap (λ (o : BlockView T A). o.held) t.1 ∙ held))
+              (λ (t : (j ≢ id) × (get_elem? s.views j ≡ home.some u)). q.away j u b i y t.1 held)
+              (at_set s.views id j w u e))
+              (λ j u e is. ⊎_elim
+              (λ (t : (j ≡ id) × (w ≡ u)). subst (λ (o : BlockView T A). Cleared bs' o) t.1 g.2)
+              (λ (t : (j ≢ id) × (get_elem? s.views j ≡ home.some u)). absurd (t.0 (r.single j id u v t.1 at is keeper)))
+              (at_set s.views id j w u e))),
+          refl,
+        )
+
+  -- a word of a block is set to what it holds
+  same_inner : (bs : Blocks T) (n k : ℕ) (there : n < length bs) → k < length (block bs n).words → (b i : ℕ) → inner (blocks.with_word bs n k (inner bs n k) there) b i ≡ inner bs b i
+  same_inner bs n k there long b i = dite (ℕ_discrete b n)
+      (λ e. dite (ℕ_discrete i k)
+      (λ e'. subst (λ (j : ℕ). inner (blocks.with_word bs n k (inner bs n k) there) j i ≡ inner bs j i) (sym e)
+      (subst (λ (j : ℕ). inner (blocks.with_word bs n k (inner bs n k) there) n j ≡ inner bs n j) (sym e') (blocks.inner_put bs n k (inner bs n k) there long)))
+      (λ ne. blocks.inner_stays bs n k (inner bs n k) there b i (λ _. ne)))
+      (λ ne. blocks.inner_stays bs n k (inner bs n k) there b i (λ e. absurd (ne e)))
+
+  -- it reads where the spare block behind one is
+  pub reads_link : (id n : ℕ) (m : Seat) → m.view.keeper ≡ true → m.view.party.spent ≡ false → Allows Ruled id m (within n 34) (λ x. x) (λ x m'. m' ≡ seen_as m (by_hand m.view (Some (n, x)) m.view.cleared))
+  reads_link id n m keeper live = by_word id n 34 m (λ x. x) (λ x. Some (n, x)) (λ _. m.view.cleared) (omega arith) keeper live
+      (λ s there long mine b y e.
+      let both = pairs (n, inner s.blocks n 34) (b, y) (some_is (n, inner s.blocks n 34) (b, y) e) in
+      same_inner s.blocks n 34 there long b 34 ∙ (ap (λ (j : ℕ). inner s.blocks j 34) (sym both.0) ∙ both.1))
+      (λ s there long r q at. (
+        λ _ g. subst (λ (l : List ℕ). WordsShown l (block_in q.contents.blocks n)) (sym (set-get_or (block s.blocks n).words 34 0)) g,
+        λ b l. same_inner s.blocks n 34 there long b 34,
+        λ b i top low few. same_inner s.blocks n 34 there long b (31 + i) ∙ q.cleared id m.view at keeper b i top low few,
+      ))
+
+  -- it links a block that its party is to give back
+  pub writes_link : (id n : ℕ) (m : Seat) (a : A) → m.view.keeper ≡ true → m.view.party.spent ≡ false → moves Unbounded m.view.party.state (does (Some (deed.retired n))) a
+      → Allows Ruled id m (within n 34) (λ _. m.view.top) (λ _ m'. m' ≡ seen_as m (by_hand m.view (Some (n, m.view.top)) m.view.cleared))
+  writes_link id n m a keeper live may = by_word id n 34 m (λ _. m.view.top) (λ _. Some (n, m.view.top)) (λ _. m.view.cleared) (omega arith) keeper live
+      (λ s there long mine b y e.
+      let both = pairs (n, m.view.top) (b, y) (some_is (n, m.view.top) (b, y) e) in
+      subst (λ (j : ℕ). inner (blocks.with_word s.blocks n 34 m.view.top there) j 34 ≡ y) both.0 (blocks.inner_put s.blocks n 34 m.view.top there long ∙ both.1))
+      (λ s there long r q at.
+      let u = machine.in_use (parties s.views) q.contents (tally_in Unbounded s.words) q.history q.short id m.view.party (deed.retired n) n (at_map party s.views id m.view at) (a, may) refl in (
+        λ _ g. record {
+          next = g.next ∙ sym (get_or-set_other (block s.blocks n).words 34 31 m.view.top 0 (λ e. absurd (omega arith)));
+          reads = g.reads ∙ sym (get_or-set_other (block s.blocks n).words 34 32 m.view.top 0 (λ e. absurd (omega arith)));
+          written = λ i near. g.written i near ∙ ap (λ (x : ℕ). bit_at x i) (sym (get_or-set_other (block s.blocks n).words 34 33 m.view.top 0 (λ e. absurd (omega arith))));
+        },
+        λ b l. blocks.inner_stays s.blocks n 34 m.view.top there b 34 (λ e. absurd (let z = subst (λ (j : ℕ). 1 ≤ times j q.contents.spares) e l in let j : ℕ = times n q.contents.spares in let o : 1 ≤ j = z in let p : j ≡ 0 = u.1 in omega arith)),
+        λ b i top low few. blocks.inner_stays s.blocks n 34 m.view.top there b (31 + i) (λ _ e. absurd (omega arith)) ∙ q.cleared id m.view at keeper b i top low few,
+      ))
+
+  -- IT CLEARS A WORD of the first spare block
+  pub clears : (id n j : ℕ) (m : Seat) → m.view.keeper ≡ true → m.view.party.spent ≡ false → j < 3 → m.view.top ≡ n + 1 → m.view.cleared ≡ j
+      → Allows Ruled id m (within n (31 + j)) (λ _. 0) (λ _ m'. m' ≡ seen_as m (by_hand m.view m.view.link (j + 1)))
+  clears id n j m keeper live near top so_far = by_word id n (31 + j) m (λ _. 0) (λ _. m.view.link) (λ _. j + 1) (omega arith) keeper live
+      (λ s there long mine b y e. blocks.inner_stays s.blocks n (31 + j) 0 there b 34 (λ _ e. absurd (omega arith)) ∙ mine.link b y e)
+      (λ s there long r q at.
+      let first = blocks.first_spare s.blocks (slice_index_or s.words 25 0) n q.contents.spares ((r.spares id m.view at keeper).top ∙ top) q.shown.chain in (
+        λ used g. absurd (let z : ℕ = times n q.contents.spares in let o : 1 ≤ z = first in let p : z ≡ 0 = used in omega arith),
+        λ b l. blocks.inner_stays s.blocks n (31 + j) 0 there b 34 (λ _ e. absurd (omega arith)),
+        λ b i is low few.
+            let same : b ≡ n = (let t : ℕ = m.view.top in let x : t ≡ b + 1 = is in let y : t ≡ n + 1 = top in omega arith) in
+            dite (ℕ_discrete i j)
+            (λ e. ap (λ (z : ℕ). inner (blocks.with_word s.blocks n (31 + j) 0 there) z (31 + i)) same ∙ (ap (λ (z : ℕ). inner (blocks.with_word s.blocks n (31 + j) 0 there) n (31 + z)) e ∙ blocks.inner_put s.blocks n (31 + j) 0 there long))
+            (λ ne. blocks.inner_stays s.blocks n (31 + j) 0 there b (31 + i) (λ _ e. ne (omega arith)) ∙ q.cleared id m.view at keeper b i is (let c : ℕ = m.view.cleared in let f : c ≡ j = so_far in let z : i < c = omega arith in z) few),
+      ))
