@@ -327,3 +327,72 @@ module _ {T A : Type 0} {moves : QueueForm → A → Event T → A → Type 0} {
             (λ e. ap (λ (z : ℕ). inner (blocks.with_word s.blocks n (31 + j) 0 there) z (31 + i)) same ∙ (ap (λ (z : ℕ). inner (blocks.with_word s.blocks n (31 + j) 0 there) n (31 + z)) e ∙ blocks.inner_put s.blocks n (31 + j) 0 there long))
             (λ ne. blocks.inner_stays s.blocks n (31 + j) 0 there b (31 + i) (λ _ e. ne (omega arith)) ∙ q.cleared id m.view at keeper b i is (let c : ℕ = m.view.cleared in let f : c ≡ j = so_far in let z : i < c = omega arith in z) few),
       ))
+
+  -- ---- A NEW BLOCK
+
+  pub makes_so : (id : ℕ) (m : Seat) → m.view.keeper ≡ true → m.view.party.spent ≡ false → m.view.top ≡ 0 → ((b : ℕ) → (a : A) × moves Unbounded m.view.party.state (does (Some (deed.spared (Ok b)))) a)
+      → Makes Ruled 35 None id m (λ b m'. moves Unbounded m.view.party.state (does (Some (deed.spared (Ok b)))) m'.view.party.state × (m' ≡ seen_as m (at_top (on_with m.view m'.view.party.state) 0)))
+  makes_so id m keeper live top fits s r at =
+      let v = m.view in
+      let n : ℕ = length s.blocks in
+      let a = fits n in
+      let w = at_top (on_with v a.0) 0 in
+      let bs' = blocks.with_block s.blocks in
+      let mine = r.spares id v at keeper in
+      let zero_top : slice_index_or s.words 25 0 ≡ 0 = mine.top ∙ top in
+      let more : length bs' ≡ n + 1 = blocks.longer s.blocks _ in
+      let old_inner : (b i : ℕ) → b < n → inner bs' b i ≡ inner s.blocks b i = (λ b i l. ap (λ (x : state.BlockState (Option T)). slice_index_or x.words i 0) (blocks.old_block s.blocks b l)) in (
+        w,
+        rule.settled laws machine admits s s.words bs' id v w r at
+            (λ b h. ⊎_elim
+            (λ l. subst (λ (x : state.BlockState (Option T)). 31 ≤ length x.homes) (sym (blocks.old_block s.blocks b l)) (r.sized b l))
+            (λ e. subst (λ (x : state.BlockState (Option T)). 31 ≤ length x.homes) (sym (blocks.new_block s.blocks b e)) (omega arith))
+            (blocks.one_of s.blocks b h))
+            (λ b i h near. ⊎_elim
+            (λ l. rule.guarded_so laws machine admits s s.words bs' id v w at refl b i (old_inner b i l) (ap (λ (x : state.BlockState (Option T)). slice_index_or x.homes i None) (blocks.old_block s.blocks b l)) (r.guards b i l near))
+            (λ e. inl (
+              blocks.new_word s.blocks b i e,
+              (None, blocks.new_home s.blocks b i e near),
+              λ j u f z.
+                  (let o = rule.was laws machine admits s id v w at j u refl f in
+                  let l = r.there j o.0 b i o.1 (sym o.2 ∙ z) in let l' : b < n = l in let e' : b ≡ n = e in absurd (omega arith)),
+            ))
+            (blocks.one_of s.blocks b h))
+            (λ j u b i f z.
+            (let o = rule.was laws machine admits s id v w at j u refl f in
+            let l = r.there j o.0 b i o.1 (sym o.2 ∙ z) in let k : ℕ = length bs' in let l' : b < n = l in let g : k ≡ n + 1 = more in let y : b < k = omega arith in y))
+            (λ z. z) refl (inl refl) refl live (λ z. z) refl
+            (λ _. record { top = zero_top; link = λ b y e. absurd (none_some (b, y) e) })
+            (λ none u g. absurd (let e : true ≡ false = sym keeper ∙ none in cc))
+            (λ q.
+            let c = q.contents in
+            let empty : c.spares ≡ [] = no_spares s.blocks (slice_index_or s.words 25 0) c.spares zero_top q.shown.chain in
+            let e : Contents T = record c { blocks = c.blocks ++ blank ∷ []; spares = [] } in
+            let none : BlocksShown s.blocks c.blocks [] = subst (λ (l : List ℕ). BlocksShown s.blocks c.blocks l) empty q.shown.blocks in
+            rule.by_deed laws machine admits s.words s.words s.blocks bs' s.views q id v w (deed.spared (Ok n)) e at
+            (
+              sym q.shown.blocks.made ∙ ap (λ (l : List ℕ). spare_in l (length c.blocks)) (sym empty),
+              ap (λ (l : List ℕ). record c { blocks = blocks_with l c.blocks; spares = others_of l }) (sym empty),
+              (let k : ℕ = length c.blocks in let f : k < 2 ^ 61 = few s q in let j : ℕ = length (c.blocks ++ blank ∷ []) in let g : j ≡ k + 1 = blocks.longer c.blocks blank in let z : j < 2 ^ 64 = omega arith in z),
+            ) a.1 refl
+            (record {
+              form = q.shown.form;
+              root = λ o h. blocks.root_stays c (c.blocks ++ blank ∷ []) [] o h ∙ q.shown.root o h;
+              blocks = blocks.added s.blocks c.blocks none;
+              chain = zero_top;
+            })
+            (λ j u b i x f held.
+            (let l : b < n = ⊎_elim
+            (λ (t : (j ≡ id) × (w ≡ u)). r.there id v b i at (ap slot_in (ap (λ (o : BlockView T A). o.held) t.1 ∙ held)))
+            (λ (t : (j ≢ id) × (get_elem? s.views j ≡ home.some u)). r.there j u b i t.1 (ap slot_in held))
+            (at_set s.views id j w u f) in
+            blocks.slots_remain s.blocks c.blocks q.shown.blocks.made b i x l (⊎_elim
+            (λ (t : (j ≡ id) × (w ≡ u)). q.away id v b i x at (ap (λ (o : BlockView T A). o.held) t.1 ∙ held))
+            (λ (t : (j ≢ id) × (get_elem? s.views j ≡ home.some u)). q.away j u b i x t.1 held)
+            (at_set s.views id j w u f))))
+            (λ j u e is. ⊎_elim
+            (λ (t : (j ≡ id) × (w ≡ u)). subst (λ (o : BlockView T A). Cleared bs' o) t.1 (λ b i is low near. absurd (let low' : i < 0 = low in omega arith)))
+            (λ (t : (j ≢ id) × (get_elem? s.views j ≡ home.some u)). absurd (t.0 (r.single j id u v t.1 at is keeper)))
+            (at_set s.views id j w u e))),
+        (a.1, refl),
+      )

@@ -102,11 +102,10 @@ module _ {T A : Type 0} {moves : QueueForm → A → Event T → A → Type 0} {
   -- ---- the seats and the guards, where a view changes and holds what it held
 
   module _ (s : S) (id : ℕ) (v w : V) (at : get_elem? s.views id ≡ home.some v) where
-    pub was : (j : ℕ) (u : V) → slot_of w ≡ slot_of v → (w.keeper ≡ true → v.keeper ≡ true) → get_elem? (set s.views id w) j ≡ home.some u
-        → (o : V) × (get_elem? s.views j ≡ home.some o) × (slot_of u ≡ slot_of o) × (u.keeper ≡ true → o.keeper ≡ true)
-    was j u slot keeper e = ⊎_elim
-        (λ (t : (j ≡ id) × (w ≡ u)). (v, ap (get_elem? s.views) t.0 ∙ at, subst (λ (y : V). slot_of y ≡ slot_of v) t.1 slot, subst (λ (y : V). y.keeper ≡ true → v.keeper ≡ true) t.1 keeper))
-        (λ (t : (j ≢ id) × (get_elem? s.views j ≡ home.some u)). (u, t.1, refl, λ z. z))
+    pub was : (j : ℕ) (u : V) → slot_of w ≡ slot_of v → get_elem? (set s.views id w) j ≡ home.some u → (o : V) × (get_elem? s.views j ≡ home.some o) × (slot_of u ≡ slot_of o)
+    was j u slot e = ⊎_elim
+        (λ (t : (j ≡ id) × (w ≡ u)). (v, ap (get_elem? s.views) t.0 ∙ at, subst (λ (y : V). slot_of y ≡ slot_of v) t.1 slot))
+        (λ (t : (j ≢ id) × (get_elem? s.views j ≡ home.some u)). (u, t.1, refl))
         (at_set s.views id j w u e)
 
     pub is_now : (j : ℕ) (o : V) → slot_of w ≡ slot_of v → get_elem? s.views j ≡ home.some o → (u : V) × (get_elem? (set s.views id w) j ≡ home.some u) × (slot_of u ≡ slot_of o)
@@ -118,36 +117,24 @@ module _ {T A : Type 0} {moves : QueueForm → A → Event T → A → Type 0} {
         ))
         (λ apart. (o, set_else s.views id j w apart ∙ e, refl))
 
-  pub ruled : (s : S) (ws' : List ℕ) (bs' : Blocks T) (id : ℕ) (v w : V) (r : R s) → get_elem? s.views id ≡ home.some v
-      → length bs' ≡ length s.blocks → ((b i : ℕ) → i < 31 → inner bs' b i ≡ inner s.blocks b i) → ((b : ℕ) → (block bs' b).homes ≡ (block s.blocks b).homes)
+  -- all but the guards, which are said to hold
+  pub settled : (s : S) (ws' : List ℕ) (bs' : Blocks T) (id : ℕ) (v w : V) (r : R s) → get_elem? s.views id ≡ home.some v
+      → ((b : ℕ) → b < length bs' → 31 ≤ length (block bs' b).homes)
+      → ((b i : ℕ) → b < length bs' → i < 31 → IsFree (state.state ws' bs' (set s.views id w)) b i ⊎ IsWon (state.state ws' bs' (set s.views id w)) b i)
+      → ((j : ℕ) (u : V) (b i : ℕ) → get_elem? (set s.views id w) j ≡ home.some u → slot_of u ≡ Some (b, i) → b < length bs')
       → (IsNamed id v.party → IsNamed id w.party) → w.party.form ≡ v.party.form → ListsNoMore w.party v.party → w.party.foreign ≡ v.party.foreign → v.party.spent ≡ false
-      → slot_of w ≡ slot_of v → (w.keeper ≡ true → v.keeper ≡ true) → slice_index ws' 24 ≡ slice_index s.words 24
+      → (w.keeper ≡ true → v.keeper ≡ true) → slice_index ws' 24 ≡ slice_index s.words 24
       → (w.keeper ≡ true → KeepsSpares ws' bs' w) → (v.keeper ≡ false → (u : V) → KeepsSpares s.words s.blocks u → KeepsSpares ws' bs' u)
       → (K s.words s.blocks s.views → KeptOrLong ws' bs' (set s.views id w))
       → R (state.state ws' bs' (set s.views id w))
-  ruled s ws' bs' id v w r at long guard homes named kind over strange live slot keeper flag mine theirs kept = record {
-    sized = λ b h. subst (λ (l : List (Option (Option T))). 31 ≤ length l) (sym (homes b)) (r.sized b (back b h));
-    guards = λ b i h near. ⊎_elim
-        (λ (f : IsFree s b i). inl (
-          guard b i near ∙ f.0,
-          (f.1.0, ap (λ (l : List (Option (Option T))). slice_index_or l i None) (homes b) ∙ f.1.1),
-          λ j u e z. (let o = was s id v w at j u slot keeper e in f.2 j o.0 o.1 (sym o.2 ∙ z)),
-        ))
-        (λ (g : IsWon s b i).
-        let u = is_now s id v w at g.0 g.3.0 slot g.3.1 in
-        inr (
-          g.0,
-          guard b i near ∙ g.1,
-          ap (λ (l : List (Option (Option T))). slice_index_or l i None) (homes b) ∙ g.2,
-          (u.0, u.1, u.2 ∙ g.3.2),
-          λ k y e z. (let o = was s id v w at k y slot keeper e in g.4 k o.0 o.1 (sym o.2 ∙ z)),
-        ))
-        (r.guards b i (back b h) near);
-    there = λ j u b i e z. (let o = was s id v w at j u slot keeper e in subst (λ (k : ℕ). b < k) (sym long) (r.there j o.0 b i o.1 (sym o.2 ∙ z)));
+  settled s ws' bs' id v w r at sized guards there named kind over strange live keeper flag mine theirs kept = record {
+    sized = sized;
+    guards = guards;
+    there = there;
     seated = subst (λ (l : List (View T A)). AreSeated Unbounded (slice_index ws' 24) l) (sym (map-set party s.views id w))
         (seats.seats_step Unbounded (slice_index s.words 24) (slice_index ws' 24) (parties s.views) id v.party w.party (at_map party s.views id v at) named kind over live (λ n e. n (sym flag ∙ e))
         (λ is e. r.seated.admitted id v.party (at_map party s.views id v at) (sym strange ∙ is) (sym flag ∙ e)) r.seated);
-    single = λ j k u y e f a b. (let o = was s id v w at j u slot keeper e in let p = was s id v w at k y slot keeper f in r.single j k o.0 p.0 o.1 p.1 (o.3 a) (p.3 b));
+    single = λ j k u y e f a b. (let o = kept_by j u e a in let p = kept_by k y f b in r.single j k o.0 p.0 o.1 p.1 o.2 p.2);
     spares = λ j u e is. ⊎_elim
         (λ (t : (j ≡ id) × (w ≡ u)). subst (λ (y : V). KeepsSpares ws' bs' y) t.1 (mine (ap (λ (y : V). y.keeper) t.1 ∙ is)))
         (λ (t : (j ≢ id) × (get_elem? s.views j ≡ home.some u)). ⊎_elim
@@ -158,8 +145,46 @@ module _ {T A : Type 0} {moves : QueueForm → A → Event T → A → Type 0} {
     kept = λ zero. ⊎_elim kept (λ far. inr far) (r.kept (λ a. sym flag ∙ zero a));
   }
     where
-      back : (b : ℕ) → b < length bs' → b < length s.blocks
-      back b h = subst (λ (k : ℕ). b < k) long h
+      kept_by : (j : ℕ) (u : V) → get_elem? (set s.views id w) j ≡ home.some u → u.keeper ≡ true → (o : V) × (get_elem? s.views j ≡ home.some o) × (o.keeper ≡ true)
+      kept_by j u e is = ⊎_elim
+          (λ (t : (j ≡ id) × (w ≡ u)). (v, ap (get_elem? s.views) t.0 ∙ at, keeper (ap (λ (y : V). y.keeper) t.1 ∙ is)))
+          (λ (t : (j ≢ id) × (get_elem? s.views j ≡ home.some u)). (u, t.1, is))
+          (at_set s.views id j w u e)
+
+  -- a guard says what it said, and its slot is where it was
+  pub guarded_so : (s : S) (ws' : List ℕ) (bs' : Blocks T) (id : ℕ) (v w : V) → get_elem? s.views id ≡ home.some v → slot_of w ≡ slot_of v → (b i : ℕ) → inner bs' b i ≡ inner s.blocks b i → home_of bs' b i ≡ home_of s.blocks b i
+      → IsFree s b i ⊎ IsWon s b i → IsFree (state.state ws' bs' (set s.views id w)) b i ⊎ IsWon (state.state ws' bs' (set s.views id w)) b i
+  guarded_so s ws' bs' id v w at slot b i guard at_home h = ⊎_elim
+      (λ (f : IsFree s b i). inl (
+        guard ∙ f.0,
+        (f.1.0, at_home ∙ f.1.1),
+        λ j u e z. (let o = was s id v w at j u slot e in f.2 j o.0 o.1 (sym o.2 ∙ z)),
+      ))
+      (λ (g : IsWon s b i).
+      let u = is_now s id v w at g.0 g.3.0 slot g.3.1 in
+      inr (
+        g.0,
+        guard ∙ g.1,
+        at_home ∙ g.2,
+        (u.0, u.1, u.2 ∙ g.3.2),
+        λ k y e z. (let o = was s id v w at k y slot e in g.4 k o.0 o.1 (sym o.2 ∙ z)),
+      ))
+      h
+
+  pub ruled : (s : S) (ws' : List ℕ) (bs' : Blocks T) (id : ℕ) (v w : V) (r : R s) → get_elem? s.views id ≡ home.some v
+      → length bs' ≡ length s.blocks → ((b i : ℕ) → i < 31 → inner bs' b i ≡ inner s.blocks b i) → ((b : ℕ) → (block bs' b).homes ≡ (block s.blocks b).homes)
+      → (IsNamed id v.party → IsNamed id w.party) → w.party.form ≡ v.party.form → ListsNoMore w.party v.party → w.party.foreign ≡ v.party.foreign → v.party.spent ≡ false
+      → slot_of w ≡ slot_of v → (w.keeper ≡ true → v.keeper ≡ true) → slice_index ws' 24 ≡ slice_index s.words 24
+      → (w.keeper ≡ true → KeepsSpares ws' bs' w) → (v.keeper ≡ false → (u : V) → KeepsSpares s.words s.blocks u → KeepsSpares ws' bs' u)
+      → (K s.words s.blocks s.views → KeptOrLong ws' bs' (set s.views id w))
+      → R (state.state ws' bs' (set s.views id w))
+  ruled s ws' bs' id v w r at long guard homes named kind over strange live slot keeper flag mine theirs kept =
+      let back : (b : ℕ) → b < length bs' → b < length s.blocks = (λ b h. subst (λ (k : ℕ). b < k) long h) in
+      settled s ws' bs' id v w r at
+      (λ b h. subst (λ (l : List (Option (Option T))). 31 ≤ length l) (sym (homes b)) (r.sized b (back b h)))
+      (λ b i h near. guarded_so s ws' bs' id v w at slot b i (guard b i near) (ap (λ (l : List (Option (Option T))). slice_index_or l i None) (homes b)) (r.guards b i (back b h) near))
+      (λ j u b i e z. (let o = was s id v w at j u slot e in subst (λ (k : ℕ). b < k) (sym long) (r.there j o.0 b i o.1 (sym o.2 ∙ z))))
+      named kind over strange live keeper flag mine theirs kept
 
   -- what is cleared of the first spare block is beside a block in use
   pub unseen : (s : S) (r : R s) (bs' : Blocks T) (n : ℕ) (q : K s.words s.blocks s.views) → times n q.contents.spares ≡ 0 → ((b i : ℕ) → b ≢ n → inner bs' b i ≡ inner s.blocks b i) → (j : ℕ) (g : V) → get_elem? s.views j ≡ home.some g → g.keeper ≡ true
