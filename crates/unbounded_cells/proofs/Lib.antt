@@ -2,3 +2,4 @@ mod Blocks
 mod Steps
 mod Room
 mod Spares
+mod Slots
