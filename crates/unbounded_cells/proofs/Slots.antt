@@ -249,3 +249,158 @@ module _ {T A : Type 0} {moves : QueueForm → A → Event T → A → Type 0} {
       (λ (t : (j ≡ id) × (w ≡ g)). q.cleared id v at (ap (λ (o : BlockView T A). o.keeper) t.1 ∙ is) b k (ap (λ (o : BlockView T A). o.top) t.1 ∙ top) (subst (λ (o : BlockView T A). k < o.cleared) (sym t.1) low) few)
       (λ (t : (j ≢ id) × (get_elem? s.views j ≡ home.some g)). q.cleared j g t.1 is b k top low few)
       (at_set s.views id j w g e)))
+
+  -- nothing is done
+  missed : (s : TableState T A) (id n i : ℕ) (v : BlockView T A) → Ruled s → get_elem? s.views id ≡ home.some v → Ruled (state.state s.words (set s.blocks n (block_of (set (block s.blocks n).words i (inner s.blocks n i)) (block s.blocks n).homes)) (set s.views id v))
+  missed s id n i v r at =
+      subst (λ (ws : List ℕ). Ruled (state.state s.words (set s.blocks n (block_of ws (block s.blocks n).homes)) (set s.views id v))) (sym (set-get_or (block s.blocks n).words i 0))
+      (subst (λ (bs : Blocks T). Ruled (state.state s.words bs (set s.views id v))) (sym (set-get_or s.blocks n state.no_block))
+      (subst (λ (vs : List (BlockView T A)). Ruled (state.state s.words s.blocks vs)) (sym (set_again s.views id v at)) r))
+
+  -- what was found in the slot that was won, and what the history has there from now on
+  abbrev pub Won : ℕ → ℕ → Option T → Option T → Deed T → Seat → Seat → Type 0
+  Won n i x y d m m' = moves Unbounded m.view.party.state (does (Some d)) m'.view.party.state × (m' ≡ me (holds (on_with m.view m'.view.party.state) (Some (n, i, y))) (Some (n, i, x)))
+
+  abbrev pub Takes : ℕ → ℕ → Seat → ℕ → Seat → Type 0
+  Takes n i m found m' = (found ≡ 0 → (x : Option T) × Won n i x None (deed.did_take (In n i) x) m m') × (found ≢ 0 → m' ≡ m)
+
+  abbrev pub PutOn : ℕ → ℕ → T → Option T → Seat → Seat → Type 0
+  PutOn n i v None m m' = Won n i None (Some v) (deed.did_put (In n i) v (Ok tt)) m m'
+  PutOn n i v (Some y) m m' = Won n i (Some y) (Some y) (deed.did_put (In n i) v (Err v)) m m'
+
+  abbrev pub Puts : ℕ → ℕ → T → Seat → ℕ → Seat → Type 0
+  Puts n i v m found m' = (found ≡ 0 → (x : Option T) × PutOn n i v x m m') × (found ≢ 0 → m' ≡ m)
+
+  abbrev Goes : TableState T A → ℕ → ℕ → ℕ → Seat → (Seat → Type 0) → ℕ → Type 0
+  Goes s id n i m then z = state.Goes Ruled s.words (set s.blocks n (block_of (set (block s.blocks n).words i z) (block s.blocks n).homes)) s.views id m then
+
+  -- it is won with this operation
+  won_by : (s : TableState T A) (id n i : ℕ) (m : Seat) (a : A) (d : Deed T) (x y : Option T) (then : Seat → Type 0) (r : Ruled s) → get_elem? s.views id ≡ home.some m.view → n < length s.blocks → i < length (block s.blocks n).words → i < 31
+      → m.view.held ≡ None → m.view.party.spent ≡ false → inner s.blocks n i ≡ 0 → home_of s.blocks n i ≡ Some x → deed_block d ≡ Some n
+      → ((c : Contents T) → n < length c.blocks → i < length (block_at c n).slots → slice_index_or (block_at c n).slots i None ≡ x → Does d c (with_block c n (with_slot (block_at c n) i y)))
+      → moves Unbounded m.view.party.state (does (Some d)) a → then (me (holds (on_with m.view a) (Some (n, i, y))) (Some (n, i, x))) → Goes s id n i m then 1
+  won_by s id n i m a d x y then r at there long near idle live zero_is at_home touches effect made told = (
+    holds (on_with m.view a) (Some (n, i, y)),
+    takes n i x,
+    ap (λ (l : Homes T). slice_index_or l i None) (blocks.homes_stay s.blocks n i 1 there n) ∙ at_home,
+    subst (λ (bs : Blocks T). Ruled (state.state s.words bs (set s.views id (holds (on_with m.view a) (Some (n, i, y)))))) (sym (in_turn s.blocks n i 1 None there))
+        (won s id n i m a d x y r at there long near idle live zero_is at_home touches effect made),
+    told,
+  )
+
+  -- A MESSAGE IS TAKEN in the step that wins the guard; where another seat has the slot nothing was done
+  pub takes_so : (id n i : ℕ) (m : Seat) → i < 31 → m.view.held ≡ None → m.view.party.spent ≡ false → ((o : Option T) → (a : A) × moves Unbounded m.view.party.state (does (Some (deed.did_take (In n i) o))) a)
+      → Allows Ruled id m (within n i) (λ y. either (eqb y 0) 1 y) (Takes n i m)
+  takes_so id n i m near idle live fits s r at has small =
+      lists.exchanged (inner s.blocks n i) 0 1 (Goes s id n i m (Takes n i m (inner s.blocks n i)))
+      (λ hit.
+      let f = is_free s n i hit (r.guards n i has.0 near) in
+      let x : Option T = f.1.0 in
+      let b = fits x in
+      won_by s id n i m b.0 (deed.did_take (In n i) x) x None (Takes n i m (inner s.blocks n i)) r at has.0 has.1 near idle live hit f.1.1 refl
+      (λ c there long e. (sym e, refl)) b.1
+      ((λ _. (x, (b.1, refl))), λ miss. absurd (miss hit)))
+      (λ miss. (m.view, keeps, tt, missed s id n i m.view r at, ((λ hit. absurd (miss hit)), λ _. refl)))
+
+  -- A MESSAGE IS PUT IN likewise, or handed back
+  pub puts_so : (id n i : ℕ) (m : Seat) (v : T) → i < 31 → m.view.held ≡ None → m.view.party.spent ≡ false → ((o : Result Unit T) → (a : A) × moves Unbounded m.view.party.state (does (Some (deed.did_put (In n i) v o))) a)
+      → Allows Ruled id m (within n i) (λ y. either (eqb y 0) 1 y) (Puts n i v m)
+  puts_so id n i m v near idle live fits s r at has small =
+      lists.exchanged (inner s.blocks n i) 0 1 (Goes s id n i m (Puts n i v m (inner s.blocks n i)))
+      (λ hit. let f = is_free s n i hit (r.guards n i has.0 near) in brought s r at has hit f.1.0 f.1.1)
+      (λ miss. (m.view, keeps, tt, missed s id n i m.view r at, ((λ hit. absurd (miss hit)), λ _. refl)))
+    where
+      brought : (s : TableState T A) (r : Ruled s) → get_elem? s.views id ≡ home.some m.view → state.Has s.words s.blocks (within n i) → inner s.blocks n i ≡ 0 → (x : Option T) → home_of s.blocks n i ≡ Some x
+          → Goes s id n i m (Puts n i v m (inner s.blocks n i)) 1
+      brought s r at has hit None there =
+          let b = fits (Ok tt) in
+          won_by s id n i m b.0 (deed.did_put (In n i) v (Ok tt)) None (Some v) (Puts n i v m (inner s.blocks n i)) r at has.0 has.1 near idle live hit there refl
+          (λ c made long e. (vacant (block_at c n).slots i None long e, refl)) b.1
+          ((λ _. (None, (b.1, refl))), λ miss. absurd (miss hit))
+      brought s r at has hit (Some y) there =
+          let b = fits (Err v) in
+          won_by s id n i m b.0 (deed.did_put (In n i) v (Err v)) (Some y) (Some y) (Puts n i v m (inner s.blocks n i)) r at has.0 has.1 near idle live hit there refl
+          (λ c made long e. (
+            vacant (block_at c n).slots i (Some y) long e,
+            refl,
+            (let same : set (block_at c n).slots i (Some y) ≡ (block_at c n).slots = subst (λ (o : Option T). set (block_at c n).slots i o ≡ (block_at c n).slots) e (set-get_or (block_at c n).slots i None) in
+            ap (λ (l : List (Option T)). with_block c n (record (block_at c n) { slots = l })) same ∙ ap (λ (l : List (BlockCells T)). record c { blocks = l }) (set-get_or c.blocks n no_block)),
+          )) b.1
+          ((λ _. (Some y, (b.1, refl))), λ miss. absurd (miss hit))
+
+  -- THE SLOT AND ITS GUARD ARE GIVEN BACK
+  pub gives_so : (id n i : ℕ) (m : Seat) (y : Option T) → i < 31 → m.view.held ≡ Some (n, i, y) → m.hand ≡ Some (n, i, y) → m.view.party.spent ≡ false → Allows Ruled id m (within n i) (λ _. 0) (λ _ m'. m' ≡ me (holds m.view None) None)
+  gives_so id n i m y near held has_it live s r at has small = (
+    holds m.view None,
+    gives n i y,
+    has_it,
+    subst (λ (bs : Blocks T). Ruled (state.state s.words bs (set s.views id (holds m.view None)))) (sym (in_turn s.blocks n i 0 (Some y) has.0)) given,
+    refl,
+  )
+    where
+      v : BlockView T A
+      v = m.view
+
+      w : BlockView T A
+      w = holds m.view None
+
+      bs' : Blocks T
+      bs' = with_slots s.blocks n i 0 (Some y) has.0
+
+      same_length : length bs' ≡ length s.blocks
+      same_length = length-set s.blocks n _
+
+      out : slot_of v ≡ Some (n, i)
+      out = ap slot_in held
+
+      deep : (b k : ℕ) → 31 ≤ k → inner bs' b k ≡ inner s.blocks b k
+      deep b k far = guard_other s.blocks n i 0 (Some y) has.0 b k (λ _ e. absurd (omega arith))
+
+      spares_stay : (u : BlockView T A) → KeepsSpares s.words s.blocks u → KeepsSpares s.words bs' u
+      spares_stay u g = record { top = g.top; link = λ b z e. deep b 34 (omega arith) ∙ g.link b z e }
+
+      nobody : (k : ℕ) (u : BlockView T A) → get_elem? (set s.views id w) k ≡ home.some u → slot_of u ≢ Some (n, i)
+      nobody k u e z = ⊎_elim
+          (λ (t : (k ≡ id) × (w ≡ u)). none_some (n, i) (ap slot_of t.1 ∙ z))
+          (λ (t : (k ≢ id) × (get_elem? s.views k ≡ home.some u)). ⊎_elim (λ (f : IsFree s n i). f.2 k u t.1 z) (λ (x : IsWon s n i). t.0 (x.4 k u t.1 z ∙ sym (x.4 id v at out))) (r.guards n i has.0 near))
+          (at_set s.views id k w u e)
+
+      given : Ruled (state.state s.words bs' (set s.views id w))
+      given = rule.settled laws machine admits s s.words bs' id v w r at
+          (λ b h. subst (λ (k : ℕ). 31 ≤ k) (sym (still_sized s.blocks n i 0 (Some y) has.0 b)) (r.sized b (subst (λ (k : ℕ). b < k) same_length h)))
+          (λ b j h low. ⊎_elim
+          (λ (t : (b ≡ n) × (j ≡ i)). subst (λ (p : ℕ × ℕ). IsFree (state.state s.words bs' (set s.views id w)) p.0 p.1 ⊎ IsWon (state.state s.words bs' (set s.views id w)) p.0 p.1) (λ k. (sym t.0 k, sym t.1 k)) (inl (
+            guard_here s.blocks n i 0 (Some y) has.0 has.1,
+            (y, home_here s.blocks n i 0 (Some y) has.0 (in_homes s r n i has.0 near)),
+            nobody,
+          )))
+          (λ apart. beside s id n i 0 (Some y) v w has.0 b j apart at
+          (λ e. (let p = two (n, i) (b, j) (some_is (n, i) (b, j) (sym out ∙ e)) in apart (sym p.0) (sym p.1)))
+          (λ e. none_some (b, j) e) (r.guards b j (subst (λ (k : ℕ). b < k) same_length h) low))
+          (here_or_apart n i b j))
+          (λ j u b k e z. subst (λ (l : ℕ). b < l) (sym same_length) (⊎_elim
+          (λ (t : (j ≡ id) × (w ≡ u)). absurd (none_some (b, k) (ap slot_of t.1 ∙ z)))
+          (λ (t : (j ≢ id) × (get_elem? s.views j ≡ home.some u)). r.there j u b k t.1 z)
+          (at_set s.views id j w u e)))
+          (λ z. z) refl (inl refl) refl live (λ z. z) refl
+          (λ is. let g = spares_stay v (r.spares id v at is) in record { top = g.top; link = g.link })
+          (λ _ u g. spares_stay u g)
+          (λ q.
+          let c = q.contents in
+          rule.quiet laws machine admits s.words s.words s.blocks bs' s.views q id v w at refl refl
+          (record {
+            form = q.shown.form;
+            root = q.shown.root;
+            blocks = blocks.set_unseen s.blocks c.blocks c.spares n (set (block s.blocks n).words i 0) (set (block s.blocks n).homes i (Some y)) q.shown.blocks has.0
+                (λ used g. words_still (block s.blocks n).words i 0 (block_at c n) near g)
+                (slot_back (block s.blocks n).homes i y (block_at c n) (in_homes s r n i has.0 near) (q.away id v n i y at held) (q.shown.blocks.slots n has.0));
+            chain = blocks.chain_stays s.blocks bs' (let l : ℕ = length s.blocks in let l' : ℕ = length bs' in let e : l' ≡ l = same_length in let z : l ≤ l' = omega arith in z) c.spares (slice_index_or s.words 25 0) (λ b _. deep b 34 (omega arith)) q.shown.chain;
+          })
+          (λ j g b k z e held'. ⊎_elim
+          (λ (t : (j ≡ id) × (w ≡ g)). absurd (none_some (b, k, z) (ap (λ (o : BlockView T A). o.held) t.1 ∙ held')))
+          (λ (t : (j ≢ id) × (get_elem? s.views j ≡ home.some g)). q.away j g b k z t.1 held')
+          (at_set s.views id j w g e))
+          (λ j g e is b k top low few. deep b (31 + k) (omega arith) ∙ ⊎_elim
+          (λ (t : (j ≡ id) × (w ≡ g)). q.cleared id v at (ap (λ (o : BlockView T A). o.keeper) t.1 ∙ is) b k (ap (λ (o : BlockView T A). o.top) t.1 ∙ top) (subst (λ (o : BlockView T A). k < o.cleared) (sym t.1) low) few)
+          (λ (t : (j ≢ id) × (get_elem? s.views j ≡ home.some g)). q.cleared j g t.1 is b k top low few)
+          (at_set s.views id j w g e)))
