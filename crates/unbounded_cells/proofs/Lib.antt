@@ -3,3 +3,4 @@ mod Steps
 mod Room
 mod Spares
 mod Slots
+mod Words

@@ -231,6 +231,7 @@ module _ {T A : Type 0} {moves : QueueForm → A → Event T → A → Type 0} {
       rule.by_deed laws machine admits s.words s.words s.blocks bs' s.views q id v w d (with_block c n (with_slot (block_at c n) i y)) at (effect c u.0 inside (slots.at_home i x near at_home)) made refl
       (record {
         form = q.shown.form;
+        none = q.shown.none;
         root = λ g h. blocks.root_stays c (set c.blocks n (with_slot (block_at c n) i y)) c.spares g h ∙ q.shown.root g h;
         blocks = blocks.set_block s.blocks c.blocks c.spares n (set (block s.blocks n).words i 1) (set (block s.blocks n).homes i None) (with_slot (block_at c n) i y) q.shown.blocks there
             (λ used. let g = words_still (block s.blocks n).words i 1 (block_at c n) near (q.shown.blocks.used n there used) in record { next = g.next; reads = g.reads; written = g.written })
@@ -390,6 +391,7 @@ module _ {T A : Type 0} {moves : QueueForm → A → Event T → A → Type 0} {
           rule.quiet laws machine admits s.words s.words s.blocks bs' s.views q id v w at refl refl
           (record {
             form = q.shown.form;
+            none = q.shown.none;
             root = q.shown.root;
             blocks = blocks.set_unseen s.blocks c.blocks c.spares n (set (block s.blocks n).words i 0) (set (block s.blocks n).homes i (Some y)) q.shown.blocks has.0
                 (λ used g. words_still (block s.blocks n).words i 0 (block_at c n) near g)

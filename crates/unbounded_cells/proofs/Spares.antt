@@ -139,6 +139,7 @@ module _ {T A : Type 0} {moves : QueueForm → A → Event T → A → Type 0} {
             (steps.tally_stays laws admits Unbounded s.words 25 z' top_no_count)
             (record {
               form = q.shown.form;
+              none = q.shown.none;
               root = λ o h. blocks.root_stays c g.0 g.1 o h ∙ (q.shown.root o h ∙ sym (get_or-set_other s.words 25 (root_at o) z' 0 (top_no_root o h)));
               blocks = g.3;
               chain = subst (λ (top : ℕ). Chain s.blocks top g.1) (sym there) g.4;
@@ -258,6 +259,7 @@ module _ {T A : Type 0} {moves : QueueForm → A → Event T → A → Type 0} {
               rule.quiet laws machine admits s.words s.words s.blocks bs' s.views q id v w at refl refl
               (record {
                 form = q.shown.form;
+                none = q.shown.none;
                 root = q.shown.root;
                 blocks = blocks.set_unseen s.blocks q.contents.blocks q.contents.spares n (set (block s.blocks n).words k (f x)) (block s.blocks n).homes q.shown.blocks has.0 g.0 (q.shown.blocks.slots n has.0);
                 chain = blocks.chain_stays s.blocks bs' (let l : ℕ = length s.blocks in let l' : ℕ = length bs' in let same : l' ≡ l = length-set s.blocks n _ in let z : l ≤ l' = omega arith in z) q.contents.spares (slice_index_or s.words 25 0) g.1 q.shown.chain;
@@ -377,6 +379,7 @@ module _ {T A : Type 0} {moves : QueueForm → A → Event T → A → Type 0} {
             ) a.1 refl
             (record {
               form = q.shown.form;
+              none = q.shown.none;
               root = λ o h. blocks.root_stays c (c.blocks ++ blank ∷ []) [] o h ∙ q.shown.root o h;
               blocks = blocks.added s.blocks c.blocks none;
               chain = zero_top;

@@ -233,6 +233,7 @@ module _ {T A : Type 0} {moves : QueueForm → A → Event T → A → Type 0} {
             (effect c (block s.blocks n).words old_words) b.1 refl
             (record {
               form = q.shown.form;
+              none = q.shown.none;
               root = λ g h. blocks.root_stays c (set c.blocks n y) c.spares g h ∙ q.shown.root g h;
               blocks = blocks.set_block s.blocks c.blocks c.spares n (set (block s.blocks n).words k (f x)) (block s.blocks n).homes y q.shown.blocks has.0
                   (λ _. words (block s.blocks n).words (block_at c n) has.1 old_slots.flags old_words)

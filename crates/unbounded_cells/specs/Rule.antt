@@ -73,6 +73,7 @@ module _ {T : Type 0} where
   -- what the queue's cells hold
   pub record IsShown (ws : List ℕ) (bs : Blocks T) (c : Contents T) : Type 0 where
     pub form : c.form ≡ Unbounded
+    pub none : (c.stamps ≡ []) × (c.slots ≡ [])
     pub root : (w : Word) → IsRoot w → read c w ≡ slice_index_or ws (root_at w) 0
     pub blocks : BlocksShown bs c.blocks c.spares
     pub chain : Chain bs (slice_index_or ws 25 0) c.spares
