@@ -45,6 +45,11 @@ many_zeros = refl
 pub listed : (b : ℕ) (spares : List ℕ) → 1 ≤ times b (b ∷ spares)
 listed b spares = let s = same_is b b refl in let k : ℕ = times b spares in let m : ℕ = same b b in let e : m ≡ 1 = s in let z : 1 ≤ m + k = omega arith in z
 
+pub past : {X : Type 0} → (l : List X) (i : ℕ) (d : X) → length l ≤ i → get_or l i d ≡ d
+past [] i d h = refl
+past (x ∷ xs) zero d h = absurd (omega arith)
+past (x ∷ xs) (suc i) d h = past xs i d (omega arith)
+
 pub longer : {X : Type 0} → (l : List X) (x : X) → length (l ++ x ∷ []) ≡ length l + 1
 longer [] x = refl
 longer (y ∷ ys) x = let e = longer ys x in omega arith

@@ -4,3 +4,4 @@ mod Room
 mod Spares
 mod Slots
 mod Words
+mod OfQueue

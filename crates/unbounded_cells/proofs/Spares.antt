@@ -163,8 +163,12 @@ module _ {T A : Type 0} {moves : QueueForm → A → Event T → A → Type 0} {
       let c = q.contents in
       let p = at_map party s.views id m.view at in
       let u = machine.in_use (parties s.views) c (tally_in Unbounded s.words) q.history q.short id m.view.party (deed.retired b) b p (a, made) refl in
-      let none : (i : ℕ) → slice_index_or (block_at c b).slots i None ≡ None = (λ i. machine.emptied (parties s.views) c (tally_in Unbounded s.words) q.history q.short id m.view.party b i p (a, made)) in
       let there : b < length s.blocks = subst (λ (k : ℕ). b < k) q.shown.blocks.made u.0 in
+      let wide : length (block_at c b).slots ≡ 31 = (q.shown.blocks.slots b there).wide in
+      let none : (i : ℕ) → slice_index_or (block_at c b).slots i None ≡ None = (λ i. ⊎_elim
+      (λ near. machine.emptied (parties s.views) c (tally_in Unbounded s.words) q.history q.short id m.view.party b i p (a, made) near)
+      (λ far. blocks.past (block_at c b).slots i None (subst (λ (k : ℕ). k ≤ i) (sym wide) far))
+      (cases_lt i 31)) in
       let listed : with_spare c.spares (length c.blocks) b ≡ b ∷ c.spares =
       room (length c.blocks) b c.spares q.shown.blocks.once (λ j l. q.shown.blocks.near j (subst (λ (k : ℕ). k ≤ j) q.shown.blocks.made l)) u.0 u.1 in (
         set c.blocks b blank,

@@ -75,6 +75,6 @@ module _ {T A : Type 0} (moves : QueueForm → A → Event T → A → Type 0) w
           → (p : ℕ) (v : View T A) (d : Deed T) (b : ℕ) → get_elem? views p ≡ some v → IsNext v d → deed_block d ≡ Some b → (b < length c.blocks) × (times b c.spares ≡ 0)
       -- all slots of a block that is given back are empty
       pub emptied : (views : List (View T A)) (c : Contents T) (t : Tally) (h : history Unbounded views c t) → size views c t h < 2 ^ 61
-          → (p : ℕ) (v : View T A) (b i : ℕ) → get_elem? views p ≡ some v → IsNext v (retired b) → slot_at c (In b i) ≡ None
+          → (p : ℕ) (v : View T A) (b i : ℕ) → get_elem? views p ≡ some v → IsNext v (retired b) → i < 31 → slot_at c (In b i) ≡ None
       -- of a flag nothing else is asked than to be read or set
       pub flags : (v : View T A) (d : Deed T) → IsNext v d → OnFlags d

@@ -1,4 +1,5 @@
 //! The rule of one history for the cells of an unbounded queue, over memory that grows.
 #![tactic(auto)]
 
+pub mod queue;
 pub mod rule;

@@ -18,18 +18,15 @@ pub struct BlockView<T, A> {
     pub cleared: u64,
 }
 
-/// A machine of an unbounded queue.
+/// A machine of an unbounded queue, whose histories have a length. What has to be known of them is `KeepsBlocks`: a fact that the table of such
+/// a machine is made with.
 pub trait BlockMachine<T, A>: Machine<T, A> {
     ghost use Rattle.std.specs.Prelude.{ℕ, List};
     ghost use Rattle.concurrent_queue.specs.Contents.{Contents};
     ghost use Rattle.concurrent_queue.specs.history.Keeps.{Tally};
     ghost use Rattle.concurrent_queue.specs.declared.cells.QueueForm.TheVariants.{Unbounded};
     ghost use Rattle.concurrent_queue.specs.declared.history.rule.View.{View};
-    ghost use Rattle.unbounded_cells.specs.Laws.{KeepsBlocks};
 
     /// How many events a history has.
-    ghost length: { (views : List (View T A)) (c : Contents T) (t : Tally) → Self.history Unbounded views c t → ℕ };
-
-    /// What is known of blocks while there are fewer than positions.
-    ghost blocks: { KeepsBlocks Self.moves Self.history length };
+    ghost history_size: { (views : List (View T A)) (c : Contents T) (t : Tally) → Self.history Unbounded views c t → ℕ };
 }
