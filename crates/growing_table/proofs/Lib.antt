@@ -4,5 +4,9 @@ mod Powers
 mod Steps
 mod Asks
 mod Links
-mod Making
+mod NewBlock
 mod Seating
+mod Entries
+mod SeatAsks
+mod Ends
+mod TableEnds

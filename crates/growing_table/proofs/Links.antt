@@ -1,15 +1,14 @@
 -- Links to blocks: where they lie, what a load tells, and how the next one is entered.
-use Rattle.std.proofs.Common.{◌≡◌, ◌≢◌, ℕ, zero, suc, ◌+◌, ◌-◌, ◌*◌, ◌<◌, ◌≤◌, ◌^◌, ⊎_elim, true, false, true≢false, List, [], ◌∷◌, map, length, get_or, set, refl, sym, ap, ◌∙◌, subst, arith, pow_pos}
-use Rattle.std.specs.Prelude.{Option, Some, None}
+use Rattle.std.proofs.Common.{◌≡◌, ◌≢◌, ℕ, zero, suc, ◌+◌, ◌-◌, ◌<◌, ◌≤◌, ◌^◌, ⊎_elim, true, List, [], ◌∷◌, map, length, set, refl, sym, ap, ◌∙◌, subst, arith, pow_pos}
 use mathlib.Core.Option.{some}
 use lib.ListN.{get_elem?}
-use denote.RawPtr.{Ptr, InBlock, null_ptr}
+use denote.RawPtr.{Ptr, InBlock}
 use Rattle.atomic_table.proofs.Lists.{at_set, set_again, at_map}
 use Rattle.atomic_blocks.specs.Cells as cells
 use Rattle.atomic_blocks.specs.Cells.{Cell, cell, row, row_at, with_link, link_of, word_of, home_of, Lies}
 use Rattle.atomic_blocks.proofs.After.{cell_again, count_stays, place_stays, part_stays, cell_here, cell_else}
 use Rattle.growing_table.specs.State.{BlockState, State, state}
-use Rattle.growing_table.specs.Laid.{Rows, KitState, KitMe, IsAt, entry, more_cells, Found, Reaches, plain_words, plain_blocks, Laid, Knows, Grown, client, sight}
+use Rattle.growing_table.specs.Laid.{Rows, KitState, KitMe, IsAt, entry, Found, Reaches, Knows, Grown, client, sight}
 use Rattle.growing_table.specs.Told.{saw_link, wrote_link}
 use Rattle.growing_table.specs.declared.sight.Sight.{Sight}
 use Rattle.growing_table.proofs.Plain as facts
@@ -56,8 +55,11 @@ module _ {S V : Type 0} (wide n : ℕ) (root top : Ptr) (holds : State S V → T
     lies r s g here = lies_by s g here r.0 r.1 r.2 r.3 r.4 r.5
 
     saw : (s : KitState S V) → G s → get_elem? s.views id ≡ some m.view → saw_link k i m (link_of s.rows k i) m
-    saw s g here = (refl, λ c d j p' e at ek ei. let charted = (g.knows id m.view here).charted (suc (suc c)) p' e in let en = g.laid.entered c d j charted.0 at in
-        (subst (λ (x : ℕ × ℕ). link_of s.rows x.0 x.1 ≡ p') (λ t. (sym (ek ∙ ap (λ (y : ℕ). (entry y d j).0) sized) t, sym (ei ∙ ap (λ (y : ℕ). (entry y d j).1) sized) t)) (en.2 ∙ charted.1), subst InBlock charted.1 en.0))
+    saw s g here = (
+      refl,
+      λ c d j p' e at ek ei. let charted = (g.knows id m.view here).charted (suc (suc c)) p' e in let en = g.laid.entered c d j charted.0 at in
+          (subst (λ (x : ℕ × ℕ). link_of s.rows x.0 x.1 ≡ p') (λ t. (sym (ek ∙ ap (λ (y : ℕ). (entry y d j).0) sized) t, sym (ei ∙ ap (λ (y : ℕ). (entry y d j).1) sized) t)) (en.2 ∙ charted.1), subst InBlock charted.1 en.0),
+    )
 
     -- A LINK IS READ
     pub link_seen : Reaches n top m.view.chart.places b k p i → cells.AllowsLink G id m k p i (λ (q : Ptr). q) (saw_link k i m)

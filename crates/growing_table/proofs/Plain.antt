@@ -1,10 +1,10 @@
 -- What rows are as plain data, and after a change of one cell or one row more.
-use Rattle.std.proofs.Common.{◌≡◌, ◌≢◌, ℕ, zero, suc, ◌+◌, ◌<◌, ◌≤◌, is_some, true, false, true≢false, List, [], ◌∷◌, ◌++◌, map, length, get_or, set, refl, sym, ap, ◌∙◌, subst, arith}
+use Rattle.std.proofs.Common.{◌≡◌, ℕ, zero, suc, ◌+◌, ◌<◌, ◌≤◌, is_some, true≢false, List, [], ◌∷◌, ◌++◌, map, length, get_or, set, refl, sym, ap, ◌∙◌, subst, arith}
 use Rattle.std.specs.Prelude.{Option, Some, None}
 use lib.ListN.{get_or-map}
 use lib.Seq.{set-get_or, map-set_same}
 use denote.RawPtr.{Ptr}
-use Rattle.atomic_blocks.specs.Cells.{Cell, Row, cell, cell_in, row, no_row, row_at, cell_of, with_cell, with_word, with_home, with_link, link_of, word_of, home_of}
+use Rattle.atomic_blocks.specs.Cells.{Cell, Row, cell, cell_in, row, no_row, row_at, with_cell, with_word, with_home, with_link, link_of, word_of, home_of}
 use Rattle.growing_table.specs.State.{BlockState, block_of, block, no_block}
 use Rattle.growing_table.specs.State as state
 use Rattle.growing_table.specs.Laid.{front, Rows, word, home, plain_block, plain_words, plain_blocks}

@@ -1,14 +1,14 @@
 -- A step on a word or a slot, but for the number of blocks, leaves the rows laid as they are, and what the seats know of them.
-use Rattle.std.proofs.Common.{◌≡◌, ◌≢◌, ℕ, zero, suc, ◌+◌, ◌<◌, ◌≤◌, ⊎_elim, Bool, true, false, List, [], ◌∷◌, ◌++◌, map, length, get_or, set, refl, sym, ap, ◌∙◌, subst, arith}
-use Rattle.std.specs.Prelude.{Option, Some, None}
+use Rattle.std.proofs.Common.{◌≡◌, ◌≢◌, ℕ, zero, suc, ◌+◌, ◌<◌, ◌≤◌, ⊎_elim, List, [], ◌∷◌, map, length, set, refl, sym, ap, ◌∙◌, subst, arith}
+use Rattle.std.specs.Prelude.{Option}
 use mathlib.Core.Option.{some, some-injective, some-ne-none}
 use lib.ListN.{get_elem?}
 use denote.RawPtr.{Ptr, InBlock}
 use Rattle.atomic_table.proofs.Lists.{at_set}
-use Rattle.atomic_blocks.specs.Cells.{Cell, cell, row, cell_of, with_cell, with_word, with_home, link_of, word_of, home_of}
+use Rattle.atomic_blocks.specs.Cells.{Cell, cell, row, with_word, with_home, link_of, word_of, home_of}
 use Rattle.atomic_blocks.proofs.After.{count_stays, place_stays, part_stays, cell_else}
-use Rattle.growing_table.specs.State.{BlockState, State, state}
-use Rattle.growing_table.specs.Laid.{Rows, KitState, IsAt, entry, places, plain_words, plain_blocks, Laid, Knows, Grown, client, sight}
+use Rattle.growing_table.specs.State.{State, state}
+use Rattle.growing_table.specs.Laid.{Rows, KitState, places, plain_words, plain_blocks, Laid, Knows, Grown, client, sight}
 use Rattle.growing_table.specs.declared.sight.Sight.{Sight}
 use Rattle.growing_table.proofs.Plain.{map_set}
 

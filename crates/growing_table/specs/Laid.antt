@@ -1,7 +1,7 @@
 -- Which rows of the kit a growing table is.
 -- Row 0 has the table's own words. Row 1 has the number of blocks, and in its cell d the link to the block that has the number 2 ^ d - 1. The block n lies in row n + 2.
 -- That block has 2 ^ d cells more than others, with the links to the blocks after it up to the number 2 ^ (d + 1) - 1.
-use Rattle.std.specs.Prelude.{◌≡◌, ℕ, zero, suc, ◌+◌, ◌^◌, ◌<◌, ◌≤◌, Bool, true, false, List, [], ◌∷◌, map, length, Option, Some, None}
+use Rattle.std.specs.Prelude.{◌≡◌, ℕ, zero, suc, ◌+◌, ◌^◌, ◌<◌, ◌≤◌, Bool, true, false, List, [], ◌∷◌, map, length, replicate, Option, Some, None}
 use mathlib.Core.Option.{some}
 use lib.ListN.{get_elem?}
 use mathlib.Core.Path.{refl}
@@ -76,7 +76,6 @@ hand_of n None = None
 hand_of n (Some h) = Some (n, h.1, h.2)
 
 module _ {S : Type 0} where
-
   abbrev pub word : cells.Cell S → ℕ
   word c = c.word
 
@@ -99,6 +98,10 @@ module _ {S : Type 0} where
   plain_blocks n [] = []
   plain_blocks n (x ∷ []) = []
   plain_blocks n (x ∷ y ∷ rows) = map (plain_block n) rows
+
+  -- the cells of a new block of this number, which lies at p
+  abbrev pub IsNext : ℕ → ℕ → Ptr → List (cells.Cell (Option S)) → Type 0
+  IsNext n k p cs = (d : ℕ) × (j : ℕ) × IsAt k d j × (cs ≡ replicate (n + more_cells d j) (cells.cell 0 p (Some None)))
 
   -- the block k is laid, and its link stands in its entry
   abbrev pub Entered : ℕ → Rows S → ℕ → ℕ → ℕ → Type 0

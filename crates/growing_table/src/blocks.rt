@@ -24,7 +24,8 @@ impl<T, V, K, P: GrowingRule<Option<T>, V, K>, A: Allocator> GrowingTable<T, V, 
         ensures same { Follows seat.old seat.new }
         ensures told { M.then (step (within place.number word) 0 0) (me_of seat.old) result (me_of seat.new) }
     {
-        self.rows.load::<OnBlock<M>>(&mut seat.seat, place.number + 2, place.link, word)
+        self.rows
+            .load::<OnBlock<M>>(&mut seat.seat, place.number + 2, place.link, word)
     }
 
     /// Writes a word of a block.
@@ -40,7 +41,8 @@ impl<T, V, K, P: GrowingRule<Option<T>, V, K>, A: Allocator> GrowingTable<T, V, 
         ensures same { Follows seat.old seat.new }
         ensures told { M.then (step (within place.number word) new 0) (me_of seat.old) new (me_of seat.new) }
     {
-        self.rows.store::<OnBlock<M>>(&mut seat.seat, place.number + 2, place.link, word, new);
+        self.rows
+            .store::<OnBlock<M>>(&mut seat.seat, place.number + 2, place.link, word, new);
     }
 
     /// Writes a word of a block where `old` is found there. Returns what was found.
@@ -57,7 +59,14 @@ impl<T, V, K, P: GrowingRule<Option<T>, V, K>, A: Allocator> GrowingTable<T, V, 
         ensures same { Follows seat.old seat.new }
         ensures told { M.then (step (within place.number word) old new) (me_of seat.old) result (me_of seat.new) }
     {
-        self.rows.compare_exchange::<OnBlock<M>>(&mut seat.seat, place.number + 2, place.link, word, old, new)
+        self.rows.compare_exchange::<OnBlock<M>>(
+            &mut seat.seat,
+            place.number + 2,
+            place.link,
+            word,
+            old,
+            new,
+        )
     }
 
     /// Adds to a word of a block; the sum wraps. Returns what was found.
@@ -73,7 +82,8 @@ impl<T, V, K, P: GrowingRule<Option<T>, V, K>, A: Allocator> GrowingTable<T, V, 
         ensures same { Follows seat.old seat.new }
         ensures told { M.then (step (within place.number word) by 0) (me_of seat.old) result (me_of seat.new) }
     {
-        self.rows.fetch_add::<OnBlock<M>>(&mut seat.seat, place.number + 2, place.link, word, by)
+        self.rows
+            .fetch_add::<OnBlock<M>>(&mut seat.seat, place.number + 2, place.link, word, by)
     }
 
     /// Sets bits of a word of a block. Returns what was found.
@@ -89,7 +99,14 @@ impl<T, V, K, P: GrowingRule<Option<T>, V, K>, A: Allocator> GrowingTable<T, V, 
         ensures same { Follows seat.old seat.new }
         ensures told { M.then (step (within place.number word) bits 0) (me_of seat.old) result (me_of seat.new) }
     {
-        bits::fetch_or::<_, _, _, _, _, OnBlock<M>>(&self.rows, &mut seat.seat, place.number + 2, place.link, word, bits)
+        bits::fetch_or::<_, _, _, _, _, OnBlock<M>>(
+            &self.rows,
+            &mut seat.seat,
+            place.number + 2,
+            place.link,
+            word,
+            bits,
+        )
     }
 
     /// Keeps these bits of a word of a block and clears all others. Returns what was found.
@@ -105,6 +122,13 @@ impl<T, V, K, P: GrowingRule<Option<T>, V, K>, A: Allocator> GrowingTable<T, V, 
         ensures same { Follows seat.old seat.new }
         ensures told { M.then (step (within place.number word) bits 0) (me_of seat.old) result (me_of seat.new) }
     {
-        bits::fetch_and::<_, _, _, _, _, OnBlock<M>>(&self.rows, &mut seat.seat, place.number + 2, place.link, word, bits)
+        bits::fetch_and::<_, _, _, _, _, OnBlock<M>>(
+            &self.rows,
+            &mut seat.seat,
+            place.number + 2,
+            place.link,
+            word,
+            bits,
+        )
     }
 }

@@ -3,9 +3,14 @@
 
 mod bits;
 mod blocks;
+mod closing;
+mod fresh;
+mod making;
+mod open;
 mod plays;
 mod rule;
 mod seat;
+mod seats;
 mod sight;
 mod table;
 mod words;

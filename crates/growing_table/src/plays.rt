@@ -141,3 +141,10 @@ impl<V, M: Join<V>> Join<Sight<V>> for Both<M> {
 
     ghost spent = { over M.spent };
 }
+
+// A step that tells that nothing changed.
+pub(crate) struct Still;
+
+impl<S, V> Play<S, V> for Still {
+    ghost then = { λ _ m _ n. n ≡ m };
+}

@@ -8,6 +8,7 @@ use atomic_blocks::rows::{Link, Seat};
 use std::alloc::{AllocError, Allocator};
 
 /// What one party knows of a growing table, with at most one slot that is out with it. It has no bytes.
+#[derive(Drop)]
 pub struct GrowingSeat<T, V, A: Allocator> {
     pub(crate) seat: Seat<Option<T>, Sight<V>, A>,
     ghost holding: { Holding seat.me },

@@ -16,17 +16,14 @@ const ROOT: u64 = 0;
 
 impl<T, V, K, P: GrowingRule<Option<T>, V, K>, A: Allocator> GrowingTable<T, V, K, P, A> {
     /// Reads a word of the table's own.
-    pub fn load<M: Play<Option<T>, V>>(
-        &self,
-        seat: &mut GrowingSeat<T, V, A>,
-        word: usize,
-    ) -> u64
+    pub fn load<M: Play<Option<T>, V>>(&self, seat: &mut GrowingSeat<T, V, A>, word: usize) -> u64
         requires seat { Sits self.now seat.old × (word < self.now.words) }
         requires rule { Allows (P.holds (about self.now)) (number_of seat.old) (me_of seat.old) (own word) (λ n. n) (M.then (step (own word) 0 0) (me_of seat.old)) }
         ensures same { Follows seat.old seat.new }
         ensures told { M.then (step (own word) 0 0) (me_of seat.old) result (me_of seat.new) }
     {
-        self.rows.load::<OnOwn<M>>(&mut seat.seat, ROOT, self.root, word)
+        self.rows
+            .load::<OnOwn<M>>(&mut seat.seat, ROOT, self.root, word)
     }
 
     /// Writes a word of the table's own.
@@ -41,7 +38,8 @@ impl<T, V, K, P: GrowingRule<Option<T>, V, K>, A: Allocator> GrowingTable<T, V, 
         ensures same { Follows seat.old seat.new }
         ensures told { M.then (step (own word) new 0) (me_of seat.old) new (me_of seat.new) }
     {
-        self.rows.store::<OnOwn<M>>(&mut seat.seat, ROOT, self.root, word, new);
+        self.rows
+            .store::<OnOwn<M>>(&mut seat.seat, ROOT, self.root, word, new);
     }
 
     /// Writes a word of the table's own where `old` is found there. Returns what was found.
@@ -57,7 +55,8 @@ impl<T, V, K, P: GrowingRule<Option<T>, V, K>, A: Allocator> GrowingTable<T, V, 
         ensures same { Follows seat.old seat.new }
         ensures told { M.then (step (own word) old new) (me_of seat.old) result (me_of seat.new) }
     {
-        self.rows.compare_exchange::<OnOwn<M>>(&mut seat.seat, ROOT, self.root, word, old, new)
+        self.rows
+            .compare_exchange::<OnOwn<M>>(&mut seat.seat, ROOT, self.root, word, old, new)
     }
 
     /// Adds to a word of the table's own; the sum wraps. Returns what was found.
@@ -72,7 +71,8 @@ impl<T, V, K, P: GrowingRule<Option<T>, V, K>, A: Allocator> GrowingTable<T, V, 
         ensures same { Follows seat.old seat.new }
         ensures told { M.then (step (own word) by 0) (me_of seat.old) result (me_of seat.new) }
     {
-        self.rows.fetch_add::<OnOwn<M>>(&mut seat.seat, ROOT, self.root, word, by)
+        self.rows
+            .fetch_add::<OnOwn<M>>(&mut seat.seat, ROOT, self.root, word, by)
     }
 
     /// Sets bits of a word of the table's own. Returns what was found.
@@ -87,7 +87,14 @@ impl<T, V, K, P: GrowingRule<Option<T>, V, K>, A: Allocator> GrowingTable<T, V, 
         ensures same { Follows seat.old seat.new }
         ensures told { M.then (step (own word) bits 0) (me_of seat.old) result (me_of seat.new) }
     {
-        bits::fetch_or::<_, _, _, _, _, OnOwn<M>>(&self.rows, &mut seat.seat, ROOT, self.root, word, bits)
+        bits::fetch_or::<_, _, _, _, _, OnOwn<M>>(
+            &self.rows,
+            &mut seat.seat,
+            ROOT,
+            self.root,
+            word,
+            bits,
+        )
     }
 
     /// Keeps these bits of a word of the table's own and clears all others. Returns what was found.
@@ -102,6 +109,13 @@ impl<T, V, K, P: GrowingRule<Option<T>, V, K>, A: Allocator> GrowingTable<T, V, 
         ensures same { Follows seat.old seat.new }
         ensures told { M.then (step (own word) bits 0) (me_of seat.old) result (me_of seat.new) }
     {
-        bits::fetch_and::<_, _, _, _, _, OnOwn<M>>(&self.rows, &mut seat.seat, ROOT, self.root, word, bits)
+        bits::fetch_and::<_, _, _, _, _, OnOwn<M>>(
+            &self.rows,
+            &mut seat.seat,
+            ROOT,
+            self.root,
+            word,
+            bits,
+        )
     }
 }

@@ -1,6 +1,6 @@
 -- A block joins, in the step that counts it.
 use Rattle.std.proofs.Common.{◌≡◌, ◌≢◌, ℕ, zero, suc, ◌+◌, ◌<◌, ◌≤◌, ◌^◌, ⊎_elim, true, List, [], ◌∷◌, ◌++◌, map, length, set, refl, sym, ap, ◌∙◌, subst, arith, length-append}
-use Rattle.std.specs.Prelude.{Option, Some, None}
+use Rattle.std.specs.Prelude.{Some, None}
 use mathlib.Core.Option.{some}
 use mathlib.Core.Logic.{dite}
 use native.Mathlib.Decide.{ℕ_discrete}
@@ -19,7 +19,7 @@ use Rattle.growing_table.proofs.Plain as facts
 use Rattle.growing_table.proofs.Stays.{was, places_at, at_places}
 use Rattle.growing_table.proofs.Steps.{some_same}
 
-entry_before : (n b d j m : ℕ) → IsAt b d j → 1 < m → suc (suc b) ≤ m → (entry n d j).0 < m
+pub entry_before : (n b d j m : ℕ) → IsAt b d j → 1 < m → suc (suc b) ≤ m → (entry n d j).0 < m
 entry_before n b d zero m at tall h = tall
 entry_before n b d (suc j) m at tall h = let e = at.0 in let q : ℕ = 2 ^ d in let e' : q + suc j ≡ b + 1 = e in omega arith
 
@@ -76,13 +76,13 @@ module _ {S V : Type 0} (wide n : ℕ) (root top : Ptr) (holds : State S V → T
       entered : (b' d' j' : ℕ) → suc (suc b') < length all → IsAt b' d' j' → Rattle.growing_table.specs.Laid.Entered n all b' d' j'
       entered b' d' j' h is = dite (ℕ_discrete b b')
           (λ e. let is' : IsAt b d' j' = subst (λ (y : ℕ). IsAt y d' j') (sym e) is in
-            let before : (entry n d' j').0 < length rows = entry_before n b d' j' (length rows) is' (let t : 2 ≤ length rows = g.laid.tall in omega arith) (let t : b + 2 ≡ length rows = last in omega arith) in
-            let link : link_of all (entry n d' j').0 (entry n d' j').1 ≡ r.at = link_old (entry n d' j').0 (entry n d' j').1 before ∙ (g.knows id v here).planned is_maker r.at planned d' j' (subst (λ (y : ℕ). IsAt y d' j') (sym made) is') in
-            subst (λ (y : ℕ). Rattle.growing_table.specs.Laid.Entered n all y d' j') e
-            (subst (λ (z : Row S). InBlock z.at × (length z.cells ≡ n + more_cells d' j') × (link_of all (entry n d' j').0 (entry n d' j').1 ≡ z.at)) (sym new) (placed, long d' j' is', link)))
+          let before : (entry n d' j').0 < length rows = entry_before n b d' j' (length rows) is' (let t : 2 ≤ length rows = g.laid.tall in omega arith) (let t : b + 2 ≡ length rows = last in omega arith) in
+          let link : link_of all (entry n d' j').0 (entry n d' j').1 ≡ r.at = link_old (entry n d' j').0 (entry n d' j').1 before ∙ (g.knows id v here).planned is_maker r.at planned d' j' (subst (λ (y : ℕ). IsAt y d' j') (sym made) is') in
+          subst (λ (y : ℕ). Rattle.growing_table.specs.Laid.Entered n all y d' j') e
+          (subst (λ (z : Row S). InBlock z.at × (length z.cells ≡ n + more_cells d' j') × (link_of all (entry n d' j').0 (entry n d' j').1 ≡ z.at)) (sym new) (placed, long d' j' is', link)))
           (λ ne. let h' : suc (suc b') < length rows = (let e : length all ≡ length rows + 1 = more in let e' : b + 2 ≡ length rows = last in omega arith) in
-            let before : (entry n d' j').0 < length rows = entry_before n b' d' j' (length rows) is (let t : 2 ≤ length rows = g.laid.tall in omega arith) (omega arith) in let en = g.laid.entered b' d' j' h' is in
-            (subst InBlock (sym (at_old (suc (suc b')) h')) en.0, long_old (suc (suc b')) h' ∙ en.1, link_old (entry n d' j').0 (entry n d' j').1 before ∙ (en.2 ∙ sym (at_old (suc (suc b')) h'))))
+          let before : (entry n d' j').0 < length rows = entry_before n b' d' j' (length rows) is (let t : 2 ≤ length rows = g.laid.tall in omega arith) (omega arith) in let en = g.laid.entered b' d' j' h' is in
+          (subst InBlock (sym (at_old (suc (suc b')) h')) en.0, long_old (suc (suc b')) h' ∙ en.1, link_old (entry n d' j').0 (entry n d' j').1 before ∙ (en.2 ∙ sym (at_old (suc (suc b')) h'))))
 
       laid : Laid wide n root top all
       laid = let l = g.laid in let t : 2 ≤ length rows = l.tall in let e : length all ≡ length rows + 1 = more in let e' : b + 2 ≡ length rows = last in let h₀ : 0 < length rows = omega arith in let h₁ : 1 < length rows = omega arith in
@@ -139,12 +139,19 @@ module _ {S V : Type 0} (wide n : ℕ) (root top : Ptr) (holds : State S V → T
     block_joins then law s g here = let y = law (state (plain_words s.rows) (plain_blocks n s.rows) (map client s.views)) g.agreed (at_map client s.views id v here) in let w : V = y.0 in
         let many : length (plain_blocks n s.rows) ≡ v.made = (let a = facts.blocks_count n s.rows g.laid.tall in let e = (g.knows id v here).whole is_maker in omega arith) in
         let there : suc (suc b) < length (all s g here) = (let e : length (all s g here) ≡ length s.rows + 1 = more s g here in let e' : b + 2 ≡ length s.rows = last s g here in omega arith) in
-        let lies : get_elem? (places (all s g here)) (suc (suc v.made)) ≡ some r.at = subst (λ (z : ℕ). get_elem? (places (all s g here)) (suc (suc z)) ≡ some r.at) (sym made) (at_places (all s g here) (suc (suc b)) there ∙ ap (λ (z : Row S). some z.at) (new s g here)) in
-        ((g.laid.top_at, near s g here), λ _. (
-          view s g here w,
-          cells.lays r,
-          carried,
-          grown s g here w y.1,
-          ((recalls s g here, refl, refl, λ h e. (recalls s g here (suc (suc v.at)) h.0 (holding h e).0, (holding h e).1)), refl, refl, (λ z e. lies ∙ ap (λ (k : Row S). some k.at) (some_same r z (sym carried ∙ e))),
-            subst (λ (k : ℕ). then k (Rattle.growing_table.specs.State.me w (plain_me m).hand)) many y.2),
-        ))
+        let lies : get_elem? (places (all s g here)) (suc (suc v.made)) ≡ some r.at = subst (λ (z : ℕ). get_elem? (places (all s g here)) (suc (suc z)) ≡ some r.at) (sym made) (at_places (all s g here) (suc (suc b)) there ∙ ap (λ (z : Row S). some z.at) (new s g here)) in (
+          (g.laid.top_at, near s g here),
+          λ _. (
+            view s g here w,
+            cells.lays r,
+            carried,
+            grown s g here w y.1,
+            (
+              (recalls s g here, refl, refl, λ h e. (recalls s g here (suc (suc v.at)) h.0 (holding h e).0, (holding h e).1)),
+              refl,
+              refl,
+              (λ z e. lies ∙ ap (λ (k : Row S). some k.at) (some_same r z (sym carried ∙ e))),
+              subst (λ (k : ℕ). then k (Rattle.growing_table.specs.State.me w (plain_me m).hand)) many y.2,
+            ),
+          ),
+        )
