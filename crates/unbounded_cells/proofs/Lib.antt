@@ -5,3 +5,4 @@ mod Spares
 mod Slots
 mod Words
 mod OfQueue
+mod Seats
