@@ -22,6 +22,7 @@ use Rattle.concurrent_queue.specs.declared.history.rule.Counter.{Counter}
 use Rattle.concurrent_queue.specs.declared.history.rule.CountStep.{CountStep}
 use Rattle.concurrent_queue.specs.declared.history.rule.View.{View}
 use Rattle.concurrent_queue.specs.history.Keeps.{HistoryOf, KeepsHistory, Tally, opening_tally}
+use Rattle.concurrent_queue.specs.history.Joined.{AllStood, EachOnce, Lists}
 use Rattle.concurrent_queue.specs.history.QueueKeeps.{at_end}
 use Rattle.concurrent_queue.specs.history.Shared as shared
 use Rattle.concurrent_queue.specs.history.Shared.{AreSeated, Shown, tally_in, going_on, first_view}
@@ -260,3 +261,82 @@ module _ {T A : Type 0} {moves : QueueForm → A → Event T → A → Type 0} {
             (r1.kept zero);
       } in
       subst (λ (vs : List (BlockView T A)). Ruled (state.state s.words s.blocks vs)) (swapped s.views other id y x two) r2
+
+-- ---- a new table
+
+-- its words: all 0, but for the two counts
+abbrev pub first_words : ℕ → List ℕ
+first_words n = set (set (replicate 32 0) 9 n) 28 n
+
+abbrev pub first_seat : {T A : Type 0} → A → BlockView T A
+first_seat a = record { party = first_view a Unbounded; held = None; keeper = true; top = 0; link = None; cleared = 0 }
+
+only_one : {X : Type 0} → (x u : X) (j : ℕ) → get_elem? (x ∷ []) j ≡ home.some u → (j ≡ 0) × (x ≡ u)
+only_one x u zero e = (refl, some-injective x u e)
+only_one x u (suc j) e = absurd (some-ne-none u (sym e))
+
+zero_word : (n : ℕ) (w : Word) → IsRoot w → slice_index_or (first_words n) (root_at w) 0 ≡ 0
+zero_word n word.State h = refl
+zero_word n word.Head h = refl
+zero_word n word.Tail h = refl
+zero_word n word.HeadBlock h = refl
+zero_word n word.TailBlock h = refl
+zero_word n (word.Stamp i) h = absurd h
+zero_word n (word.Next b) h = absurd h
+zero_word n (word.Reads b) h = absurd h
+zero_word n (word.Written b i) h = absurd h
+
+empty_word : (T : Type 0) (w : Word) → IsRoot w → read (empty_blocks {T = T}) w ≡ 0
+empty_word T word.State h = refl
+empty_word T word.Head h = refl
+empty_word T word.Tail h = refl
+empty_word T word.HeadBlock h = refl
+empty_word T word.TailBlock h = refl
+empty_word T (word.Stamp i) h = absurd h
+empty_word T (word.Next b) h = absurd h
+empty_word T (word.Reads b) h = absurd h
+empty_word T (word.Written b i) h = absurd h
+
+module _ {T A : Type 0} {moves : QueueForm → A → Event T → A → Type 0} {enters : QueueForm → A → Type 0} {turns : QueueForm → A → A → Type 0} {counts : QueueForm → A → A → Counter → CountStep → ℕ → Type 0} {both : A → A → A} {left : A → A} {parts : QueueForm → A → A → A → Type 0} {opened : A} {counted : ℕ} {is_history : HistoryOf T A} (laws : KeepsHistory moves enters turns counts both left parts opened counted is_history)
+    {size : (views : List (View T A)) (c : Contents T) (t : _) → is_history Unbounded views c t → ℕ} (machine : KeepsBlocks moves is_history size) (admits : Type 0) where
+  abbrev first : BlockView T A
+  first = first_seat opened
+
+  opens_at : IsRuled moves is_history size admits (state.state (first_words counted) [] (first ∷ []))
+  opens_at = record {
+    sized = λ b h. absurd (omega arith);
+    guards = λ b i h near. absurd (omega arith);
+    there = λ j v b i e z. absurd (none_some (b, i) (ap slot_of (only_one first v j e).1 ∙ z));
+    seated = record {
+      named = λ j v e. (let o = only_one first.party v j e in (subst (λ (u : View T A). IsNamed j u) o.1 (λ _. sym o.0), ap (λ (u : View T A). u.form) (sym o.1)));
+      admitted = λ j v e is. absurd (true_false (sym is ∙ sym (ap (λ (u : View T A). u.foreign) (only_one first.party v j e).1)));
+      joined = record {
+        stood = λ j v e. subst (λ (u : View T A). AllStood (first.party ∷ []) u.over) (only_one first.party v j e).1 tt;
+        once = λ j v e. subst (λ (u : View T A). EachOnce u.over) (only_one first.party v j e).1 tt;
+        apart = λ j k v u p e f h g. absurd (subst (λ (o : View T A). Lists p o.over) (sym (only_one first.party v j e).1) h);
+      };
+    };
+    single = λ j k v w e f a b. (only_one first v j e).0 ∙ sym (only_one first w k f).0;
+    spares = λ j v e is. subst (λ (u : BlockView T A). KeepsSpares (first_words counted) [] u) (only_one first v j e).1 (record { top = refl; link = λ b n f. absurd (none_some (b, n) f) });
+    kept = λ zero. rule.decided laws machine admits (first_words counted) [] (first ∷ []) (new_cells Unbounded)
+        (record {
+          form = refl;
+          none = (refl, refl);
+          root = λ w h. empty_word T w h ∙ sym (zero_word counted w h);
+          blocks = record {
+            made = refl;
+            used = λ b h z. absurd (omega arith);
+            slots = λ b h. absurd (omega arith);
+            idle = λ b l. absurd (omega arith);
+            near = λ b l. refl;
+            once = λ b. omega arith;
+          };
+          chain = refl;
+        })
+        (λ j v b i x e held. absurd (none_some (b, i, x) (ap (λ (o : BlockView T A). o.held) (only_one first v j e).1 ∙ held)))
+        (λ j v e is b i top low near. absurd (let k : ℕ = v.cleared in let f : k ≡ 0 = sym (ap (λ (o : BlockView T A). o.cleared) (only_one first v j e).1) in let l : i < k = low in omega arith))
+        (laws.opens Unbounded first.party tt refl);
+  }
+
+  pub opens_so : (words : List ℕ) → words ≡ first_words counted → IsRuled moves is_history size admits (state.state words [] (first ∷ []))
+  opens_so words is = subst (λ (ws : List ℕ). IsRuled moves is_history size admits (state.state ws [] (first ∷ []))) (sym is) opens_at
