@@ -49,6 +49,7 @@ use Rattle.concurrent_queue.specs.history.History.{IsHistory}
 use Rattle.concurrent_queue.specs.history.Runs.{fresh, moves, history, standing_in, standing_of, HistoriesTouchTheirOwn}
 use Rattle.concurrent_queue.proofs.HistoryRuns as runs
 use Rattle.concurrent_queue.proofs.StepFacts.{part}
+use Rattle.unbounded_cells.specs.Queue.{sized}
 use Rattle.unbounded_cells.specs.Laws.{word_block, slot_block, deed_block, word_is_no_flag, flag_is_one, OnFlags, IsNext, KeepsBlocks}
 use Rattle.unbounded_cells.proofs.Blocks.{same_is, blank_slot}
 
@@ -369,24 +370,22 @@ module _ {T : Type 0} where
 -- ---- what the machine says
 
 module _ (T : Type 0) (own_so : HistoriesTouchTheirOwn T) (among_so : PartiesAreAmongOthers T) where
-  size : (views : List (View T (Standing T))) (c : Contents T) (t : _) → history Unbounded views c t → ℕ
-  size views c t h = length h.events
-
   call_of : (v : View T (Standing T)) (d : Deed T) → IsNext moves v d → (mine : QueueCall T) × (v.state.call ≡ Some mine) × (target_at Unbounded (standing Unbounded mine.state) ≡ deed_target d) × OnFlags d
   call_of v d (a, (mine, next, reply, under, made, is)) = (let g = call_makes mine.state d next reply made in (mine, under, g.0, g.1))
 
-  pub queue_keeps_blocks : KeepsBlocks {T = T} {A = Standing T} moves history (λ views c t h. length h.events)
+  pub queue_keeps_blocks : KeepsBlocks {T = T} {A = Standing T} moves history sized
   queue_keeps_blocks = record {
-    few = λ views c t h. (let a : ℕ = length c.blocks in let b : ℕ = length h.events in let e : a ≤ 0 + b = order_few h.events _ c h.order in let z : a ≤ b = omega arith in z);
-    in_use = λ views c t h short p v d b at may touches.
+    measured = λ views c t h. (length h.events, (h, refl));
+    few = λ views c t n h. (let a : ℕ = length c.blocks in let b : ℕ = length h.0.events in let e : a ≤ 0 + b = order_few h.0.events _ c h.0.order in let f : b ≡ n = h.1 in let z : a ≤ n = omega arith in z);
+    in_use = λ views c t n h short p v d b at may touches.
         let g = call_of v d may in
         let under : (standing_of views p).call ≡ Some g.0 = ap (λ (o : home.Option (View T (Standing T))). (standing_in o).call) at ∙ g.1 in
-        (own_so Unbounded views c tt h (inr (let k : ℕ = length h.events in let s : k < 2 ^ 61 = short in let z : k ≤ 2 ^ 61 = omega arith in z)) p g.0 under).block b (ap touched_block g.2 ∙ (deed_touched d ∙ touches));
-    emptied = λ views c t h short p v b i at may near.
+        (own_so Unbounded views c tt h.0 (inr (let k : ℕ = length h.0.events in let s : n < 2 ^ 61 = short in let f : k ≡ n = h.1 in let z : k ≤ 2 ^ 61 = omega arith in z)) p g.0 under).block b (ap touched_block g.2 ∙ (deed_touched d ∙ touches));
+    emptied = λ views c t n h short p v b i at may near.
         let g = call_of v (deed.retired b) may in
         let under : (standing_of views p).call ≡ Some g.0 = ap (λ (o : home.Option (View T (Standing T))). (standing_in o).call) at ∙ g.1 in
-        let led = runs.histories_have_led T Unbounded views c tt h (inr (let k : ℕ = length h.events in let s : k < 2 ^ 61 = short in let z : k ≤ 2 ^ 61 = omega arith in z)) in
-        let m = among_so Unbounded h.events c (λ q. (standing_of views q).call) led p g.0 under in
+        let led = runs.histories_have_led T Unbounded views c tt h.0 (inr (let k : ℕ = length h.0.events in let s : n < 2 ^ 61 = short in let f : k ≡ n = h.1 in let z : k ≤ 2 ^ 61 = omega arith in z)) in
+        let m = among_so Unbounded h.0.events c (λ q. (standing_of views q).call) led p g.0 under in
         emptied_among c g.0 m.0 b m.1 m.2 g.2 i near;
     flags = λ v d may. (call_of v d may).3;
   }

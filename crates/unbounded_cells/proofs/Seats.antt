@@ -70,12 +70,12 @@ true_false : true ≡ false → ⊥
 true_false e = absurd cc
 
 module _ {T A : Type 0} {moves : QueueForm → A → Event T → A → Type 0} {enters : QueueForm → A → Type 0} {turns : QueueForm → A → A → Type 0} {counts : QueueForm → A → A → Counter → CountStep → ℕ → Type 0} {both : A → A → A} {left : A → A} {parts : QueueForm → A → A → A → Type 0} {opened : A} {counted : ℕ} {is_history : HistoryOf T A} (laws : KeepsHistory moves enters turns counts both left parts opened counted is_history)
-    {size : (views : List (View T A)) (c : Contents T) (t : _) → is_history Unbounded views c t → ℕ} (machine : KeepsBlocks moves is_history size) (admits : Type 0) where
+    {sized : ℕ → List (View T A) → Contents T → Tally → Type 0} (machine : KeepsBlocks moves is_history sized) (admits : Type 0) where
   abbrev Ruled : TableState T A → Type 0
-  Ruled = IsRuled moves is_history size admits
+  Ruled = IsRuled moves is_history sized admits
 
   abbrev Kept : List ℕ → Blocks T → List (BlockView T A) → Type 0
-  Kept = IsKept moves is_history size
+  Kept = IsKept moves is_history sized
 
   abbrev Seat : Type 0
   Seat = Me (Option T) (BlockView T A)
@@ -86,7 +86,7 @@ module _ {T A : Type 0} {moves : QueueForm → A → Event T → A → Type 0} {
       → (w.keeper ≡ true → (j : ℕ) (u : BlockView T A) → get_elem? s.views j ≡ home.some u → u.keeper ≡ true → ⊥) → (w.keeper ≡ true → KeepsSpares s.words s.blocks w) → w.cleared ≡ 0
       → Ruled (state.state s.words s.blocks (s.views ++ w ∷ []))
   comes s w r named kind over strange idle go alone owns fresh = record {
-    sized = r.sized;
+    wide = r.wide;
     guards = λ b i h near. ⊎_elim
         (λ (f : IsFree s b i). inl (f.0, f.1, λ j u e z. ⊎_elim (λ (t : (j ≡ length s.views) × (w ≡ u)). none_some (b, i) (sym (ap slot_in idle) ∙ (ap slot_of t.1 ∙ z))) (λ (t : get_elem? s.views j ≡ home.some u). f.2 j u t z) (at_end s.views w u j e)))
         (λ (x : IsWon s b i). inr (
@@ -173,7 +173,7 @@ module _ {T A : Type 0} {moves : QueueForm → A → Event T → A → Type 0} {
 
   -- the flag is read, and with it the history, or that there was one as long as there are positions
   pub looks_so : (id : ℕ) (m : Seat) → m.view.party.spent ≡ false → m.view.party.nameless ≡ false
-      → Allows Ruled id m (own 24) (λ x. x) (λ found m'. (m' ≡ m) × ((admits → found ≡ 0) → Shown is_history m.view.party ⊎ Long moves is_history size))
+      → Allows Ruled id m (own 24) (λ x. x) (λ found m'. (m' ≡ m) × ((admits → found ≡ 0) → Shown is_history m.view.party ⊎ Long moves is_history sized))
   looks_so id m live named s r at has small =
       let p = at_map party s.views id m.view at in
       let n = r.seated.named id m.view.party p in
@@ -247,7 +247,7 @@ module _ {T A : Type 0} {moves : QueueForm → A → Event T → A → Type 0} {
       (λ (t : (j ≢ id) × (get_elem? s1.views j ≡ home.some u)). absurd (none1 j u t.1 is))
       (at_set s1.views id j x u e)) in
       let r2 : Ruled (state.state s.words s.blocks (set s1.views id x)) = record {
-        sized = r1.sized;
+        wide = r1.wide;
         guards = λ b i h near. rule.guarded_so laws machine admits s1 s.words s.blocks id v x at1 refl b i refl refl (r1.guards b i h near);
         there = λ j u b i e z. (let o = rule.was laws machine admits s1 id v x at1 j u refl e in r1.there j o.0 b i o.1 (sym o.2 ∙ z));
         seated = subst (λ (l : List (View T A)). AreSeated Unbounded (slice_index s.words 24) l) (sym (map-set party s1.views id x))
@@ -298,13 +298,13 @@ empty_word T (word.Reads b) h = absurd h
 empty_word T (word.Written b i) h = absurd h
 
 module _ {T A : Type 0} {moves : QueueForm → A → Event T → A → Type 0} {enters : QueueForm → A → Type 0} {turns : QueueForm → A → A → Type 0} {counts : QueueForm → A → A → Counter → CountStep → ℕ → Type 0} {both : A → A → A} {left : A → A} {parts : QueueForm → A → A → A → Type 0} {opened : A} {counted : ℕ} {is_history : HistoryOf T A} (laws : KeepsHistory moves enters turns counts both left parts opened counted is_history)
-    {size : (views : List (View T A)) (c : Contents T) (t : _) → is_history Unbounded views c t → ℕ} (machine : KeepsBlocks moves is_history size) (admits : Type 0) where
+    {sized : ℕ → List (View T A) → Contents T → Tally → Type 0} (machine : KeepsBlocks moves is_history sized) (admits : Type 0) where
   abbrev first : BlockView T A
   first = first_seat opened
 
-  opens_at : IsRuled moves is_history size admits (state.state (first_words counted) [] (first ∷ []))
+  opens_at : IsRuled moves is_history sized admits (state.state (first_words counted) [] (first ∷ []))
   opens_at = record {
-    sized = λ b h. absurd (omega arith);
+    wide = λ b h. absurd (omega arith);
     guards = λ b i h near. absurd (omega arith);
     there = λ j v b i e z. absurd (none_some (b, i) (ap slot_of (only_one first v j e).1 ∙ z));
     seated = record {
@@ -338,5 +338,5 @@ module _ {T A : Type 0} {moves : QueueForm → A → Event T → A → Type 0} {
         (laws.opens Unbounded first.party tt refl);
   }
 
-  pub opens_so : (words : List ℕ) → words ≡ first_words counted → IsRuled moves is_history size admits (state.state words [] (first ∷ []))
-  opens_so words is = subst (λ (ws : List ℕ). IsRuled moves is_history size admits (state.state ws [] (first ∷ []))) (sym is) opens_at
+  pub opens_so : (words : List ℕ) → words ≡ first_words counted → IsRuled moves is_history sized admits (state.state words [] (first ∷ []))
+  opens_so words is = subst (λ (ws : List ℕ). IsRuled moves is_history sized admits (state.state ws [] (first ∷ []))) (sym is) opens_at

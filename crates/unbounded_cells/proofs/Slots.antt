@@ -24,7 +24,7 @@ use Rattle.concurrent_queue.specs.declared.cells.Slot.TheVariants.{In}
 use Rattle.concurrent_queue.specs.declared.history.rule.Counter.{Counter}
 use Rattle.concurrent_queue.specs.declared.history.rule.CountStep.{CountStep}
 use Rattle.concurrent_queue.specs.declared.history.rule.View.{View}
-use Rattle.concurrent_queue.specs.history.Keeps.{HistoryOf, KeepsHistory}
+use Rattle.concurrent_queue.specs.history.Keeps.{HistoryOf, KeepsHistory, Tally}
 use Rattle.concurrent_queue.specs.history.Shared.{tally_in}
 use Rattle.concurrent_queue.proofs.Guarding.{set_there}
 use Rattle.unbounded_cells.specs.Laws.{deed_block, KeepsBlocks}
@@ -152,12 +152,12 @@ module _ {T A : Type 0} where
   holds v held = record v { held = held }
 
 module _ {T A : Type 0} {moves : QueueForm → A → Event T → A → Type 0} {enters : QueueForm → A → Type 0} {turns : QueueForm → A → A → Type 0} {counts : QueueForm → A → A → Counter → CountStep → ℕ → Type 0} {both : A → A → A} {left : A → A} {parts : QueueForm → A → A → A → Type 0} {opened : A} {counted : ℕ} {is_history : HistoryOf T A} (laws : KeepsHistory moves enters turns counts both left parts opened counted is_history)
-    {size : (views : List (View T A)) (c : Contents T) (t : _) → is_history Unbounded views c t → ℕ} (machine : KeepsBlocks moves is_history size) (admits : Type 0) where
+    {sized : ℕ → List (View T A) → Contents T → Tally → Type 0} (machine : KeepsBlocks moves is_history sized) (admits : Type 0) where
   abbrev Ruled : TableState T A → Type 0
-  Ruled = IsRuled moves is_history size admits
+  Ruled = IsRuled moves is_history sized admits
 
   abbrev Kept : List ℕ → Blocks T → List (BlockView T A) → Type 0
-  Kept = IsKept moves is_history size
+  Kept = IsKept moves is_history sized
 
   abbrev Seat : Type 0
   Seat = Me (Option T) (BlockView T A)
@@ -186,7 +186,7 @@ module _ {T A : Type 0} {moves : QueueForm → A → Event T → A → Type 0} {
   is_free s n i zero_is h = ⊎_elim (λ f. f) (λ w. let y : ℕ = inner s.blocks n i in let a : y ≡ 1 = w.1 in let b : y ≡ 0 = zero_is in absurd (omega arith)) h
 
   in_homes : (s : TableState T A) (r : Ruled s) (n i : ℕ) → n < length s.blocks → i < 31 → i < length (block s.blocks n).homes
-  in_homes s r n i there near = let l = r.sized n there in let k : ℕ = length (block s.blocks n).homes in let l' : 31 ≤ k = l in let z : i < k = omega arith in z
+  in_homes s r n i there near = let l = r.wide n there in let k : ℕ = length (block s.blocks n).homes in let l' : 31 ≤ k = l in let z : i < k = omega arith in z
 
   -- A SLOT IS WON with this operation: the history has y there from now on
   won : (s : TableState T A) (id n i : ℕ) (m : Seat) (a : A) (d : Deed T) (x y : Option T) (r : Ruled s) → get_elem? s.views id ≡ home.some m.view → (there : n < length s.blocks) → i < length (block s.blocks n).words → i < 31
@@ -204,7 +204,7 @@ module _ {T A : Type 0} {moves : QueueForm → A → Event T → A → Type 0} {
       let deep : (b k : ℕ) → 31 ≤ k → inner bs' b k ≡ inner s.blocks b k = (λ b k far. guard_other s.blocks n i 1 None there b k (λ _ e. absurd (omega arith))) in
       let spares_stay : (u : BlockView T A) → KeepsSpares s.words s.blocks u → KeepsSpares s.words bs' u = (λ u g. record { top = g.top; link = λ b z e. deep b 34 (omega arith) ∙ g.link b z e }) in
       rule.settled laws machine admits s s.words bs' id v w r at
-      (λ b h. subst (λ (k : ℕ). 31 ≤ k) (sym (still_sized s.blocks n i 1 None there b)) (r.sized b (subst (λ (k : ℕ). b < k) same_length h)))
+      (λ b h. subst (λ (k : ℕ). 31 ≤ k) (sym (still_sized s.blocks n i 1 None there b)) (r.wide b (subst (λ (k : ℕ). b < k) same_length h)))
       (λ b j h low. ⊎_elim
       (λ (t : (b ≡ n) × (j ≡ i)). subst (λ (p : ℕ × ℕ). IsFree (state.state s.words bs' (set s.views id w)) p.0 p.1 ⊎ IsWon (state.state s.words bs' (set s.views id w)) p.0 p.1) (λ k. (sym t.0 k, sym t.1 k)) (inr (
         id,
@@ -225,7 +225,7 @@ module _ {T A : Type 0} {moves : QueueForm → A → Event T → A → Type 0} {
       (λ _ u g. spares_stay u g)
       (λ q.
       let c = q.contents in
-      let u = machine.in_use (parties s.views) c (tally_in Unbounded s.words) q.history q.short id v.party d n (at_map party s.views id v at) (a, made) touches in
+      let u = machine.in_use (parties s.views) c (tally_in Unbounded s.words) q.count q.measured q.short id v.party d n (at_map party s.views id v at) (a, made) touches in
       let slots = q.shown.blocks.slots n there in
       let inside : i < length (block_at c n).slots = subst (λ (l : ℕ). i < l) (sym slots.wide) near in
       rule.by_deed laws machine admits s.words s.words s.blocks bs' s.views q id v w d (with_block c n (with_slot (block_at c n) i y)) at (effect c u.0 inside (slots.at_home i x near at_home)) made refl
@@ -368,7 +368,7 @@ module _ {T A : Type 0} {moves : QueueForm → A → Event T → A → Type 0} {
 
       given : Ruled (state.state s.words bs' (set s.views id w))
       given = rule.settled laws machine admits s s.words bs' id v w r at
-          (λ b h. subst (λ (k : ℕ). 31 ≤ k) (sym (still_sized s.blocks n i 0 (Some y) has.0 b)) (r.sized b (subst (λ (k : ℕ). b < k) same_length h)))
+          (λ b h. subst (λ (k : ℕ). 31 ≤ k) (sym (still_sized s.blocks n i 0 (Some y) has.0 b)) (r.wide b (subst (λ (k : ℕ). b < k) same_length h)))
           (λ b j h low. ⊎_elim
           (λ (t : (b ≡ n) × (j ≡ i)). subst (λ (p : ℕ × ℕ). IsFree (state.state s.words bs' (set s.views id w)) p.0 p.1 ⊎ IsWon (state.state s.words bs' (set s.views id w)) p.0 p.1) (λ k. (sym t.0 k, sym t.1 k)) (inl (
             guard_here s.blocks n i 0 (Some y) has.0 has.1,

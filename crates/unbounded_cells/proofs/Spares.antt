@@ -28,7 +28,7 @@ use Rattle.concurrent_queue.specs.declared.history.rule.Counter.{Counter}
 use Rattle.concurrent_queue.specs.declared.history.rule.Counter.TheVariants.{First, Second, Third, Fourth, Fifth, Sixth}
 use Rattle.concurrent_queue.specs.declared.history.rule.CountStep.{CountStep}
 use Rattle.concurrent_queue.specs.declared.history.rule.View.{View}
-use Rattle.concurrent_queue.specs.history.Keeps.{HistoryOf, KeepsHistory}
+use Rattle.concurrent_queue.specs.history.Keeps.{HistoryOf, KeepsHistory, Tally}
 use Rattle.concurrent_queue.specs.history.Shared.{tally_in, going_on, count_at}
 use Rattle.concurrent_queue.proofs.HistorySteps as steps
 use Rattle.unbounded_cells.specs.Laws.{deed_block, IsNext, KeepsBlocks, Long}
@@ -89,12 +89,12 @@ module _ {T : Type 0} where
   }
 
 module _ {T A : Type 0} {moves : QueueForm → A → Event T → A → Type 0} {enters : QueueForm → A → Type 0} {turns : QueueForm → A → A → Type 0} {counts : QueueForm → A → A → Counter → CountStep → ℕ → Type 0} {both : A → A → A} {left : A → A} {parts : QueueForm → A → A → A → Type 0} {opened : A} {counted : ℕ} {is_history : HistoryOf T A} (laws : KeepsHistory moves enters turns counts both left parts opened counted is_history)
-    {size : (views : List (View T A)) (c : Contents T) (t : _) → is_history Unbounded views c t → ℕ} (machine : KeepsBlocks moves is_history size) (admits : Type 0) where
+    {sized : ℕ → List (View T A) → Contents T → Tally → Type 0} (machine : KeepsBlocks moves is_history sized) (admits : Type 0) where
   abbrev Ruled : TableState T A → Type 0
-  Ruled = IsRuled moves is_history size admits
+  Ruled = IsRuled moves is_history sized admits
 
   abbrev Kept : List ℕ → Blocks T → List (BlockView T A) → Type 0
-  Kept = IsKept moves is_history size
+  Kept = IsKept moves is_history sized
 
   abbrev Seat : Type 0
   Seat = Me (Option T) (BlockView T A)
@@ -108,8 +108,8 @@ module _ {T A : Type 0} {moves : QueueForm → A → Event T → A → Type 0} {
   pub few : (s : TableState T A) (q : Kept s.words s.blocks s.views) → length q.contents.blocks < 2 ^ 61
   few s q =
       let k : ℕ = length q.contents.blocks in
-      let l : ℕ = size (parties s.views) q.contents (tally_in Unbounded s.words) q.history in
-      let e : k ≤ l = machine.few (parties s.views) q.contents (tally_in Unbounded s.words) q.history in
+      let l : ℕ = q.count in
+      let e : k ≤ l = machine.few (parties s.views) q.contents (tally_in Unbounded s.words) q.count q.measured in
       let f : l < 2 ^ 61 = q.short in
       let z : k < 2 ^ 61 = omega arith in z
 
@@ -162,11 +162,11 @@ module _ {T A : Type 0} {moves : QueueForm → A → Event T → A → Type 0} {
       (λ s r q at mine.
       let c = q.contents in
       let p = at_map party s.views id m.view at in
-      let u = machine.in_use (parties s.views) c (tally_in Unbounded s.words) q.history q.short id m.view.party (deed.retired b) b p (a, made) refl in
+      let u = machine.in_use (parties s.views) c (tally_in Unbounded s.words) q.count q.measured q.short id m.view.party (deed.retired b) b p (a, made) refl in
       let there : b < length s.blocks = subst (λ (k : ℕ). b < k) q.shown.blocks.made u.0 in
       let wide : length (block_at c b).slots ≡ 31 = (q.shown.blocks.slots b there).wide in
       let none : (i : ℕ) → slice_index_or (block_at c b).slots i None ≡ None = (λ i. ⊎_elim
-      (λ near. machine.emptied (parties s.views) c (tally_in Unbounded s.words) q.history q.short id m.view.party b i p (a, made) near)
+      (λ near. machine.emptied (parties s.views) c (tally_in Unbounded s.words) q.count q.measured q.short id m.view.party b i p (a, made) near)
       (λ far. blocks.past (block_at c b).slots i None (subst (λ (k : ℕ). k ≤ i) (sym wide) far))
       (cases_lt i 31)) in
       let listed : with_spare c.spares (length c.blocks) b ≡ b ∷ c.spares =
@@ -308,7 +308,7 @@ module _ {T A : Type 0} {moves : QueueForm → A → Event T → A → Type 0} {
       let both = pairs (n, m.view.top) (b, y) (some_is (n, m.view.top) (b, y) e) in
       subst (λ (j : ℕ). inner (blocks.with_word s.blocks n 34 m.view.top there) j 34 ≡ y) both.0 (blocks.inner_put s.blocks n 34 m.view.top there long ∙ both.1))
       (λ s there long r q at.
-      let u = machine.in_use (parties s.views) q.contents (tally_in Unbounded s.words) q.history q.short id m.view.party (deed.retired n) n (at_map party s.views id m.view at) (a, may) refl in (
+      let u = machine.in_use (parties s.views) q.contents (tally_in Unbounded s.words) q.count q.measured q.short id m.view.party (deed.retired n) n (at_map party s.views id m.view at) (a, may) refl in (
         λ _ g. record {
           next = g.next ∙ sym (get_or-set_other (block s.blocks n).words 34 31 m.view.top 0 (λ e. absurd (omega arith)));
           reads = g.reads ∙ sym (get_or-set_other (block s.blocks n).words 34 32 m.view.top 0 (λ e. absurd (omega arith)));
@@ -351,7 +351,7 @@ module _ {T A : Type 0} {moves : QueueForm → A → Event T → A → Type 0} {
         w,
         rule.settled laws machine admits s s.words bs' id v w r at
             (λ b h. ⊎_elim
-            (λ l. subst (λ (x : state.BlockState (Option T)). 31 ≤ length x.homes) (sym (blocks.old_block s.blocks b l)) (r.sized b l))
+            (λ l. subst (λ (x : state.BlockState (Option T)). 31 ≤ length x.homes) (sym (blocks.old_block s.blocks b l)) (r.wide b l))
             (λ e. subst (λ (x : state.BlockState (Option T)). 31 ≤ length x.homes) (sym (blocks.new_block s.blocks b e)) (omega arith))
             (blocks.one_of s.blocks b h))
             (λ b i h near. ⊎_elim

@@ -21,7 +21,7 @@ use Rattle.concurrent_queue.specs.declared.cells.Word.{Word}
 use Rattle.concurrent_queue.specs.declared.history.rule.Counter.{Counter}
 use Rattle.concurrent_queue.specs.declared.history.rule.CountStep.{CountStep}
 use Rattle.concurrent_queue.specs.declared.history.rule.View.{View}
-use Rattle.concurrent_queue.specs.history.Keeps.{HistoryOf, KeepsHistory}
+use Rattle.concurrent_queue.specs.history.Keeps.{HistoryOf, KeepsHistory, Tally}
 use Rattle.concurrent_queue.specs.history.Shared.{AreSeated, tally_in, going_on}
 use Rattle.concurrent_queue.proofs.Guarding.{set_there}
 use Rattle.concurrent_queue.proofs.HistorySeats as seats
@@ -43,7 +43,7 @@ abbrev pub on_with : {T A : Type 0} → BlockView T A → A → BlockView T A
 on_with v a = record v { party = going_on v.party a }
 
 module _ {T A : Type 0} {moves : QueueForm → A → Event T → A → Type 0} {enters : QueueForm → A → Type 0} {turns : QueueForm → A → A → Type 0} {counts : QueueForm → A → A → Counter → CountStep → ℕ → Type 0} {both : A → A → A} {left : A → A} {parts : QueueForm → A → A → A → Type 0} {opened : A} {counted : ℕ} {is_history : HistoryOf T A} (laws : KeepsHistory moves enters turns counts both left parts opened counted is_history)
-    {size : (views : List (View T A)) (c : Contents T) (t : _) → is_history Unbounded views c t → ℕ} (machine : KeepsBlocks moves is_history size) (admits : Type 0) where
+    {sized : ℕ → List (View T A) → Contents T → Tally → Type 0} (machine : KeepsBlocks moves is_history sized) (admits : Type 0) where
   abbrev pub V : Type 0
   V = BlockView T A
 
@@ -54,13 +54,13 @@ module _ {T A : Type 0} {moves : QueueForm → A → Event T → A → Type 0} {
   M = Me (Option T) V
 
   abbrev pub R : S → Type 0
-  R = IsRuled moves is_history size admits
+  R = IsRuled moves is_history sized admits
 
   abbrev pub K : List ℕ → Blocks T → List V → Type 0
-  K = IsKept moves is_history size
+  K = IsKept moves is_history sized
 
   abbrev pub KeptOrLong : List ℕ → Blocks T → List V → Type 0
-  KeptOrLong ws bs views = K ws bs views ⊎ Long moves is_history size
+  KeptOrLong ws bs views = K ws bs views ⊎ Long moves is_history sized
 
   -- what a step tells: the machine made this operation, and nothing else of the seat has changed
   abbrev pub Made : Deed T → M → M → Type 0
@@ -76,10 +76,12 @@ module _ {T A : Type 0} {moves : QueueForm → A → Event T → A → Type 0} {
 
   -- one is short, or as long as there are positions
   pub decided : (ws : List ℕ) (bs : Blocks T) (views : List V) (c : Contents T) → IsShown ws bs c → Away views c → AllCleared views bs → is_history Unbounded (parties views) c (tally_in Unbounded ws) → KeptOrLong ws bs views
-  decided ws bs views c shown away cleared h = ⊎_elim
-      (λ short. inl (record { contents = c; shown = shown; away = away; cleared = cleared; history = h; short = short }))
-      (λ long. inr (parties views, c, tally_in Unbounded ws, h, long))
-      (cases_lt (size (parties views) c (tally_in Unbounded ws) h) (2 ^ 61))
+  decided ws bs views c shown away cleared h =
+      let n = machine.measured (parties views) c (tally_in Unbounded ws) h in
+      ⊎_elim
+      (λ short. inl (record { contents = c; shown = shown; away = away; cleared = cleared; history = h; count = n.0; measured = n.1; short = short }))
+      (λ long. inr (parties views, c, tally_in Unbounded ws, n.0, n.1, long))
+      (cases_lt n.0 (2 ^ 61))
 
   -- THE OPERATION: what the machine makes next, where the table shows what it does
   pub by_deed : (ws ws' : List ℕ) (bs bs' : Blocks T) (views : List V) (q : K ws bs views) (id : ℕ) (v w : V) (d : Deed T) (e : Contents T) → get_elem? views id ≡ home.some v → Does d q.contents e → moves Unbounded v.party.state (does (Some d)) w.party.state
@@ -127,8 +129,8 @@ module _ {T A : Type 0} {moves : QueueForm → A → Event T → A → Type 0} {
       → (w.keeper ≡ true → KeepsSpares ws' bs' w) → (v.keeper ≡ false → (u : V) → KeepsSpares s.words s.blocks u → KeepsSpares ws' bs' u)
       → (K s.words s.blocks s.views → KeptOrLong ws' bs' (set s.views id w))
       → R (state.state ws' bs' (set s.views id w))
-  settled s ws' bs' id v w r at sized guards there named kind over strange live keeper flag mine theirs kept = record {
-    sized = sized;
+  settled s ws' bs' id v w r at wide guards there named kind over strange live keeper flag mine theirs kept = record {
+    wide = wide;
     guards = guards;
     there = there;
     seated = subst (λ (l : List (View T A)). AreSeated Unbounded (slice_index ws' 24) l) (sym (map-set party s.views id w))
@@ -181,7 +183,7 @@ module _ {T A : Type 0} {moves : QueueForm → A → Event T → A → Type 0} {
   ruled s ws' bs' id v w r at long guard homes named kind over strange live slot keeper flag mine theirs kept =
       let back : (b : ℕ) → b < length bs' → b < length s.blocks = (λ b h. subst (λ (k : ℕ). b < k) long h) in
       settled s ws' bs' id v w r at
-      (λ b h. subst (λ (l : List (Option (Option T))). 31 ≤ length l) (sym (homes b)) (r.sized b (back b h)))
+      (λ b h. subst (λ (l : List (Option (Option T))). 31 ≤ length l) (sym (homes b)) (r.wide b (back b h)))
       (λ b i h near. guarded_so s ws' bs' id v w at slot b i (guard b i near) (ap (λ (l : List (Option (Option T))). slice_index_or l i None) (homes b)) (r.guards b i (back b h) near))
       (λ j u b i e z. (let o = was s id v w at j u slot e in subst (λ (k : ℕ). b < k) (sym long) (r.there j o.0 b i o.1 (sym o.2 ∙ z))))
       named kind over strange live keeper flag mine theirs kept
@@ -224,7 +226,7 @@ module _ {T A : Type 0} {moves : QueueForm → A → Event T → A → Type 0} {
             (λ _ u g. spares_stay u g)
             (λ q.
             let c = q.contents in
-            let u = machine.in_use (parties s.views) c (tally_in Unbounded s.words) q.history q.short id v.party (d x) n (at_map party s.views id v at) (b.0, b.1) (touches x) in
+            let u = machine.in_use (parties s.views) c (tally_in Unbounded s.words) q.count q.measured q.short id v.party (d x) n (at_map party s.views id v at) (b.0, b.1) (touches x) in
             let y = edit x (block_at c n) in
             let old_words = q.shown.blocks.used n has.0 u.1 in
             let old_slots = q.shown.blocks.slots n has.0 in

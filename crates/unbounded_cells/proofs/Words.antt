@@ -28,7 +28,7 @@ use Rattle.concurrent_queue.specs.declared.history.rule.Counter.{Counter}
 use Rattle.concurrent_queue.specs.declared.history.rule.Counter.TheVariants.{First, Second, Third, Fourth, Fifth, Sixth}
 use Rattle.concurrent_queue.specs.declared.history.rule.CountStep.{CountStep}
 use Rattle.concurrent_queue.specs.declared.history.rule.View.{View}
-use Rattle.concurrent_queue.specs.history.Keeps.{HistoryOf, KeepsHistory}
+use Rattle.concurrent_queue.specs.history.Keeps.{HistoryOf, KeepsHistory, Tally}
 use Rattle.concurrent_queue.specs.history.Shared.{tally_in, count_at, answer}
 use Rattle.concurrent_queue.proofs.HistorySteps as steps
 use Rattle.unbounded_cells.specs.Laws.{deed_block, word_block, KeepsBlocks}
@@ -164,12 +164,12 @@ module _ {T : Type 0} where
   write_same (word.Written b i) h c = absurd h
 
 module _ {T A : Type 0} {moves : QueueForm → A → Event T → A → Type 0} {enters : QueueForm → A → Type 0} {turns : QueueForm → A → A → Type 0} {counts : QueueForm → A → A → Counter → CountStep → ℕ → Type 0} {both : A → A → A} {left : A → A} {parts : QueueForm → A → A → A → Type 0} {opened : A} {counted : ℕ} {is_history : HistoryOf T A} (laws : KeepsHistory moves enters turns counts both left parts opened counted is_history)
-    {size : (views : List (View T A)) (c : Contents T) (t : _) → is_history Unbounded views c t → ℕ} (machine : KeepsBlocks moves is_history size) (admits : Type 0) where
+    {sized : ℕ → List (View T A) → Contents T → Tally → Type 0} (machine : KeepsBlocks moves is_history sized) (admits : Type 0) where
   abbrev Ruled : TableState T A → Type 0
-  Ruled = IsRuled moves is_history size admits
+  Ruled = IsRuled moves is_history sized admits
 
   abbrev Kept : List ℕ → Blocks T → List (BlockView T A) → Type 0
-  Kept = IsKept moves is_history size
+  Kept = IsKept moves is_history sized
 
   abbrev Seat : Type 0
   Seat = Me (Option T) (BlockView T A)
@@ -369,7 +369,7 @@ module _ {T A : Type 0} {moves : QueueForm → A → Event T → A → Type 0} {
         tt,
         happens s r id m.view d fits.0 at live fits.1
             (λ q.
-            let u = machine.in_use (parties s.views) q.contents (tally_in Unbounded s.words) q.history q.short id m.view.party d n (at_map party s.views id m.view at) fits touches in
+            let u = machine.in_use (parties s.views) q.contents (tally_in Unbounded s.words) q.count q.measured q.short id m.view.party d n (at_map party s.views id m.view at) fits touches in
             absurd (let x : ℕ = length s.blocks in let y : ℕ = length q.contents.blocks in let e : y ≡ x = q.shown.blocks.made in let g' : x ≤ n = g in let h : n < y = u.0 in omega arith)),
         ((λ _. (fits.1, refl)), λ l. absurd (let x : ℕ = length s.blocks in let l' : n < x = l in let g' : x ≤ n = g in omega arith)),
       ))

@@ -61,20 +61,22 @@ module _ {T A : Type 0} (moves : QueueForm → A → Event T → A → Type 0) w
   abbrev pub IsNext : View T A → Deed T → Type 0
   IsNext v d = (a : A) × moves Unbounded v.state (does (Some d)) a
 
-  module _ (history : HistoryOf T A) (size : (views : List (View T A)) (c : Contents T) (t : Tally) → history Unbounded views c t → ℕ) where
+  -- `sized n` says that there is a history of n events
+  module _ (history : HistoryOf T A) (sized : ℕ → List (View T A) → Contents T → Tally → Type 0) where
     -- there was a history as long as there are positions
     abbrev pub Long : Type 0
-    Long = (views : List (View T A)) × (c : Contents T) × (t : Tally) × (h : history Unbounded views c t) × (2 ^ 61 ≤ size views c t h)
+    Long = (views : List (View T A)) × (c : Contents T) × (t : Tally) × (n : ℕ) × sized n views c t × (2 ^ 61 ≤ n)
 
-    -- in a shorter history
     pub record KeepsBlocks : Type 0 where
+      -- each history has a length
+      pub measured : (views : List (View T A)) (c : Contents T) (t : Tally) → history Unbounded views c t → (n : ℕ) × sized n views c t
       -- there are no more blocks than events
-      pub few : (views : List (View T A)) (c : Contents T) (t : Tally) (h : history Unbounded views c t) → length c.blocks ≤ size views c t h
-      -- an operation on a block is made on one in use
-      pub in_use : (views : List (View T A)) (c : Contents T) (t : Tally) (h : history Unbounded views c t) → size views c t h < 2 ^ 61
+      pub few : (views : List (View T A)) (c : Contents T) (t : Tally) (n : ℕ) → sized n views c t → length c.blocks ≤ n
+      -- in a short one an operation on a block is made on one in use
+      pub in_use : (views : List (View T A)) (c : Contents T) (t : Tally) (n : ℕ) → sized n views c t → n < 2 ^ 61
           → (p : ℕ) (v : View T A) (d : Deed T) (b : ℕ) → get_elem? views p ≡ some v → IsNext v d → deed_block d ≡ Some b → (b < length c.blocks) × (times b c.spares ≡ 0)
-      -- all slots of a block that is given back are empty
-      pub emptied : (views : List (View T A)) (c : Contents T) (t : Tally) (h : history Unbounded views c t) → size views c t h < 2 ^ 61
+      -- and all slots of a block that is given back are empty
+      pub emptied : (views : List (View T A)) (c : Contents T) (t : Tally) (n : ℕ) → sized n views c t → n < 2 ^ 61
           → (p : ℕ) (v : View T A) (b i : ℕ) → get_elem? views p ≡ some v → IsNext v (retired b) → i < 31 → slot_at c (In b i) ≡ None
       -- of a flag nothing else is asked than to be read or set
       pub flags : (v : View T A) (d : Deed T) → IsNext v d → OnFlags d

@@ -14,7 +14,7 @@ use Rattle.concurrent_queue.specs.declared.cells.QueueForm.TheVariants.{Unbounde
 use Rattle.concurrent_queue.specs.declared.cells.Word.{Word}
 use Rattle.concurrent_queue.specs.declared.cells.Word.TheVariants as word
 use Rattle.concurrent_queue.specs.declared.history.rule.View.{View}
-use Rattle.concurrent_queue.specs.history.Keeps.{HistoryOf}
+use Rattle.concurrent_queue.specs.history.Keeps.{HistoryOf, Tally}
 use Rattle.concurrent_queue.specs.history.Shared.{AreSeated, tally_in}
 use Rattle.unbounded_cells.specs.Laws.{Long}
 use Rattle.unbounded_cells.specs.declared.rule.BlockView.{BlockView}
@@ -111,7 +111,7 @@ module _ {T A : Type 0} where
   abbrev pub Cleared : Blocks T → BlockView T A → Type 0
   Cleared bs v = (b i : ℕ) → v.top ≡ b + 1 → i < v.cleared → i < 3 → inner bs b (31 + i) ≡ 0
 
-  module _ (moves : QueueForm → A → Event T → A → Type 0) (is_history : HistoryOf T A) (size : (views : List (View T A)) (c : Contents T) (t : _) → is_history Unbounded views c t → ℕ) where
+  module _ (moves : QueueForm → A → Event T → A → Type 0) (is_history : HistoryOf T A) (sized : ℕ → List (View T A) → Contents T → Tally → Type 0) where
     -- THE HISTORY: a short one has led to what the table shows
     pub record IsKept (ws : List ℕ) (bs : Blocks T) (views : List (BlockView T A)) : Type 0 where
       pub contents : Contents T
@@ -119,14 +119,16 @@ module _ {T A : Type 0} where
       pub away : (j : ℕ) (v : BlockView T A) (b i : ℕ) (x : Option T) → get_elem? views j ≡ home.some v → v.held ≡ Some (b, i, x) → slice_index_or (block_in contents.blocks b).slots i None ≡ x
       pub cleared : (j : ℕ) (v : BlockView T A) → get_elem? views j ≡ home.some v → v.keeper ≡ true → Cleared bs v
       pub history : is_history Unbounded (parties views) contents (tally_in Unbounded ws)
-      pub short : size (parties views) contents (tally_in Unbounded ws) history < 2 ^ 61
+      pub count : ℕ
+      pub measured : sized count (parties views) contents (tally_in Unbounded ws)
+      pub short : count < 2 ^ 61
 
     -- THE RULE
     pub record IsRuled (admits : Type 0) (s : TableState T A) : Type 0 where
-      pub sized : (b : ℕ) → b < length s.blocks → 31 ≤ length (block s.blocks b).homes
+      pub wide : (b : ℕ) → b < length s.blocks → 31 ≤ length (block s.blocks b).homes
       pub guards : (b i : ℕ) → b < length s.blocks → i < 31 → IsFree s b i ⊎ IsWon s b i
       pub there : (j : ℕ) (v : BlockView T A) (b i : ℕ) → get_elem? s.views j ≡ home.some v → slot_of v ≡ Some (b, i) → b < length s.blocks
       pub seated : AreSeated Unbounded (slice_index s.words 24) (parties s.views)
       pub single : (j k : ℕ) (v w : BlockView T A) → get_elem? s.views j ≡ home.some v → get_elem? s.views k ≡ home.some w → v.keeper ≡ true → w.keeper ≡ true → j ≡ k
       pub spares : (j : ℕ) (v : BlockView T A) → get_elem? s.views j ≡ home.some v → v.keeper ≡ true → KeepsSpares s.words s.blocks v
-      pub kept : (admits → slice_index s.words 24 ≡ 0) → IsKept s.words s.blocks s.views ⊎ Long moves is_history size
+      pub kept : (admits → slice_index s.words 24 ≡ 0) → IsKept s.words s.blocks s.views ⊎ Long moves is_history sized

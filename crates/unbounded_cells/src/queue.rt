@@ -1,8 +1,8 @@
 //! The queue's own machine is such a machine.
 
-ghost use Rattle.std.specs.Prelude.{length};
 ghost use Rattle.concurrent_queue.specs.history.Runs.{moves, history};
 ghost use Rattle.unbounded_cells.specs.Laws.{KeepsBlocks};
+ghost use Rattle.unbounded_cells.specs.Queue.{sized};
 ghost use Rattle.concurrent_queue.specs.declared.history.party.Standing.{Standing};
 
 use crate::rule::BlockMachine;
@@ -11,15 +11,15 @@ use concurrent_queue::history::party::{OfQueue, Standing};
 use concurrent_queue::laws::parties_are_among_others;
 
 impl<T> BlockMachine<T, Standing<T>> for OfQueue {
-    ghost use Rattle.std.specs.Prelude.{length};
+    ghost use Rattle.unbounded_cells.specs.Queue.{sized};
 
-    ghost history_size = { λ views c t h. length h.events };
+    ghost sized = { sized };
 }
 
 /// In a history of the queue's own machine with fewer than 2^61 events, each operation on a block is made on a block in use, and a block that
 /// is given back has only empty slots. It does nothing.
 pub fn queue_keeps_blocks<T>()
-    ensures kept { KeepsBlocks {T = T} {A = Standing T} moves history (λ views c t h. length h.events) }
+    ensures kept { KeepsBlocks {T = T} {A = Standing T} moves history sized }
 {
     histories_touch_their_own::<T>();
     parties_are_among_others::<T>();

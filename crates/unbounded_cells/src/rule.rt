@@ -24,9 +24,8 @@ pub trait BlockMachine<T, A>: Machine<T, A> {
     ghost use Rattle.std.specs.Prelude.{ℕ, List};
     ghost use Rattle.concurrent_queue.specs.Contents.{Contents};
     ghost use Rattle.concurrent_queue.specs.history.Keeps.{Tally};
-    ghost use Rattle.concurrent_queue.specs.declared.cells.QueueForm.TheVariants.{Unbounded};
     ghost use Rattle.concurrent_queue.specs.declared.history.rule.View.{View};
 
-    /// How many events a history has.
-    ghost history_size: { (views : List (View T A)) (c : Contents T) (t : Tally) → Self.history Unbounded views c t → ℕ };
+    /// There is a history of so many events.
+    ghost sized: { ℕ → List (View T A) → Contents T → Tally → Type 0 };
 }
