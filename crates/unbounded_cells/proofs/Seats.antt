@@ -31,10 +31,11 @@ use Rattle.concurrent_queue.proofs.HistorySeats as seats
 use Rattle.concurrent_queue.proofs.HistorySeats.{IsNamed}
 use Rattle.unbounded_cells.specs.Laws.{KeepsBlocks, Long}
 use Rattle.unbounded_cells.specs.Rule.{Blocks, TableState, inner, BlocksShown, IsShown, IsRoot, root_at, party, parties, slot_in, slot_of, IsFree, IsWon, KeepsSpares, Cleared, IsKept, IsRuled}
+use Rattle.unbounded_cells.specs.Told.{on_with, first_seat}
 use Rattle.unbounded_cells.specs.declared.rule.BlockView.{BlockView}
 use Rattle.unbounded_cells.proofs.Spares.{none_some}
 use Rattle.unbounded_cells.proofs.Steps as rule
-use Rattle.unbounded_cells.proofs.Steps.{seen_as, on_with}
+use Rattle.unbounded_cells.proofs.Steps.{seen_as}
 
 module _ {T A : Type 0} where
   -- a new party, which knows its number and this is its state
@@ -267,9 +268,6 @@ module _ {T A : Type 0} {moves : QueueForm → A → Event T → A → Type 0} {
 -- its words: all 0, but for the two counts
 abbrev pub first_words : ℕ → List ℕ
 first_words n = set (set (replicate 32 0) 9 n) 28 n
-
-abbrev pub first_seat : {T A : Type 0} → A → BlockView T A
-first_seat a = record { party = first_view a Unbounded; held = None; keeper = true; top = 0; link = None; cleared = 0 }
 
 only_one : {X : Type 0} → (x u : X) (j : ℕ) → get_elem? (x ∷ []) j ≡ home.some u → (j ≡ 0) × (x ≡ u)
 only_one x u zero e = (refl, some-injective x u e)

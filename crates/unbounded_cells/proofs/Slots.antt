@@ -29,11 +29,12 @@ use Rattle.concurrent_queue.specs.history.Shared.{tally_in}
 use Rattle.concurrent_queue.proofs.Guarding.{set_there}
 use Rattle.unbounded_cells.specs.Laws.{deed_block, KeepsBlocks}
 use Rattle.unbounded_cells.specs.Rule.{Homes, Blocks, TableState, inner, WordsShown, SlotsShown, BlocksShown, party, parties, slot_in, slot_of, IsFree, IsWon, KeepsSpares, Cleared, IsKept, IsRuled}
+use Rattle.unbounded_cells.specs.Told.{on_with}
 use Rattle.unbounded_cells.specs.declared.rule.BlockView.{BlockView}
 use Rattle.unbounded_cells.proofs.Blocks as blocks
 use Rattle.unbounded_cells.proofs.Spares.{some_is, none_some}
 use Rattle.unbounded_cells.proofs.Steps as rule
-use Rattle.unbounded_cells.proofs.Steps.{seen_as, on_with}
+use Rattle.unbounded_cells.proofs.Steps.{seen_as}
 
 set_set : {X : Type 0} → (l : List X) (i : ℕ) (x y : X) → set (set l i x) i y ≡ set l i y
 set_set [] i x y = refl

@@ -33,11 +33,12 @@ use Rattle.concurrent_queue.specs.history.Shared.{tally_in, going_on, count_at}
 use Rattle.concurrent_queue.proofs.HistorySteps as steps
 use Rattle.unbounded_cells.specs.Laws.{deed_block, IsNext, KeepsBlocks, Long}
 use Rattle.unbounded_cells.specs.Rule.{Blocks, TableState, inner, WordsShown, SlotsShown, BlocksShown, Chain, IsShown, IsRoot, root_at, party, parties, slot_in, slot_of, IsFree, IsWon, KeepsSpares, Cleared, IsKept, IsRuled}
+use Rattle.unbounded_cells.specs.Told.{on_with}
 use Rattle.unbounded_cells.specs.declared.rule.BlockView.{BlockView}
 use Rattle.unbounded_cells.proofs.Blocks as blocks
 use Rattle.unbounded_cells.proofs.Room.{room}
 use Rattle.unbounded_cells.proofs.Steps as rule
-use Rattle.unbounded_cells.proofs.Steps.{V, S, M, R, K, KeptOrLong, seen_as, on_with}
+use Rattle.unbounded_cells.proofs.Steps.{seen_as}
 
 pub top_no_count : (which : Counter) → 25 ≢ count_at Unbounded which
 top_no_count First e = absurd (omega arith)

@@ -28,6 +28,8 @@ use Rattle.concurrent_queue.proofs.HistorySeats as seats
 use Rattle.concurrent_queue.proofs.HistorySeats.{IsNamed, ListsNoMore}
 use Rattle.unbounded_cells.specs.Laws.{deed_block, IsNext, KeepsBlocks, Long}
 use Rattle.unbounded_cells.specs.Rule.{Blocks, TableState, inner, WordsShown, SlotsShown, BlocksShown, Chain, IsShown, IsRoot, party, parties, slot_in, slot_of, IsFree, IsWon, KeepsSpares, Cleared, IsKept, IsRuled}
+use Rattle.unbounded_cells.specs.Told as told
+use Rattle.unbounded_cells.specs.Told.{on_with}
 use Rattle.unbounded_cells.specs.declared.rule.BlockView.{BlockView}
 use Rattle.unbounded_cells.proofs.Blocks as blocks
 
@@ -38,9 +40,6 @@ or_false false = inr refl
 -- the seat with a new view
 abbrev pub seen_as : {T A : Type 0} → Me (Option T) (BlockView T A) → BlockView T A → Me (Option T) (BlockView T A)
 seen_as m w = me w m.hand
-
-abbrev pub on_with : {T A : Type 0} → BlockView T A → A → BlockView T A
-on_with v a = record v { party = going_on v.party a }
 
 module _ {T A : Type 0} {moves : QueueForm → A → Event T → A → Type 0} {enters : QueueForm → A → Type 0} {turns : QueueForm → A → A → Type 0} {counts : QueueForm → A → A → Counter → CountStep → ℕ → Type 0} {both : A → A → A} {left : A → A} {parts : QueueForm → A → A → A → Type 0} {opened : A} {counted : ℕ} {is_history : HistoryOf T A} (laws : KeepsHistory moves enters turns counts both left parts opened counted is_history)
     {sized : ℕ → List (View T A) → Contents T → Tally → Type 0} (machine : KeepsBlocks moves is_history sized) (admits : Type 0) where
@@ -61,10 +60,6 @@ module _ {T A : Type 0} {moves : QueueForm → A → Event T → A → Type 0} {
 
   abbrev pub KeptOrLong : List ℕ → Blocks T → List V → Type 0
   KeptOrLong ws bs views = K ws bs views ⊎ Long moves is_history sized
-
-  -- what a step tells: the machine made this operation, and nothing else of the seat has changed
-  abbrev pub Made : Deed T → M → M → Type 0
-  Made d m m' = moves Unbounded m.view.party.state (does (Some d)) m'.view.party.state × (m' ≡ seen_as m (on_with m.view m'.view.party.state))
 
   abbrev pub Away : List V → Contents T → Type 0
   Away views c = (j : ℕ) (v : V) (b i : ℕ) (x : Option T) → get_elem? views j ≡ home.some v → v.held ≡ Some (b, i, x) → slice_index_or (block_in c.blocks b).slots i None ≡ x
@@ -204,7 +199,7 @@ module _ {T A : Type 0} {moves : QueueForm → A → Event T → A → Type 0} {
       → ((x : ℕ) (y : BlockCells T) → ((edit x y).slots ≡ y.slots) × (length (edit x y).written ≡ length y.written))
       → ((c : Contents T) (ws : List ℕ) → WordsShown ws (block_at c n) → Does (d (slice_index_or ws k 0)) c (with_block c n (edit (slice_index_or ws k 0) (block_at c n))))
       → ((x : ℕ) → (a : A) × moves Unbounded m.view.party.state (does (Some (d x))) a)
-      → Allows R id m (within n k) f (λ x m'. Made (d x) m m')
+      → Allows R id m (within n k) f (λ x m'. told.Does moves (d x) m m')
   by_block id n k m f d edit behind before live touches words slots effect fits s r at has small =
       let x : ℕ = slice_index_or (block s.blocks n).words k 0 in
       let b = fits x in

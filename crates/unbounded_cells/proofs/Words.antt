@@ -33,11 +33,13 @@ use Rattle.concurrent_queue.specs.history.Shared.{tally_in, count_at, answer}
 use Rattle.concurrent_queue.proofs.HistorySteps as steps
 use Rattle.unbounded_cells.specs.Laws.{deed_block, word_block, KeepsBlocks}
 use Rattle.unbounded_cells.specs.Rule.{Blocks, TableState, inner, WordsShown, SlotsShown, BlocksShown, IsShown, IsRoot, root_at, party, parties, slot_of, KeepsSpares, Cleared, IsKept, IsRuled}
+use Rattle.unbounded_cells.specs.Told as told
+use Rattle.unbounded_cells.specs.Told.{on_with}
 use Rattle.unbounded_cells.specs.declared.rule.BlockView.{BlockView}
 use Rattle.unbounded_cells.proofs.Blocks as blocks
 use Rattle.unbounded_cells.proofs.Spares.{top_no_root}
 use Rattle.unbounded_cells.proofs.Steps as rule
-use Rattle.unbounded_cells.proofs.Steps.{seen_as, on_with, Made}
+use Rattle.unbounded_cells.proofs.Steps.{seen_as}
 
 -- a word that is one of the table's: not a flag, and not a stamp
 abbrev pub IsWhole : Word → Type 0
@@ -174,13 +176,10 @@ module _ {T A : Type 0} {moves : QueueForm → A → Event T → A → Type 0} {
   abbrev Seat : Type 0
   Seat = Me (Option T) (BlockView T A)
 
-  abbrev pub Does_it : Deed T → Seat → Seat → Type 0
-  Does_it d m m' = moves Unbounded m.view.party.state (does (Some d)) m'.view.party.state × (m' ≡ seen_as m (on_with m.view m'.view.party.state))
-
   -- ---- one of the queue's own words
 
   module _ (id : ℕ) (m : Seat) (w : Word) (f : ℕ → ℕ) (d : ℕ → Deed T) (live : m.view.party.spent ≡ false) (effect : (c e : Contents T) → e ≡ write c w (f (read c w)) → Does (d (read c w)) c e) (fits : (x : ℕ) → (a : A) × moves Unbounded m.view.party.state (does (Some (d x))) a) where
-    by_root : IsRoot w → Allows Ruled id m (own (root_at w)) f (λ x m'. Does_it (d x) m m')
+    by_root : IsRoot w → Allows Ruled id m (own (root_at w)) f (λ x m'. told.Does moves (d x) m m')
     by_root is s r at has small =
         let k : ℕ = root_at w in
         let x : ℕ = slice_index_or s.words k 0 in
@@ -228,7 +227,7 @@ module _ {T A : Type 0} {moves : QueueForm → A → Event T → A → Type 0} {
 
     -- ---- a block's
 
-    by_next : (n : ℕ) → w ≡ word.Next n → ((x : ℕ) → deed_block (d x) ≡ Some n) → Allows Ruled id m (within n 31) f (λ x m'. Does_it (d x) m m')
+    by_next : (n : ℕ) → w ≡ word.Next n → ((x : ℕ) → deed_block (d x) ≡ Some n) → Allows Ruled id m (within n 31) f (λ x m'. told.Does moves (d x) m m')
     by_next n is touches = rule.by_block laws machine admits id n 31 m f d (λ x y. with_next y (f x)) (omega arith) (omega arith) live touches
         (λ ws y long flags g. record {
           next = sym (get_or-set_same ws 31 (f (slice_index_or ws 31 0)) 0 long);
@@ -241,7 +240,7 @@ module _ {T A : Type 0} {moves : QueueForm → A → Event T → A → Type 0} {
         (subst (λ (o : Word). Does (d (read c o)) c (write c o (f (read c o)))) is (effect c (write c w (f (read c w))) refl)))
         fits
 
-    by_reads : (n : ℕ) → w ≡ word.Reads n → ((x : ℕ) → deed_block (d x) ≡ Some n) → Allows Ruled id m (within n 32) f (λ x m'. Does_it (d x) m m')
+    by_reads : (n : ℕ) → w ≡ word.Reads n → ((x : ℕ) → deed_block (d x) ≡ Some n) → Allows Ruled id m (within n 32) f (λ x m'. told.Does moves (d x) m m')
     by_reads n is touches = rule.by_block laws machine admits id n 32 m f d (λ x y. with_reads y (f x)) (omega arith) (omega arith) live touches
         (λ ws y long flags g. record {
           next = g.next ∙ sym (get_or-set_other ws 32 31 (f (slice_index_or ws 32 0)) 0 (λ e. absurd (omega arith)));
@@ -256,7 +255,7 @@ module _ {T A : Type 0} {moves : QueueForm → A → Event T → A → Type 0} {
 
   -- AN OPERATION ON A WHOLE WORD, whichever
   pub by_whole : (id : ℕ) (m : Seat) (w : Word) (f : ℕ → ℕ) (d : ℕ → Deed T) → IsWhole w → m.view.party.spent ≡ false → ((c e : Contents T) → e ≡ write c w (f (read c w)) → Does (d (read c w)) c e) → ((x : ℕ) → (a : A) × moves Unbounded m.view.party.state (does (Some (d x))) a)
-      → ((x : ℕ) → deed_block (d x) ≡ word_block w) → Allows Ruled id m (spot_of w) f (λ x m'. Does_it (d x) m m')
+      → ((x : ℕ) → deed_block (d x) ≡ word_block w) → Allows Ruled id m (spot_of w) f (λ x m'. told.Does moves (d x) m m')
   by_whole id m word.State f d is live effect fits touches = by_root id m word.State f d live effect fits tt
   by_whole id m word.Head f d is live effect fits touches = by_root id m word.Head f d live effect fits tt
   by_whole id m word.Tail f d is live effect fits touches = by_root id m word.Tail f d live effect fits tt
@@ -271,19 +270,19 @@ module _ {T A : Type 0} {moves : QueueForm → A → Event T → A → Type 0} {
     abbrev Fits : (ℕ → Deed T) → Type 0
     Fits d = (x : ℕ) → (a : A) × moves Unbounded m.view.party.state (does (Some (d x))) a
 
-    pub loads_so : Fits (deed.loaded w) → Allows Ruled id m (spot_of w) (λ n. n) (λ n m'. Does_it (deed.loaded w n) m m')
+    pub loads_so : Fits (deed.loaded w) → Allows Ruled id m (spot_of w) (λ n. n) (λ n m'. told.Does moves (deed.loaded w n) m m')
     loads_so fits = by_whole id m w (λ n. n) (deed.loaded w) is live (λ c e h. (refl, h ∙ write_same w is c)) fits (λ x. refl)
 
-    pub stores_so : (x : ℕ) → ((a : A) × moves Unbounded m.view.party.state (does (Some (deed.stored w x))) a) → Allows Ruled id m (spot_of w) (λ _. x) (λ _ m'. Does_it (deed.stored w x) m m')
+    pub stores_so : (x : ℕ) → ((a : A) × moves Unbounded m.view.party.state (does (Some (deed.stored w x))) a) → Allows Ruled id m (spot_of w) (λ _. x) (λ _ m'. told.Does moves (deed.stored w x) m m')
     stores_so x fits = by_whole id m w (λ _. x) (λ _. deed.stored w x) is live (λ c e h. h) (λ _. fits) (λ _. refl)
 
-    pub adds_so : (x : ℕ) → Fits (deed.added w x) → Allows Ruled id m (spot_of w) (λ n. (n + x) % 2 ^ 64) (λ n m'. Does_it (deed.added w x n) m m')
+    pub adds_so : (x : ℕ) → Fits (deed.added w x) → Allows Ruled id m (spot_of w) (λ n. (n + x) % 2 ^ 64) (λ n m'. told.Does moves (deed.added w x n) m m')
     adds_so x fits = by_whole id m w (λ n. (n + x) % 2 ^ 64) (deed.added w x) is live (λ c e h. (refl, h)) fits (λ _. refl)
 
-    pub sets_so : (x : ℕ) → Fits (deed.bits_set w x) → Allows Ruled id m (spot_of w) (λ n. bit_or n x) (λ n m'. Does_it (deed.bits_set w x n) m m')
+    pub sets_so : (x : ℕ) → Fits (deed.bits_set w x) → Allows Ruled id m (spot_of w) (λ n. bit_or n x) (λ n m'. told.Does moves (deed.bits_set w x n) m m')
     sets_so x fits = by_whole id m w (λ n. bit_or n x) (deed.bits_set w x) is live (λ c e h. (refl, h)) fits (λ _. refl)
 
-    pub keeps_so : (x : ℕ) → Fits (deed.bits_kept w x) → Allows Ruled id m (spot_of w) (λ n. bit_and n x) (λ n m'. Does_it (deed.bits_kept w x n) m m')
+    pub keeps_so : (x : ℕ) → Fits (deed.bits_kept w x) → Allows Ruled id m (spot_of w) (λ n. bit_and n x) (λ n m'. told.Does moves (deed.bits_kept w x n) m m')
     keeps_so x fits = by_whole id m w (λ n. bit_and n x) (deed.bits_kept w x) is live (λ c e h. (refl, h)) fits (λ _. refl)
 
     abbrev Answers : ℕ → ℕ → Contents T → Contents T → Bool → Type 0
@@ -294,13 +293,13 @@ module _ {T A : Type 0} {moves : QueueForm → A → Event T → A → Type 0} {
         (λ q. subst (Answers old new c e) (sym (eq-eqb (read c w) old q)) (λ h. (q, q, h)))
         (λ ne. subst (Answers old new c e) (sym (ne_eqb (read c w) old ne)) (λ h. (refl, ne, h ∙ write_same w is c)))
 
-    pub exchanges_so : (old new : ℕ) → Fits (λ n. deed.exchanged w old new (answer n old)) → Allows Ruled id m (spot_of w) (λ n. either (eqb n old) new n) (λ n m'. Does_it (deed.exchanged w old new (answer n old)) m m')
+    pub exchanges_so : (old new : ℕ) → Fits (λ n. deed.exchanged w old new (answer n old)) → Allows Ruled id m (spot_of w) (λ n. either (eqb n old) new n) (λ n m'. told.Does moves (deed.exchanged w old new (answer n old)) m m')
     exchanges_so old new fits = by_whole id m w (λ n. either (eqb n old) new n) (λ n. deed.exchanged w old new (answer n old)) is live (exchange_does old new) fits (λ _. refl)
 
   -- ---- a flag
 
   module _ (id n i : ℕ) (m : Seat) (near : i < 31) (live : m.view.party.spent ≡ false) where
-    pub reads_flag : ((x : ℕ) → (a : A) × moves Unbounded m.view.party.state (does (Some (deed.loaded (word.Written n i) x))) a) → Allows Ruled id m (within n 33) (λ x. x) (λ x m'. Does_it (deed.loaded (word.Written n i) (bit_at x i)) m m')
+    pub reads_flag : ((x : ℕ) → (a : A) × moves Unbounded m.view.party.state (does (Some (deed.loaded (word.Written n i) x))) a) → Allows Ruled id m (within n 33) (λ x. x) (λ x m'. told.Does moves (deed.loaded (word.Written n i) (bit_at x i)) m m')
     reads_flag fits = rule.by_block laws machine admits id n 33 m (λ x. x) (λ x. deed.loaded (word.Written n i) (bit_at x i)) (λ x y. y) (omega arith) (omega arith) live (λ _. refl)
         (λ ws y long flags g. subst (λ (l : List ℕ). WordsShown l y) (sym (set-get_or ws 33 0)) g)
         (λ x y. (refl, refl))
@@ -315,7 +314,7 @@ module _ {T A : Type 0} {moves : QueueForm → A → Event T → A → Type 0} {
     with_none : (x : ℕ) → max x 0 ≡ x
     with_none x = omega arith
 
-    pub sets_flag : ((a : A) × moves Unbounded m.view.party.state (does (Some (deed.stored (word.Written n i) 1))) a) → Allows Ruled id m (within n 33) (λ x. bit_or x (2 ^ i)) (λ _ m'. Does_it (deed.stored (word.Written n i) 1) m m')
+    pub sets_flag : ((a : A) × moves Unbounded m.view.party.state (does (Some (deed.stored (word.Written n i) 1))) a) → Allows Ruled id m (within n 33) (λ x. bit_or x (2 ^ i)) (λ _ m'. told.Does moves (deed.stored (word.Written n i) 1) m m')
     sets_flag fits = rule.by_block laws machine admits id n 33 m (λ x. bit_or x (2 ^ i)) (λ _. deed.stored (word.Written n i) 1) (λ x y. with_written y i 1) (omega arith) (omega arith) live (λ _. refl)
         (λ ws y long flags g.
         let x : ℕ = slice_index_or ws 33 0 in
@@ -354,7 +353,7 @@ module _ {T A : Type 0} {moves : QueueForm → A → Event T → A → Type 0} {
 
   -- on a block that was never made: a short history has no such operation
   pub absent_so : (id n : ℕ) (m : Seat) (d : Deed T) → m.view.party.spent ≡ false → deed_block d ≡ Some n → ((a : A) × moves Unbounded m.view.party.state (does (Some d)) a)
-      → Allows Ruled id m count (λ x. x) (λ x m'. (x ≤ n → Does_it d m m') × (n < x → m' ≡ m))
+      → Allows Ruled id m count (λ x. x) (λ x m'. (x ≤ n → told.Does moves d m m') × (n < x → m' ≡ m))
   absent_so id n m d live touches fits s r at has small = ⊎_elim
       (λ (l : n < length s.blocks). (
         m.view,
@@ -379,5 +378,5 @@ module _ {T A : Type 0} {moves : QueueForm → A → Event T → A → Type 0} {
   abbrev pub LeavesAll : Deed T → Type 0
   LeavesAll d = (ws : List ℕ) (bs : Blocks T) (c : Contents T) → IsShown ws bs c → Does d c c
 
-  pub happens_so : (id : ℕ) (m : Seat) (d : Deed T) → m.view.party.spent ≡ false → LeavesAll d → ((a : A) × moves Unbounded m.view.party.state (does (Some d)) a) → Allows Ruled id m count (λ x. x) (λ _ m'. Does_it d m m')
+  pub happens_so : (id : ℕ) (m : Seat) (d : Deed T) → m.view.party.spent ≡ false → LeavesAll d → ((a : A) × moves Unbounded m.view.party.state (does (Some d)) a) → Allows Ruled id m count (λ x. x) (λ _ m'. told.Does moves d m m')
   happens_so id m d live leaves fits s r at has small = (on_with m.view fits.0, keeps, tt, happens s r id m.view d fits.0 at live fits.1 (λ q. leaves s.words s.blocks q.contents q.shown), (fits.1, refl))
