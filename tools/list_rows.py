@@ -20,7 +20,6 @@ TEXTS = [
     ("event_listener_tests", "list_rows", "ROWS", "`List` of one owner, and `List::run` (`lists`)", "list::rows"),
     ("event_listener_tests", "event_rows", "UNIT_ROWS", "`Event<()>`, its four notices, and `EventListener`, polled by hand and as a future (`units`, `listening`, `made`)", "event::rows"),
     ("event_listener_tests", "event_rows", "TAG_ROWS", "`Event<u32>`, and `EventListener` with its waits (`tags`, `listening`, `made`)", "event::rows_of_tags"),
-    ("event_listener_tests", "event_rows", "SLOT_ROWS", "`StackSlot`, and `StackListener` with its waits (`tags`, `listening`, `made`)", "event::rows_of_slots"),
     ("event_listener_tests", "recorded", "ROWS", "`RecordedEvent` and its record (`records`)", "recorded::rows"),
     ("async_channel_tests", "handle_rows", "OPERATIONS", "`Sender` and `Receiver`, and `Send`, `Recv`, `Closed` and streams, polled by hand (`lent`; `calls` of `channel_test_helpers`)", "rows::operations"),
     ("async_channel_tests", "handle_rows", "HANDLES", "all handles, made and dropped, and operations polled up to their ends (`owned`; `calls` of `channel_test_helpers`)", "rows::handles"),

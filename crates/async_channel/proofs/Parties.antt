@@ -1,5 +1,5 @@
 -- What is said of a party call by call.
-use Rattle.std.proofs.Common.{◌≡◌, ◌∙◌, [], ◌∷◌, List, ◌++◌, Bool, false, Option, None, Some, Result, Ok, Err, inl, inr, ap, sym, subst, append-nil}
+use Rattle.std.proofs.Common.{◌≡◌, ◌∙◌, [], ◌∷◌, List, ◌++◌, Bool, false, Option, None, Some, Result, Ok, Err, inl, inr, refl, ap, sym, subst, append-nil}
 use Rattle.std.proofs.lemmas.List.{append_assoc}
 use Rattle.std.proofs.lemmas.List.Elements.{All-append, All-from_recursion}
 use Rattle.event_listener.specs.declared.waking.Task.{Task}
@@ -32,7 +32,7 @@ use Rattle.channel_calls.specs.declared.stage.WaitList.{WaitList}
 use Rattle.channel_cells.specs.Calls.{HasCalled, HasPolled}
 use Rattle.channel_cells.specs.Channel.{standing_of}
 use Rattle.channel_history.specs.Party.{fresh}
-use Rattle.async_channel.specs.Called.{ClonedSo, UpgradedSo, HasOnlyFound, HasReceived, HasSent, IsNotYet, PolledWith, GaveNext, ReceivesOne, SendsThis, WasCalledFrom, WasTold}
+use Rattle.async_channel.specs.Called.{ClonedSo, HasCounted, HasParted, UpgradedSo, HasOnlyFound, HasReceived, HasSent, IsNotYet, PolledWith, GaveNext, ReceivesOne, SendsThis, WasCalledFrom, WasTold}
 use Rattle.async_channel.specs.Parties.{Seat}
 
 module _ {T : Type 0} where
@@ -128,21 +128,64 @@ module _ {T : Type 0} where
         (subst (λ (x : Standing T Task). HasGiven (λ (c : Completed T). c ≡ record { reply = r; kept = kept }) x (asks k task) r kept (standing_of seat)) same h.1))),
   )
 
-  -- ---- a clone and an upgrade that made no handle
+  -- ---- a clone and an upgrade, by what the channel answered
 
-  pub cloned_so : (A : Type 0) (called : Seat T → Type 0) (table : TableId) (side : Side) (e : HandleError) (r : Reply T) (s : Standing T Task) (seat : Seat T) → e ≡ TooMany → s ≡ fresh → called seat
-      → HasCalled table s (ask.CloneHandle side) r seat → Err e ≡ made_answer r → ClonedSo called {A = A} table side (Err e)
-  cloned_so A called table side TooMany r s seat is new told h same = (r, sym same, (seat, told, subst (λ (x : Standing T Task). HasCalled table x (ask.CloneHandle side) r seat) new h))
-  cloned_so A called table side NoMemory r s seat is new told h same = absurd (let never : NoMemory ≡ TooMany = is in cc)
+  made_is : (u : Unit {0}) (r : Reply T) → Ok u ≡ made_answer r → r ≡ reply.Made
+  made_is u reply.Made same = refl
+  made_is u r same = absurd (cc)
 
-  pub upgraded_so : (A : Type 0) (called : Seat T → Type 0) (table : TableId) (side : Side) (e : HandleError) (r : Reply T) (s : Standing T Task) (seat : Seat T) → e ≡ TooMany → s ≡ fresh → called seat
-      → HasCalled table s (ask.Upgrade side) r seat → Err e ≡ upgraded_answer r → UpgradedSo called {A = A} table side (Err e)
-  upgraded_so A called table side TooMany r s seat is new told h same = (r, sym same, (seat, told, subst (λ (x : Standing T Task). HasCalled table x (ask.Upgrade side) r seat) new h))
-  upgraded_so A called table side NoMemory r s seat is new told h same = absurd (let never : NoMemory ≡ TooMany = is in cc)
+  upgraded_is : (u : Unit {0}) (r : Reply T) → Ok (Some u) ≡ upgraded_answer r → r ≡ reply.Made
+  upgraded_is u reply.Made same = refl
+  upgraded_is u reply.NotMade same = absurd (cc)
+  upgraded_is u r same = absurd (cc)
 
-  pub not_upgraded_so : (A : Type 0) (called : Seat T → Type 0) (table : TableId) (side : Side) (r : Reply T) (s : Standing T Task) (seat : Seat T) → s ≡ fresh → called seat
-      → HasCalled table s (ask.Upgrade side) r seat → Ok None ≡ upgraded_answer r → UpgradedSo called {A = A} table side (Ok None)
-  not_upgraded_so A called table side r s seat new told h same = (r, sym same, (seat, told, subst (λ (x : Standing T Task). HasCalled table x (ask.Upgrade side) r seat) new h))
+  not_upgraded_is : (r : Reply T) → Ok None ≡ upgraded_answer r → r ≡ reply.NotMade
+  not_upgraded_is reply.Made same = absurd (cc)
+  not_upgraded_is reply.NotMade same = refl
+  not_upgraded_is r same = absurd (cc)
+
+  module _ (called : Seat T → Type 0) (table : TableId) (side : Side) (A : Type 0) where
+    -- one that counted a handle, which was given to a seat of its own
+    counted_so : (a : ChannelAsk T Task) (r : Reply T) (s : Standing T Task) (seat : Seat T) → r ≡ reply.Made → s ≡ fresh → HasCalled table s a r seat
+        → WasTold called (HasParted table (standing_of seat)) → WasTold called (HasCounted table a)
+    counted_so a r s seat is new h told = (
+      told.0,
+      told.1,
+      (
+        standing_of seat,
+        h.0,
+        subst (λ (x : Standing T Task). HasGiven (λ (c : Completed T). c.reply ≡ reply.Made) x a reply.Made h.0 (standing_of seat)) new
+            (subst (λ (x : Reply T). HasGiven (λ (c : Completed T). c.reply ≡ x) s a x h.0 (standing_of seat)) is h.2),
+        told.2,
+      ),
+    )
+
+    pub cloned_so : (u : Unit {0}) (b : A) (r : Reply T) (s : Standing T Task) (seat : Seat T) → s ≡ fresh → HasCalled table s (ask.CloneHandle side) r seat → Ok u ≡ made_answer r
+        → WasTold called (HasParted table (standing_of seat)) → ClonedSo called {A = A} table side (Ok b)
+    cloned_so u b r s seat new h same told = counted_so (ask.CloneHandle side) r s seat (made_is u r same) new h told
+
+    pub not_cloned_so : (e : HandleError) (r : Reply T) (s : Standing T Task) (seat : Seat T) → e ≡ TooMany → s ≡ fresh → called seat → HasCalled table s (ask.CloneHandle side) r seat → Err e ≡ made_answer r
+        → ClonedSo called {A = A} table side (Err e)
+    not_cloned_so TooMany r s seat is new told h same = (r, sym same, (seat, told, subst (λ (x : Standing T Task). HasCalled table x (ask.CloneHandle side) r seat) new h))
+    not_cloned_so NoMemory r s seat is new told h same = absurd (let never : NoMemory ≡ TooMany = is in cc)
+
+    pub upgraded_so : (u : Unit {0}) (b : A) (r : Reply T) (s : Standing T Task) (seat : Seat T) → s ≡ fresh → HasCalled table s (ask.Upgrade side) r seat → Ok (Some u) ≡ upgraded_answer r
+        → WasTold called (HasParted table (standing_of seat)) → UpgradedSo called {A = A} table side (Ok (Some b))
+    upgraded_so u b r s seat new h same told = counted_so (ask.Upgrade side) r s seat (upgraded_is u r same) new h told
+
+    pub nobody_so : (r : Reply T) (s : Standing T Task) (seat : Seat T) → s ≡ fresh → called seat → HasCalled table s (ask.Upgrade side) r seat → Ok None ≡ upgraded_answer r
+        → UpgradedSo called {A = A} table side (Ok None)
+    nobody_so r s seat new told h same = (
+      seat,
+      told,
+      subst (λ (x : Reply T). HasCalled table fresh (ask.Upgrade side) x seat) (not_upgraded_is r same)
+          (subst (λ (x : Standing T Task). HasCalled table x (ask.Upgrade side) r seat) new h),
+    )
+
+    pub not_upgraded_so : (e : HandleError) (r : Reply T) (s : Standing T Task) (seat : Seat T) → e ≡ TooMany → s ≡ fresh → called seat → HasCalled table s (ask.Upgrade side) r seat → Err e ≡ upgraded_answer r
+        → UpgradedSo called {A = A} table side (Err e)
+    not_upgraded_so TooMany r s seat is new told h same = (r, sym same, (seat, told, subst (λ (x : Standing T Task). HasCalled table x (ask.Upgrade side) r seat) new h))
+    not_upgraded_so NoMemory r s seat is new told h same = absurd (let never : NoMemory ≡ TooMany = is in cc)
 
   -- an operation that has no message was given up, of which the watch was told
   pub given_up_so : (called : Seat T → Type 0) (table : TableId) (s : Standing T Task) (a : ChannelAsk T Task) (back : Option T) (seat : Seat T) → back ≡ None → called seat → HasCalled table s a (reply.GivenUp back) seat

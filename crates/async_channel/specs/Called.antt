@@ -18,7 +18,7 @@ use Rattle.channel_calls.specs.Walks.{WalkedTo}
 use Rattle.channel_calls.specs.declared.ask.ChannelAsk.{ChannelAsk}
 use Rattle.channel_calls.specs.declared.ask.ChannelAsk.TheVariants as ask
 use Rattle.channel_calls.specs.declared.error.HandleError.{HandleError}
-use Rattle.channel_calls.specs.declared.error.HandleError.TheVariants.{TooMany}
+use Rattle.channel_calls.specs.declared.error.HandleError.TheVariants.{NoMemory, TooMany}
 use Rattle.channel_calls.specs.declared.error.RecvError.{RecvError}
 use Rattle.channel_calls.specs.declared.error.Refused.{Refused}
 use Rattle.channel_calls.specs.declared.error.Refused.TheVariants.{Plain}
@@ -33,7 +33,9 @@ use Rattle.channel_calls.specs.declared.stage.Returned.{Returned}
 use Rattle.channel_calls.specs.declared.stage.Side.{Side}
 use Rattle.channel_calls.specs.declared.whole.Completed.{Completed}
 use Rattle.channel_cells.specs.Calls.{HasCalled, HasPolled}
+use Rattle.channel_cells.specs.Channel.{seat_table, standing_of}
 use Rattle.channel_history.specs.CallEnds.{HasGiven}
+use Rattle.channel_history.specs.Machine.{left}
 use Rattle.channel_history.specs.Party.{fresh}
 use Rattle.channel_history.specs.declared.party.Standing.{Standing}
 use Rattle.async_channel.specs.Handles.{Handle}
@@ -127,14 +129,30 @@ module _ {T X : Type 0} (did : cell.Deed T → X → X → Type 0) (shown : Deed
   abbrev pub WasMade : Handle → ChannelAsk T Task → Reply T → Type 0
   WasMade channel a r = WasMadeBy channel fresh a r
 
+module _ {T : Type 0} where
+  -- the party of this seat has asked nothing
+  abbrev pub HasAskedNothing : TableId → Seat T → Type 0
+  HasAskedNothing table seat = (seat_table seat ≡ table) × (standing_of seat ≡ fresh)
+
+  -- it stood so, and gave the handle that its call made to a seat of its own
+  abbrev pub HasParted : TableId → Standing T Task → Seat T → Type 0
+  HasParted table made seat = (seat_table seat ≡ table) × (standing_of seat ≡ left made)
+
+  -- a new party has made this call, a clone or an upgrade, which counted a handle and made it
+  abbrev pub HasCounted : TableId → ChannelAsk T Task → Seat T → Type 0
+  HasCounted table a seat =
+      (made : Standing T Task) × (kept : Returned T) × HasGiven (λ (c : Completed T). c.reply ≡ reply.Made) fresh a reply.Made kept made × HasParted table made seat
+
 module _ {T : Type 0} (called : Seat T → Type 0) where
-  -- a clone or an upgrade that made no handle was answered so; the seat of one that made one lies with the handle. Where memory was refused
-  -- no call was made
+  -- a clone and an upgrade, by their answers: each by a party of its own, of which the watch was told. A handle is made if it was counted,
+  -- and if memory was refused the party has asked nothing
   abbrev pub ClonedSo : {A : Type 0} → TableId → Side → Result A HandleError → Type 0
+  ClonedSo table side (Ok a) = WasTold called (HasCounted table (ask.CloneHandle side))
   ClonedSo table side (Err TooMany) = (r : Reply T) × (made_answer r ≡ Err TooMany) × WasCalled called table (ask.CloneHandle side) r
-  ClonedSo table side r = Unit {0}
+  ClonedSo table side (Err NoMemory) = WasTold called (HasAskedNothing table)
 
   abbrev pub UpgradedSo : {A : Type 0} → TableId → Side → Result (Option A) HandleError → Type 0
-  UpgradedSo table side (Ok None) = (r : Reply T) × (upgraded_answer r ≡ Ok None) × WasCalled called table (ask.Upgrade side) r
+  UpgradedSo table side (Ok (Some a)) = WasTold called (HasCounted table (ask.Upgrade side))
+  UpgradedSo table side (Ok None) = WasCalled called table (ask.Upgrade side) reply.NotMade
   UpgradedSo table side (Err TooMany) = (r : Reply T) × (upgraded_answer r ≡ Err TooMany) × WasCalled called table (ask.Upgrade side) r
-  UpgradedSo table side r = Unit {0}
+  UpgradedSo table side (Err NoMemory) = WasTold called (HasAskedNothing table)

@@ -82,11 +82,11 @@ module _ {T : Type 0} where
   handle_of (link.Bounded channel) = bounded_channel (arc_value channel)
   handle_of (link.Unbounded shared) = channel_of (arc_value shared)
 
-  -- the message that a refused send hands back
+  -- the message that a refused send returns
   abbrev pub Unsent : Refused (SendError T) T → T
   Unsent e = handed_back e
 
-  -- what the poll of a send with this message gives once it is ready: a closed channel hands the message back
+  -- what the poll of a send with this message gives once it is ready: a closed channel returns the message
   abbrev pub Gives : Option T → Result Unit (Refused (SendError T) Unit) → Type 0
   Gives m (Err (Plain e)) = m ≡ Some (unsent e)
   Gives m (Err (NoMemory u)) = Unit {0}

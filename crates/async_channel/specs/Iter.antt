@@ -28,7 +28,7 @@ module _ {T X : Type 0} (did : cell.Deed T → X → X → Type 0) (shown : Deed
   abbrev pub WaitsOnce : (Option Task → X → X → Type 0) → (X → X → Type 0) → Handle → Bool → Option (Result T ListenError) → Bool → Type 0
   WaitsOnce parked slept channel ended item after = GivesNext parked slept channel ended item × IsNext ended item after
 
-  -- of a walk that doesn't wait: what one receive answered. It was refused where there is no item, whatever came before
+  -- of a walk that doesn't wait: what one receive answered. It was refused if there is no item, whatever came before
   abbrev pub TriesOnce : Handle → Option T → Type 0
   TriesOnce channel item =
       MatchOption item ((e : TryRecvError) × WasMade did shown entered called channel ask.TryRecv (reply.TryRecv (Err e))) (λ message. WasMade did shown entered called channel ask.TryRecv (reply.TryRecv (Ok message)))

@@ -22,7 +22,7 @@ module _ {T : Type 0} where
   party_of None = fresh
   party_of (Some kept) = standing_of kept.value
 
-  -- on a channel of this table, or without a bound, where none has a seat: an operation without a seat has no listener, and one with a
+  -- on a channel of this table, or without a bound, if none has a seat: an operation without a seat has no listener, and one with a
   -- seat has it there
   abbrev pub IsPartyOf : Option TableId → Option (Kept (Seat T)) → Option Key → Type 0
   IsPartyOf table seat key = ForNone table (seat ≡ None) × ForSome table (λ t. ForNone seat (key ≡ None) × ForSome seat (λ s. seat_table s.value ≡ t))

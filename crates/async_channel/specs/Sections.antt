@@ -9,14 +9,14 @@ use Rattle.channel_calls.specs.Deeds.{Deed, inserted, registered, taken_off, tol
 use Rattle.channel_calls.specs.declared.stage.Telling.{Telling}
 use Rattle.channel_calls.specs.Parts.{Listeners, Registers, told_as, told_as_wakes}
 
--- a removal and a telling answer whom they woke, in order
+-- a removal and a notification answer which tasks they woke, in order
 pub data Section : Type 0 where
   inserts : Result Key ListenError → Section
   registers : Key → Task → Option Task → Section
   removes : Key → List Task → Section
   tells : Telling → List Task → Section
 
--- of a list of which it is known who is told and who waits
+-- of a list whose told and waiting listeners are known
 abbrev pub Sets : Section → Listeners Task → Listeners Task → Type 0
 Sets (inserts (Ok key)) before after = after ≡ listened key before
 Sets (inserts (Err e)) before after = after ≡ before

@@ -7,6 +7,7 @@ use Rattle.channel_calls.specs.declared.stage.Returned.{Returned}
 use Rattle.channel_calls.specs.declared.whole.Completed.{Completed}
 use Rattle.channel_cells.specs.Channel.{seat_table, standing_of, view_in}
 use Rattle.channel_cells.specs.Look as look
+use Rattle.channel_cells.specs.Over as over
 use Rattle.channel_history.specs.CallEnds.{HasGiven, Rests}
 use Rattle.channel_history.specs.Party.{fresh}
 use Rattle.channel_history.specs.declared.party.Standing.{Standing}
@@ -36,3 +37,7 @@ module _ {T : Type 0} where
   -- did whose witness was joined into it
   abbrev pub IsTold : Seat T → Type 0
   IsTold witness = look.IsTold (view_in witness)
+
+  -- and its channel is at its end: all that was accepted was taken, in order, and nothing is held or in flight
+  abbrev pub IsOver : Seat T → Type 0
+  IsOver witness = over.IsOver (view_in witness)

@@ -1,4 +1,5 @@
-//! What a thread sleeps on that a call blocks.
+//! What a thread sleeps on while a call blocks it. The bed owns the parker; a wait queue holds a reference to it while the thread is
+//! registered.
 
 use crate::cells::{Beds, SharedCells};
 use event_listener::parker::Parker;
@@ -6,7 +7,7 @@ use event_listener::waking::Task;
 use std::alloc::Global;
 use std::sync::{Arc, Wait};
 
-/// The parker of a call that blocks its thread, which is made when the call is to sleep first.
+/// The parker of a call that blocks its thread, made when the call is about to sleep for the first time.
 #[derive(Drop)]
 pub(crate) struct Bed {
     parker: Option<Arc<Parker>>,
@@ -18,7 +19,7 @@ impl Bed {
         Bed { parker: None }
     }
 
-    /// A task whose waking ends the next sleep on this bed; `None` where memory for it was refused.
+    /// A task whose waking ends the next sleep on this bed; `None` if there is no memory for it.
     pub(crate) fn task(&mut self, alloc: Global) -> Option<Task> {
         if self.parker.is_none() {
             self.parker = Arc::new(alloc, Parker::new()).ok();
@@ -35,6 +36,7 @@ impl Bed {
     /// Sleeps until such a task is woken.
     pub(crate) fn sleep<R: Wait>(&self, rt: &R) {
         if let Some(parker) = &self.parker {
+            // The parker stays rung, so a notification since the registration ends this sleep at once.
             parker.sleep(rt);
         }
     }

@@ -1,4 +1,8 @@
-//! The calls of a handle with what shows that they were made.
+//! The calls of a handle together with what proves that they were made.
+//!
+//! # Extensions
+//!
+//! All of this module.
 
 ghost use Rattle.std.specs.Prelude.{◌≡◌};
 ghost use Rattle.async_channel.specs.Handles.{handle_of};
@@ -11,12 +15,12 @@ use crate::witnessed::Witnessed;
 use channel_calls::kind::Kind;
 use std::sync::Wait;
 
-/// The calls of a sender or of a receiver, by the form of its channel. Own to this project.
+/// The calls of a sender or of a receiver, by the form of its channel.
 #[derive(Drop)]
 pub enum Calls<'a, T: Drop, R: Wait + Copy, K: Kind> {
-    /// With a bound each call gives a witness.
+    /// With a bound each call returns a witness.
     Witnessed(Witnessed<'a, T, R, K>),
-    /// Without one each call takes a trace, and gives it back.
+    /// Without one each call takes a trace, and returns it.
     Traced(Traced<'a, T, R, K>),
 }
 

@@ -1,8 +1,8 @@
-//! The calls that wait for no message and no place, on cells of any kind that a trace sees. Each is that of `channel_calls`, and gives
-//! the trace back with its answer: what is said there of the cells is said here of what the trace saw.
+//! The calls that wait for no message and no place, over cells of any kind that a trace sees. Each is that of `channel_calls`, and returns
+//! the trace with its answer: what is said there of the cells is said here of what the trace saw.
 //!
 //! Over cells of any kind no `Sight` is at hand, so a body here can lead the trace on only by operations. It is also cheaper to prove than
-//! over the cells that threads share.
+//! over the shared cells.
 
 pub(crate) mod blocking;
 pub(crate) mod counts;
@@ -54,7 +54,7 @@ pub(crate) fn len<T: Drop, R: Wait, C: Places<T>, S: Trace<T>>(
     (count, seen.into_trace())
 }
 
-/// Sends the message where there is a place for it.
+/// Sends the message if there is a place for it.
 #[inline(always)]
 pub(crate) fn try_send<T: Drop, R: Wait, C: Places<T>, S: Trace<T>>(
     rt: &R,
@@ -69,7 +69,7 @@ pub(crate) fn try_send<T: Drop, R: Wait, C: Places<T>, S: Trace<T>>(
     (sent, seen.into_trace())
 }
 
-/// Sends the message; where the channel is full, its oldest message leaves for it and is answered.
+/// Sends the message; if the channel is full, removes and returns its oldest message.
 #[inline(always)]
 pub(crate) fn force_send<T: Drop, R: Wait, C: Places<T>, S: Trace<T>>(
     rt: &R,
@@ -85,7 +85,7 @@ pub(crate) fn force_send<T: Drop, R: Wait, C: Places<T>, S: Trace<T>>(
     (sent, seen.into_trace())
 }
 
-/// Takes the oldest message.
+/// Removes the oldest message.
 #[inline(always)]
 pub(crate) fn try_recv<T: Drop, R: Wait, C: Places<T>, S: Trace<T>>(
     rt: &R,
@@ -98,7 +98,7 @@ pub(crate) fn try_recv<T: Drop, R: Wait, C: Places<T>, S: Trace<T>>(
     (received, seen.into_trace())
 }
 
-/// Takes the oldest messages, at most `limit`, in order.
+/// Removes the oldest messages, at most `limit`, in order.
 #[inline(always)]
 pub(crate) fn recv_many<T: Drop, R: Wait, C: Places<T>, S: Trace<T>>(
     rt: &R,
@@ -114,7 +114,7 @@ pub(crate) fn recv_many<T: Drop, R: Wait, C: Places<T>, S: Trace<T>>(
     (received, seen.into_trace())
 }
 
-/// Takes the oldest messages into the room that is there, behind what is in it, in order.
+/// Moves the oldest messages into the room that is there, behind what is in it, in order.
 #[inline(always)]
 pub(crate) fn recv_many_into<T: Drop, R: Wait, C: Places<T>, S: Trace<T>>(
     rt: &R,

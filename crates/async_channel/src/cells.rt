@@ -1,4 +1,5 @@
-//! The cells of a channel that threads share.
+//! The cells of a channel without a bound, which threads share. This module alone reaches the counts of handles, and every other body does
+//! so by an operation on these cells.
 
 ghost use Rattle.std.specs.Prelude.{◌≡◌, Option, List as Names};
 ghost use Rattle.concurrent_queue.specs.Replies.{Follows};
@@ -25,8 +26,7 @@ use std::sync::Wait;
 use std::sync::atomic::{AtomicUsize, Ordering};
 use std::{mem, thread};
 
-/// The counts of a channel's handles. The cells of this file alone reach them: so no other body can count, or lower what is counted,
-/// but by a deed.
+/// The counts of a channel's handles. Only the cells of this module reach them, so no other body can raise or lower a count.
 #[derive(Drop)]
 pub(crate) struct Counts {
     counters: Counters,
@@ -45,18 +45,19 @@ impl Counts {
 
     /// How many handles of this kind are counted.
     fn now(&self, side: Side) -> usize {
+        // One load, true at that moment only: other handles come and go.
         self.of(side).load(Ordering::SeqCst)
     }
 }
 
-/// What a channel's cells are that a trace sees: each method is one call of the queue that a trace is shown, one section on a list, or one
-/// operation on a count. As of [`ChannelCells`](channel_calls::cells::ChannelCells) nothing is known of what a deed does: who promises
-/// that deeds were done has called the methods that do them, in that order.
+/// A channel's cells as a trace sees them: each method is one call of the queue, shown to the trace, one critical section on a wait queue,
+/// or one operation on a count. As of [`ChannelCells`](channel_calls::cells::ChannelCells), a contract says which operation was done, and
+/// nothing of the contents.
 pub(crate) trait Places<T>: Drop {
-    /// The form of the queue; no deed changes it.
+    /// The form of the queue; no operation changes it.
     ghost form_of: { Self → QueueForm };
 
-    /// Whether this deed, with this answer, was done between these two. Of the steps of a queue's call the trace tells.
+    /// Whether this operation, with this answer, was done between these two. The trace has the steps of a queue's call.
     ghost did: { Deed T Waiter → Self → Self → Type 0 };
 
     /// Steps of a call of the queue, up to its answer: their operations are shown to this trace.
@@ -79,12 +80,12 @@ pub(crate) trait Places<T>: Drop {
         ensures deed { did (registered line key task result) self.old self.new }
         ensures form { form_of self.new ≡ form_of self.old };
 
-    /// Takes a listener off.
+    /// Removes a listener.
     fn remove<K: Wakes<Task>>(&mut self, line: WaitList, key: Key, sink: &mut K)
         ensures deed { (names : Names Waiter) × did (taken_off line key names) self.old self.new × Woken K.wakes sink.old names sink.new }
         ensures form { form_of self.new ≡ form_of self.old };
 
-    /// Tells these of those who wait, in one section.
+    /// Notifies these of the waiting listeners, in one critical section.
     fn tell<K: Wakes<Task>>(&mut self, line: WaitList, telling: Telling, sink: &mut K)
         ensures deed { (names : Names Waiter) × did (told line telling names) self.old self.new × Woken K.wakes sink.old names sink.new }
         ensures form { form_of self.new ≡ form_of self.old };
@@ -94,18 +95,18 @@ pub(crate) trait Places<T>: Drop {
         ensures deed { did (counted side result) self.old self.new }
         ensures form { form_of self.new ≡ form_of self.old };
 
-    /// Lowers the number of handles of this kind by one, and gives the number before.
+    /// Lowers the number of handles of this kind by one, and answers the number before.
     fn lower(&mut self, side: Side) -> usize
         ensures deed { did (lowered side result) self.old self.new }
         ensures form { form_of self.new ≡ form_of self.old };
 
-    /// Raises the number of handles of this kind by one where it is `from` and one more fits a `usize`, and tells whether it did.
+    /// Raises the number of handles of this kind by one if it is `from` and one more fits a `usize`, and answers whether it did.
     fn raise(&mut self, side: Side, from: usize) -> bool
         ensures deed { did (raised side from result) self.old self.new }
         ensures form { form_of self.new ≡ form_of self.old };
 }
 
-/// The same of one that may sleep: what a call that blocks its thread sleeps on.
+/// Such cells on which a thread may sleep.
 pub(crate) trait Beds<T>: Places<T> {
     /// Whether a task was asked for between these two, with this answer.
     ghost parked: { Option Waiter → Self → Self → Type 0 };
@@ -113,7 +114,7 @@ pub(crate) trait Beds<T>: Places<T> {
     /// Whether the thread slept between these two.
     ghost slept: { Self → Self → Type 0 };
 
-    /// A task whose waking ends this thread's sleep; `None` where memory for it was refused.
+    /// A task whose waking ends this thread's sleep; `None` if there is no memory for it.
     fn park(&mut self) -> Option<Task>
         ensures asked { parked result self.old self.new }
         ensures form { Self.form_of self.new ≡ Self.form_of self.old };
@@ -124,15 +125,15 @@ pub(crate) trait Beds<T>: Places<T> {
         ensures form { Self.form_of self.new ≡ Self.form_of self.old };
 }
 
-/// The words of a channel's cells that a trace sees: each method is one step that waits for nobody.
+/// The words of a channel's cells as a trace sees them: each method is one step that never waits.
 pub(crate) trait Words<T>: Drop {
     /// The form of the queue; no step changes it.
     ghost form_of: { Self → QueueForm };
 
-    /// Whether this deed, with this answer, was done between these two.
+    /// Whether this operation, with this answer, was done between these two.
     ghost did: { Deed T Waiter → Self → Self → Type 0 };
 
-    /// One step of a call of the queue that is a question but for the length: its operation is shown to this trace.
+    /// One step of a call of the queue that is a question other than the length: its operation is shown to this trace.
     fn step_told<S: Trace<T>>(
         &mut self,
         call: &mut QueueCall<T>,
@@ -149,8 +150,8 @@ pub(crate) trait Words<T>: Drop {
         ensures form { form_of self.new ≡ form_of self.old };
 }
 
-/// A shared queue's cells, four locked lists and two shared counts. Nothing is known of what they hold, since any thread
-/// may step on them at any time. A call that blocks its thread has a bed beside them.
+/// A shared queue's cells, four locked wait queues and two shared counts. Nothing is known of what they hold, since any thread may make
+/// steps on them at any time. A call that blocks its thread has a bed beside them.
 #[derive(Drop)]
 pub(crate) struct SharedCells<'a, T: Drop, R: Wait, B: Drop, L: Drop = List<(), Task>> {
     pub(crate) shared: &'a Shared<T, L>,
@@ -166,8 +167,8 @@ impl<'a, T: Drop, R: Wait, B: Drop, L: Listeners> Places<T> for SharedCells<'a, 
 
     ghost did = { λ d before now. Answers L.did d };
 
-    // The steps of the queue's call up to its answer, one after another: nothing else of the channel's call comes between
-    // them, while the steps of other threads may. The call is given away for it, so one that has answered stands in its place.
+    // The steps of the queue's call up to its answer, one after another: nothing else of the channel's call comes in between, while steps
+    // of other threads may. The call is moved out for it, so an ended one stands in for it.
     #[inline(always)]
     fn step_told<S: Trace<T>>(
         &mut self,
@@ -200,10 +201,12 @@ impl<'a, T: Drop, R: Wait, B: Drop, L: Listeners> Places<T> for SharedCells<'a, 
     }
 
     fn lower(&mut self, side: Side) -> usize {
+        // Lowers and reads in one operation: of two drops at once only one finds that it was the last, and closes.
         self.shared.counts.of(side).fetch_sub(1, Ordering::SeqCst)
     }
 
-    // Where another handle came between, the call reads the count again, and lets others run first.
+    // An exchange: the limit, and for an upgrade that a handle lives, were tested of `from` alone. If another handle came in between, the
+    // call reads the count again, and yields first.
     fn raise(&mut self, side: Side, from: usize) -> bool {
         let Some(next) = from.checked_add(1) else {
             return false;
@@ -217,7 +220,7 @@ impl<'a, T: Drop, R: Wait, B: Drop, L: Listeners> Places<T> for SharedCells<'a, 
     }
 }
 
-/// The words of a shared queue and two shared counts, for the questions: without the runtime, so that they wait for nobody.
+/// The words of a shared queue and two shared counts, for the questions: without the runtime, so they never wait.
 #[derive(Drop)]
 pub(crate) struct SharedWords<'a, T: Drop> {
     pub(crate) shared: &'a Shared<T>,

@@ -1,4 +1,5 @@
-//! What a strong handle has of its channel's count.
+//! A strong handle's share of its channel's count. The invariant: a `Counted` exists for each handle that the count has, so what a clone or
+//! an upgrade raised, only the drop of the handle lowers.
 
 mod questions;
 
@@ -23,11 +24,11 @@ use event_listener::waking::WakeNow;
 use kept::Kept;
 use std::sync::{Arc, Wait};
 
-/// A tie to a channel, with what is counted there of one handle of this kind. On a channel with a bound the handle is a party of its own,
-/// with whose seat it lies that the handle is counted.
+/// A shared reference to a channel, with what the channel counts for one handle of this kind. On a channel with a bound the handle is a
+/// party of its own, and its seat says that the handle is counted.
 ///
-/// It can't be let go: it becomes a handle, or is given to `lower`. Nor can it be made of a tie alone, or be taken apart but for the
-/// lowering: what is counted ([`Raised`]) is given by the step that counts, and is taken by the one that lowers the count.
+/// It can't be dropped: it becomes a handle, or is passed to `lower`. Nor can it be made of a reference alone, or be taken apart other than
+/// by `lower`: the step that counts returns the [`Raised`], and the one that lowers the count takes it.
 pub(crate) struct Counted<T: Drop, K: Kind> {
     pub(crate) link: Link<T>,
     raised: Raised<K>,
@@ -48,7 +49,7 @@ impl<T: Drop, K: Kind> Counted<T, K> {
         Counted { link, raised, seat }
     }
 
-    /// One more handle of this kind. Refused where more than half of `usize::MAX` live, or where no tie was got.
+    /// One more handle of this kind. `Err` if more than half of `usize::MAX` live, or if there is no further shared reference.
     pub(crate) fn one_more<R: Wait, S: Trace<T> + Copy>(
         link: &Link<T>,
         rt: &R,
@@ -59,25 +60,22 @@ impl<T: Drop, K: Kind> Counted<T, K> {
     {
         match link {
             Link::Bounded(channel) => {
+                // The reference before the count: if it is refused, no count was raised, which no handle would lower.
                 let Ok(tie) = Arc::try_clone(channel) else {
-                    return Err(HandleError::NoMemory);
+                    return Err(channel.no_memory(&watch));
                 };
-                let table = &channel.table;
-                let (made, seat) = table.clone_handle(rt, table.new_seat(), &mut WakeNow { rt });
-                match made {
-                    Ok(raised) => {
+                match channel.clone_handle(rt, &watch) {
+                    Ok((raised, seat)) => {
                         let link = Link::Bounded(tie);
                         let seat = Some(Kept::new(seat));
                         Ok(Counted { link, raised, seat })
                     }
-                    Err(error) => {
-                        seen::tell(&watch, seat);
-                        Err(error)
-                    }
+                    Err(error) => Err(error),
                 }
             }
             Link::Unbounded(shared) => {
                 let seen = Seen::cells(shared, rt, (), watch);
+                // The reference before the count, as above.
                 let Ok(tie) = Arc::try_clone(shared) else {
                     let _ = seen.into_trace();
                     return Err(HandleError::NoMemory);
@@ -97,7 +95,7 @@ impl<T: Drop, K: Kind> Counted<T, K> {
         }
     }
 
-    /// One more handle of this kind, where the channel is open and one lives. Refused as above.
+    /// One more handle of this kind if the channel is open and one lives; otherwise `None`. `Err` as above.
     pub(crate) fn upgraded<R: Wait, S: Trace<T> + Copy>(
         link: &Link<T>,
         rt: &R,
@@ -108,29 +106,23 @@ impl<T: Drop, K: Kind> Counted<T, K> {
     {
         match link {
             Link::Bounded(channel) => {
+                // The reference before the count, as in `one_more`.
                 let Ok(tie) = Arc::try_clone(channel) else {
-                    return Err(HandleError::NoMemory);
+                    return Err(channel.no_memory(&watch));
                 };
-                let table = &channel.table;
-                let (made, seat) = table.upgrade(rt, table.new_seat(), &mut WakeNow { rt });
-                match made {
-                    Ok(Some(raised)) => {
+                match channel.upgrade(rt, &watch) {
+                    Ok(Some((raised, seat))) => {
                         let link = Link::Bounded(tie);
                         let seat = Some(Kept::new(seat));
                         Ok(Some(Counted { link, raised, seat }))
                     }
-                    Ok(None) => {
-                        seen::tell(&watch, seat);
-                        Ok(None)
-                    }
-                    Err(error) => {
-                        seen::tell(&watch, seat);
-                        Err(error)
-                    }
+                    Ok(None) => Ok(None),
+                    Err(error) => Err(error),
                 }
             }
             Link::Unbounded(shared) => {
                 let seen = Seen::cells(shared, rt, (), watch);
+                // The reference before the count, as in `one_more`.
                 let Ok(tie) = Arc::try_clone(shared) else {
                     let _ = seen.into_trace();
                     return Err(HandleError::NoMemory);
@@ -153,7 +145,7 @@ impl<T: Drop, K: Kind> Counted<T, K> {
 }
 
 impl<T: Drop> Counted<T, OfSenders> {
-    /// Drops the sender that is counted, which lowers the count; the last one closes.
+    /// Drops the sender: lowers the count; the last one closes. The shared reference is dropped after that, so the channel still lives.
     pub(crate) fn lower<R: Wait, S: Trace<T> + Copy>(self, rt: &R, watch: S) {
         let Counted { link, raised, seat } = self;
         match link {
@@ -173,8 +165,8 @@ impl<T: Drop> Counted<T, OfSenders> {
 }
 
 impl<T: Drop> Counted<T, OfReceivers> {
-    /// Drops the receiver that is counted, which lowers the count, and then the listener that it may have as a stream; the last one
-    /// closes.
+    /// Drops the receiver: lowers the count, and then removes the listener that it may have as a stream; the last one closes. The shared
+    /// reference is dropped after that.
     pub(crate) fn lower<R: Wait, S: Trace<T> + Copy>(
         self,
         rt: &R,
@@ -191,6 +183,7 @@ impl<T: Drop> Counted<T, OfReceivers> {
                 let mut stream = stream;
                 let (party, key) = stream.take(&channel.table);
                 let _ = stream.end();
+                // The stream's listener joins the receiver's party, so one call drops both.
                 let both = channel.table.gather(seat, party);
                 let sink = &mut WakeNow { rt };
                 let left = channel.table.drop_receiver(rt, raised, key, both, sink);

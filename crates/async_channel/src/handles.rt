@@ -1,5 +1,5 @@
-//! The handles of a channel and the operations on it. A call of theirs is one line: that of `traced`, with a copy of the trace that the
-//! channel is watched by.
+//! The handles of a channel and the operations on it. A method is one line: it makes the call of its channel's form, and passes it a copy
+//! of the channel's trace.
 
 pub(crate) mod closed;
 pub(crate) mod iter;

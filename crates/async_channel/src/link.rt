@@ -1,4 +1,4 @@
-//! What ties a handle to its channel.
+//! The shared reference from a handle to its channel. It touches no count: weak handles have one too.
 
 ghost use Rattle.std.specs.Prelude.{◌≡◌, ◌↔◌, IsTrue, IfSome};
 ghost use Rattle.async_channel.specs.Handles.{handle_of};
@@ -7,7 +7,7 @@ use crate::shared::Shared;
 use crate::with_bound::Bounded;
 use std::sync::Arc;
 
-/// The shared part of a channel, which has the identity too: a tie has nothing beside it.
+/// The shared part of a channel, which also has the identity: a handle's reference has nothing beside it.
 #[derive(Drop)]
 pub(crate) enum Link<T: Drop> {
     Bounded(Arc<Bounded<T>>),
@@ -15,7 +15,7 @@ pub(crate) enum Link<T: Drop> {
 }
 
 impl<T: Drop> Link<T> {
-    /// One more tie to this channel. It waits for nobody and touches neither count; `None` where it was refused.
+    /// One more shared reference to this channel. It never waits and touches no count; `None` if it was refused.
     pub(crate) fn try_clone(&self) -> Option<Link<T>>
         ensures { IfSome result (λ l. handle_of l ≡ handle_of self.now) }
     {
@@ -35,7 +35,7 @@ impl<T: Drop> Link<T> {
         }
     }
 
-    /// Whether both are tied to one channel: whether the identities in their shared parts are equal.
+    /// Whether both refer to one channel: whether the identities in their shared parts are equal.
     pub(crate) fn is_same(&self, other: &Link<T>) -> bool
         ensures { IsTrue result ↔ ((handle_of self.now).id ≡ (handle_of other.now).id) }
     {

@@ -1,4 +1,4 @@
-//! What is done in one section on a list of listeners.
+//! What is done in one critical section on a wait queue.
 
 ghost use Rattle.std.specs.Prelude.{List as Names};
 ghost use Rattle.event_listener.specs.Notices.{Woken};
@@ -13,8 +13,8 @@ use event_listener::list::List;
 use event_listener::wakes::Wakes;
 use event_listener::waking::Task;
 
-/// A list of listeners, by what is done to it in a section. Each method says of itself that this was done, with this answer, and nothing
-/// else. So a body over lists of which nothing is known but this can show a section only by the very call that makes it.
+/// A wait queue, by what is done to it in a critical section. The contract of a method says that this was done, with this answer, and
+/// nothing else. So a body over lists of which nothing is known but this can show a section only by the very call that makes it.
 pub(crate) trait Listeners: Drop {
     /// Whether this was done to the one list, so that it is the other.
     ghost did: { Section → Self → Self → Type 0 };
@@ -23,15 +23,15 @@ pub(crate) trait Listeners: Drop {
     fn insert(&mut self) -> Result<Key, ListenError>
         ensures { did (inserts result) self.old self.new };
 
-    /// Gives a waiting listener its task. One that was told is taken off, and the task comes back.
+    /// Gives a waiting listener its task. One that was told is removed, and the task is returned.
     fn register(&mut self, key: Key, task: Task) -> Option<Task>
         ensures { did (registers key task result) self.old self.new };
 
-    /// Takes a listener off. One that was told passes its notice on.
+    /// Removes a listener. One that was told passes its notification on.
     fn remove<K: Wakes<Task>>(&mut self, key: Key, sink: &mut K)
         ensures { (names : Names Waiter) × did (removes key names) self.old self.new × Woken K.wakes sink.old names sink.new };
 
-    /// Tells these of those who wait.
+    /// Notifies these of the waiting listeners.
     fn tell<K: Wakes<Task>>(&mut self, telling: Telling, sink: &mut K)
         ensures { (names : Names Waiter) × did (tells telling names) self.old self.new × Woken K.wakes sink.old names sink.new };
 }

@@ -1,4 +1,9 @@
-//! The opening of a channel.
+//! The opening of a channel. Memory is taken before identities, so a refusal takes nothing; and only an opening makes the first two
+//! handles, which the counts have from the start.
+//!
+//! # Extensions
+//!
+//! `bounded_watched` and `unbounded_watched`; and the refusals, where `async-channel` 2.5.0 aborts, and panics at a capacity of 0.
 
 pub(crate) mod no_trace;
 
@@ -27,7 +32,7 @@ use std::sync::{Arc, Wait};
 /// More places than any memory has.
 const MOST: usize = 1 << 58;
 
-/// The two handles of a channel that this ties to. Their memory is taken first, then the four identities.
+/// The two handles of a new channel. Their memory is taken first, then the four identities.
 ///
 /// An identity that was taken can't be given back, so the shared part is made with the number that the first one is going to have.
 fn open<T: Drop, R: Wait + Copy, S: Trace<T> + Copy>(
@@ -62,10 +67,9 @@ fn open<T: Drop, R: Wait + Copy, S: Trace<T> + Copy>(
 
 /// Opens a channel that holds at most `capacity` messages: its first sender and its first receiver.
 ///
-/// Its four identities come from `ids`, which channels that are compared have in common. Refused where there is no memory
-/// for its places (for a capacity above 2^58 nobody is asked) or, after that, where fewer than four identities are left;
-/// nothing is taken from `ids` then. It waits for nobody. As `async-channel` 2.5.0, but for the refusals, and that a capacity
-/// of 0 is no panic but can't be asked for.
+/// Its four identities come from `ids`, which channels that are compared have in common. `Err` if there is no memory for its places (above
+/// 2^58 none is asked for) or, after that, if fewer than four identities are left; nothing is taken from `ids` then. It never waits. A
+/// capacity of 0 can't be asked for.
 ///
 /// ```rust
 /// let (sender, receiver) = bounded(rt, alloc, 2, ids).ok()?;
@@ -91,9 +95,7 @@ pub fn bounded<T: Drop, R: Wait + Copy>(
     bounded_watched(rt, alloc, capacity, ids, NoTrace::new())
 }
 
-/// Opens a channel that holds any number of messages: its first sender and its first receiver.
-///
-/// Refused as [`bounded`] is. It waits for nobody. As `async-channel` 2.5.0, but for the refusals.
+/// Opens a channel that holds any number of messages: its first sender and its first receiver. `Err` as of [`bounded`]. It never waits.
 ///
 /// ```rust
 /// let (sender, receiver) = unbounded(rt, alloc, ids).ok()?;
@@ -116,14 +118,12 @@ pub fn unbounded<T: Drop, R: Wait + Copy>(
     unbounded_watched(rt, alloc, ids, NoTrace::new())
 }
 
-/// [`bounded`] with a trace that the channel is watched by: each call of its handles takes a copy of this value, and shows it what it
-/// does to the channel. One that refers to a log gets all calls of all threads there.
+/// [`bounded`] with a trace: each call of the channel's handles takes a copy of this value, and reports to it what it does to the channel.
+/// A trace that refers to a log gets all calls of all threads there.
 ///
 /// ```text
 /// let (sender, receiver) = bounded_watched(rt, alloc, 2, ids, Watcher { log: &log })?;
 /// ```
-///
-/// Own to this project.
 pub fn bounded_watched<T: Drop, R: Wait + Copy, S: Trace<T> + Copy>(
     rt: R,
     alloc: Global,
@@ -161,7 +161,7 @@ pub fn bounded_watched<T: Drop, R: Wait + Copy, S: Trace<T> + Copy>(
     )
 }
 
-/// [`unbounded`] with a trace that the channel is watched by, as [`bounded_watched`]. Own to this project.
+/// [`unbounded`] with a trace, as [`bounded_watched`].
 pub fn unbounded_watched<T: Drop, R: Wait + Copy, S: Trace<T> + Copy>(
     rt: R,
     alloc: Global,

@@ -1,5 +1,5 @@
-//! One poll of each kind of operation, and the givings up: on the cells that threads share, with whatever
-//! trace. A poll first takes a copy of its task's waker, and keeps the listener that it is left.
+//! One poll of each kind of operation, and giving up, on shared cells without a bound, with whatever trace. A poll first takes a copy of
+//! its task's waker, and the operation keeps the listener that the poll leaves.
 
 pub(crate) mod line;
 pub(crate) mod waits;
@@ -31,7 +31,7 @@ use futures::task::{Context, Poll};
 use std::sync::Wait;
 
 impl<T: Drop> Shared<T> {
-    /// A poll of a send with this message; of a finished one without. The message that stays with it is handed back.
+    /// A poll of a send with this message; of a finished one with none. It returns the message that stays with the send.
     pub(crate) fn poll_send<R: Wait, S: Trace<T>>(
         &self,
         rt: &R,
@@ -49,6 +49,7 @@ impl<T: Drop> Shared<T> {
         ensures kept { Keeps cx.old cx.new }
     {
         let key = waits.key();
+        // The waker before the first try: if it is refused nothing has been done, and the operation keeps its message.
         let task = waits.arm(rt, self.alloc, cx);
         let seen = Seen::cells(self, rt, (), trace);
         let (polled, left, trace) = polls::poll_send(rt, message, key, task, seen);
@@ -125,7 +126,7 @@ impl<T: Drop> Shared<T> {
         (polled, trace)
     }
 
-    /// Gives an operation up: its listener leaves its list, and the message of an unfinished send comes back.
+    /// Gives an operation up: its listener leaves its wait queue, and the message of an unfinished send is returned.
     pub(crate) fn give_up<L: Line, R: Wait, S: Trace<T>>(
         &self,
         rt: &R,
@@ -154,7 +155,7 @@ impl<T: Drop> Shared<T> {
         trace
     }
 
-    /// What the drop of an operation does: its listener leaves, where it has one. Without one nothing is done, and nothing is shown.
+    /// What the drop of an operation does: it removes the listener, if there is one. Otherwise nothing is done, and nothing is reported.
     pub(crate) fn let_go<L: Line, R: Wait, S: Trace<T>>(
         &self,
         rt: &R,
@@ -164,6 +165,7 @@ impl<T: Drop> Shared<T> {
         ensures walked { IsSome waits.key → SeenOn S.did S.shown S.entered (channel_of self.now) (λ saw. WalkedTo saw (first (ask.GiveUp L.line None waits.key))) trace (reply.GivenUp None) result }
         ensures nothing { waits.key ≡ None → result ≡ trace }
     {
+        // A listener that was told must pass its notification on, so it leaves by a call of its own.
         if waits.key().is_some() {
             return self.leave(rt, waits, trace);
         }
@@ -171,8 +173,7 @@ impl<T: Drop> Shared<T> {
         trace
     }
 
-    /// Drops a receiver that is counted, which lowers the count, and then its listener leaves that it may have as a stream; the last one
-    /// closes.
+    /// Drops a receiver: lowers the count, and then removes the listener that it may have as a stream; the last one closes.
     pub(crate) fn drop_receiver<R: Wait, S: Trace<T>>(
         &self,
         rt: &R,

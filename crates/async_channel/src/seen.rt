@@ -1,4 +1,9 @@
-//! Cells of a channel of which a caller's trace sees each deed, with its answer.
+//! Traces: values that see each operation on the cells of a channel, with its answer. Only `Seen`, which joins cells to their trace, can
+//! report to a trace, since only this module makes a [`Sight`]. An operation is made first and reported then, with its answer.
+//!
+//! # Extensions
+//!
+//! All of this module.
 
 ghost use Rattle.std.specs.Prelude.{◌≡◌, Option};
 ghost use Rattle.event_listener.specs.declared.key.Key.{Key as Name};
@@ -26,15 +31,15 @@ use std::alloc::AllocError;
 use std::marker::PhantomData;
 use std::sync::Wait;
 
-/// The right to tell a trace of type `S` something. Only this file makes one, where a deed is done: so nobody else can tell that trace
-/// anything, another trace that was lent a sight of its own least of all. It takes no bytes. Own to this project.
+/// The right to report to a trace of type `S`. Only this module makes one, where an operation is done, so no other body can report to that
+/// trace, not even another trace. It takes no bytes.
 #[derive(Drop)]
 pub struct Sight<S> {
     of: PhantomData<S>,
 }
 
-/// What a trace is shown of a channel, each after it was done and with what it answered. A telling and a removal are shown without whom
-/// they woke: those stay with the sink. Own to this project.
+/// What a trace is shown of a channel, after it was done, with its answer. A notification and a removal are shown without the tasks that
+/// they woke, which stay with the sink.
 #[derive(Copy)]
 pub enum Shown<'a> {
     /// A call begins on the channel with this seal: all that is seen up to the next beginning is done to that channel. So a body that makes
@@ -42,19 +47,19 @@ pub enum Shown<'a> {
     Enters(&'a Source),
     /// A listener was added, or refused.
     Inserted(WaitList, Result<Key, ListenError>),
-    /// This task is brought to a listener. What came of it is shown next, by `Registered`.
+    /// This task is offered to a listener. `Registered` then shows what came of it.
     Offers(WaitList, Key, &'a Task),
-    /// The task that was brought to the listener is kept, or came back.
+    /// The task that was offered to the listener is kept, or was returned.
     Registered(WaitList, Key, &'a Option<Task>),
-    /// A listener was taken off.
+    /// A listener was removed.
     TakenOff(WaitList, Key),
-    /// These of those who wait were told.
+    /// These of the waiting listeners were notified.
     Told(WaitList, Telling),
     /// So many handles of this kind were counted.
     Counted(Side, usize),
     /// The count of handles of this kind was lowered, and was this before.
     Lowered(Side, usize),
-    /// The count of handles of this kind was raised where it was this, or was not.
+    /// The count of handles of this kind was raised if it was this, or was not.
     Raised(Side, usize, bool),
     /// A task of the thread's own was asked for, and given or refused.
     Parked(&'a Option<Task>),
@@ -62,7 +67,7 @@ pub enum Shown<'a> {
     Slept,
 }
 
-// By hand, since a derived copy of so many variants is long to prove.
+// Written by hand, since a derived copy of so many variants is long to prove.
 impl Clone for Shown<'_> {
     ghost is_clone = { λ x y. y ≡ x };
 
@@ -74,15 +79,15 @@ impl Clone for Shown<'_> {
     }
 }
 
-/// What sees the deeds on the cells of a channel, each after it was done and with what it answered; and that a call which blocks
-/// its thread asked for a task of its own, and slept. Of the steps of a queue's call it sees the queue's own operations, as the trace
-/// of a queue does. Its method says that this was seen, and nothing else: so a trace of which nothing is known but this trait can be led
-/// from one value to another by these very deeds alone.
+/// What sees the operations on the cells of a channel, each after it was done, with its answer; and that a call which blocks its thread
+/// asked for a task of its own, and slept. Of the steps of a queue's call it sees the queue's own operations, as a queue's trace does. The
+/// contract of its method says that this was seen, and nothing else. So if nothing is known of a trace but this trait, it can be led from
+/// one value to another by these very operations alone.
 ///
-/// That is so of channels without a bound. Of one with a bound the trace is told of each call once it is over, by what the call left
-/// ([`Witness`]): which call that was and what it answered is said by the seat that it is given.
+/// This holds of channels without a bound. With a bound the trace is told of each call once it is over, by what the call left
+/// ([`Witness`]), whose view says which call that was and what it answered.
 ///
-/// The methods are lent a [`Sight`] of this very trace, which only the cells that do these deeds have. Own to this project.
+/// The methods are lent a [`Sight`] of this very trace, which only the cells that do these operations have.
 pub trait Trace<T>: queue::Trace<T> {
     ghost use Rattle.std.specs.Prelude.{ℕ};
     ghost use Rattle.async_channel.specs.Parties.{Seat};
@@ -92,10 +97,10 @@ pub trait Trace<T>: queue::Trace<T> {
     /// Whether a call was seen to begin, between the two, on the channel with this seal.
     ghost entered: { ℕ → Self → Self → Type 0 };
 
-    /// Whether this deed, with this answer, was seen between the two; no deed that is a step of a queue's call is.
+    /// Whether this operation, with this answer, was seen between the two; no operation that is a step of a queue's call is.
     ghost shown: { Deed T Waiter → Self → Self → Type 0 };
 
-    /// Whether a task was seen on its way to this listener between the two.
+    /// Whether a task was seen offered to this listener between the two.
     ghost offering: { Waits → Name → Waiter → Self → Self → Type 0 };
 
     /// Whether it was seen, between the two, that a task was asked for, with this answer.
@@ -111,12 +116,13 @@ pub trait Trace<T>: queue::Trace<T> {
     fn saw(&mut self, sight: &Sight<Self>, it: Shown<'_>)
         ensures { Sees entered shown offering parked slept it.entry self.old self.new };
 
-    /// A call was made on a channel with a bound, and left this.
+    /// A call was made on a channel with a bound, and left this. A clone or an upgrade without memory makes none, and leaves a party that has
+    /// asked nothing.
     fn heard(&self, sight: &Sight<Self>, call: Witness<T>)
         ensures { called call };
 }
 
-/// Tells the trace that a channel with a bound is watched by of a call, by the seat that the call left.
+/// Tells the trace of a channel with a bound of a call, by the seat that the call left.
 #[inline(always)]
 pub(crate) fn tell<T: Drop, S: Trace<T>>(watch: &S, call: Witness<T>)
     ensures { S.called call }
@@ -124,7 +130,7 @@ pub(crate) fn tell<T: Drop, S: Trace<T>>(watch: &S, call: Witness<T>)
     watch.heard(&Sight { of: PhantomData }, call);
 }
 
-/// The answer of a call, of which the trace is told that its channel is watched by.
+/// The answer of a call, of which the channel's trace is told.
 #[inline(always)]
 pub(crate) fn answer<T: Drop, A, S: Trace<T>>(watch: &S, made: (A, Witness<T>)) -> A
     ensures answer { result ≡ made.0 }
@@ -135,14 +141,14 @@ pub(crate) fn answer<T: Drop, A, S: Trace<T>>(watch: &S, made: (A, Witness<T>)) 
     answer
 }
 
-/// Cells that the threads of a channel share, and a trace that sees each deed on them. Made here alone.
+/// Cells that the threads of a channel share, and a trace that sees each operation on them. Only this module makes one.
 pub(crate) struct Seen<C, S> {
     cells: C,
     trace: S,
 }
 
 impl<'a, T: Drop, R: Wait, B: Drop, S: Trace<T>> Seen<SharedCells<'a, T, R, B>, S> {
-    /// The cells of this channel, for a thread that may wait, with this bed or none, seen by this trace, which sees whose they are.
+    /// The cells of this channel, for a thread that may wait, with this bed or none, seen by this trace, which is shown whose they are.
     #[inline(always)]
     pub(crate) fn cells(
         shared: &'a Shared<T>,
@@ -161,7 +167,7 @@ impl<'a, T: Drop, R: Wait, B: Drop, S: Trace<T>> Seen<SharedCells<'a, T, R, B>, 
 }
 
 impl<'a, T: Drop, S: Trace<T>> Seen<SharedWords<'a, T>, S> {
-    /// The words of this channel, seen by this trace, which sees whose they are.
+    /// The words of this channel, seen by this trace, which is shown whose they are.
     #[inline(always)]
     pub(crate) fn words(shared: &'a Shared<T>, trace: S) -> Seen<SharedWords<'a, T>, S>
         ensures form { form_of result.cells.shared.now ≡ form_of shared.now }
@@ -175,7 +181,7 @@ impl<'a, T: Drop, S: Trace<T>> Seen<SharedWords<'a, T>, S> {
 }
 
 impl<C: Drop, S> Seen<C, S> {
-    /// What saw them.
+    /// The trace.
     #[inline(always)]
     pub(crate) fn into_trace(self) -> S
         ensures { result ≡ self.trace }

@@ -1,4 +1,5 @@
-//! What the handles of one channel share.
+//! What the handles of a channel without a bound share. It owns the queue, the wait queues behind their locks, and the counts; they are
+//! reached only by the cells.
 
 ghost use Rattle.std.specs.Prelude.{◌≡◌, None, false};
 ghost use Rattle.concurrent_queue.specs.Replies.{room_of};
@@ -22,12 +23,13 @@ use event_listener::waking::Task;
 use futures::task::Source;
 use std::alloc::Global;
 
-/// A queue, four lists of listeners and two counts of handles.
+/// A queue, four wait queues and two counts of handles.
 ///
-/// The channel's identity is here and nowhere else. The seal takes no bytes and can't be copied, and nobody can show that a new one is
-/// equal to another: so a clause can say of which channel's memory it speaks.
+/// The channel's identity is here and nowhere else. The seal takes no bytes and can't be copied, and nobody can show that a new one equals
+/// another, so a clause can say of which channel's memory it speaks.
 ///
-/// The lists are a parameter, though there is one kind: so the cells over them show each section by the very call that makes it.
+/// The lists are a parameter, though there is one kind, so that the cells over them show each critical section by the very call that makes
+/// it.
 #[derive(Drop)]
 pub(crate) struct Shared<T: Drop, L: Drop = List<(), Task>> {
     pub(crate) seal: Source,
@@ -67,7 +69,7 @@ impl<T: Drop> Shared<T> {
 }
 
 impl<T: Drop, L: Listeners> Shared<T, L> {
-    /// The right to one section on the list of this kind.
+    /// The right to one critical section on this wait queue.
     #[inline(always)]
     pub(crate) fn waiters(&self, line: WaitList) -> Turn<'_, L> {
         match line {
@@ -79,8 +81,8 @@ impl<T: Drop, L: Listeners> Shared<T, L> {
     }
 }
 
-// Questions that wait for nobody, with whatever trace: none of them takes the runtime or a lock. They are those of `channel_calls`, on
-// the shared words.
+// Questions, with whatever trace: none of them takes the runtime or a lock, so none waits. They are those of `channel_calls`, on the shared
+// words.
 impl<T: Drop> Shared<T> {
     #[inline(always)]
     pub(crate) fn handle_count<S: Trace<T>>(&self, side: Side, trace: S) -> (usize, S)

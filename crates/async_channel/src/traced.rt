@@ -1,10 +1,14 @@
-//! The calls of a channel without a bound with a trace of the caller's, which sees each deed that a call does to its channel, and no other.
+//! The calls of a channel without a bound with a trace of the caller's, which sees each operation that a call does to its channel, and no
+//! other.
 //!
-//! Each is one body for whatever trace, and makes its call on cells that show each deed to the trace that it was given. So its clause
-//! `walked` says of the trace, before and after, what was done: the deeds of the call's machine, from its first turn to the very answer
-//! that came out. It can tell the trace nothing itself, which only the cells can. That it does nothing besides which the trace isn't
-//! shown, on this channel or on another, is to be read here. The calls of handles and operations are these with a copy of the trace that
-//! the channel is watched by.
+//! Each is one body for whatever trace, and makes its call on cells that report each operation to the trace that it was given. So its
+//! clause `walked` says what was done between the trace before and after: the operations of the call's machine, from its first step to the
+//! very answer that came out. The body itself can report nothing. That it does nothing which the trace isn't shown, on this channel or on
+//! another, has to be read here. The calls of handles and operations are these with a copy of the channel's trace.
+//!
+//! # Extensions
+//!
+//! All of this module.
 
 mod receives;
 mod sends;
@@ -29,10 +33,11 @@ use channel_calls::stage::Side;
 use std::marker::{Model, PhantomData};
 use std::sync::Wait;
 
-/// The calls of a sender or of a receiver of a channel without a bound, with a trace of the caller's, which each call takes and gives back with its answer.
+/// The calls of a sender or of a receiver of a channel without a bound, with a trace of the caller's, which each call takes and returns
+/// with its answer.
 ///
-/// `walked` of a call says of the trace what the call did to its channel, whatever other threads do; what else it says, and whether it
-/// may wait, is said at the handle's own call of that name. Contracts see the channel. Own to this project.
+/// `walked` of a call says what the call did to its channel, whatever other threads do; what else it says, and whether it may wait, is said
+/// at the handle's own call of that name. Contracts see the channel.
 ///
 /// ```text
 /// if let Calls::Traced(channel) = sender.calls() {
@@ -101,7 +106,7 @@ impl<'a, T: Drop, R: Wait + Copy, K: Kind> Traced<'a, T, R, K> {
     }
 }
 
-// Questions that wait for nobody: those of the shared part, which has no runtime.
+// Questions, which never wait: those of the shared part, which has no runtime.
 impl<'a, T: Drop, R: Wait + Copy, K: Kind> Traced<'a, T, R, K> {
     /// Whether the channel is closed.
     #[inline(always)]

@@ -1,6 +1,11 @@
 //! A channel with a bound: the table of its queue and its counts, under the rule that there is one history of all that was done to it.
+//!
+//! # Extensions
+//!
+//! [`Witness`].
 
 pub(crate) mod blocking;
+mod counts;
 pub(crate) mod polls;
 
 ghost use Rattle.std.specs.Prelude.{◌≡◌, ◌<◌, ◌≤◌, ◌^◌, [], ◌∷◌, IfOk};
@@ -13,9 +18,9 @@ use channel_cells::channel::{ChannelTable, Opened, Seat};
 use event_listener::waking::Task;
 use std::alloc::{AllocError, Global};
 
-/// A party of calls on a channel with a bound, which has none under way: by its view stand, in order, what it asked and what it was answered.
+/// A party of calls on a channel with a bound, which has none under way. Its view says, in order, what it asked and what it was answered.
 ///
-/// It takes no bytes. [`look`](crate::Witnessed::look) tells of the one history of the channel in which that stands. Own to this project.
+/// It takes no bytes. [`look`](crate::Witnessed::look) says that this stands in the one history of the channel.
 pub type Witness<T> = Seat<T, Task>;
 
 /// The table that the handles of a channel share, and the channel's identity, which is here and nowhere else.

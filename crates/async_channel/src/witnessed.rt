@@ -1,9 +1,13 @@
 //! The calls on a channel with a bound, each made with a witness.
 //!
-//! A witness is one party of the channel's history: by its view stand, in order, what it asked of this channel and what it was answered. A
-//! call takes it and gives it back, and nothing else makes or changes one. [`look`](Witnessed::look) tells of the one history of all that was
-//! done to the channel, in which that stands. The calls of handles are these, each with a witness of its own, which they give to the trace
-//! that the channel is watched by.
+//! A witness is one party of the channel's history: its view says, in order, what it asked of this channel and what it was answered. A call
+//! takes it and returns it, and nothing else makes or changes one. [`look`](Witnessed::look) says that this stands in the one history of
+//! all that was done to the channel. The calls of handles are these, each with a witness of its own, which they pass to the channel's
+//! trace.
+//!
+//! # Extensions
+//!
+//! All of this module.
 
 mod receives;
 mod sends;
@@ -29,8 +33,7 @@ use std::sync::Wait;
 
 /// The calls of a sender or of a receiver of a channel with a bound, each made with a witness.
 ///
-/// What a call does, what it is refused and whether it may wait is said at the handle's own call of that name. Contracts see the channel. Own
-/// to this project.
+/// What a call does, what it is refused and whether it may wait is said at the handle's own call of that name. Contracts see the channel.
 ///
 /// ```text
 /// if let Calls::Witnessed(channel) = sender.calls() {
@@ -67,7 +70,7 @@ impl<'a, T: Drop, R, K: Kind> Witnessed<'a, T, R, K> {
         }
     }
 
-    /// A new witness, of a party that has made no call. It waits for nobody.
+    /// A new witness, of a party that has made no call. It costs one load.
     #[inline(always)]
     pub fn witness(&self) -> Witness<T>
         ensures here { self.now.table ≡ Some (seat_table result) }
@@ -77,10 +80,10 @@ impl<'a, T: Drop, R, K: Kind> Witnessed<'a, T, R, K> {
         self.channel.table.new_seat()
     }
 
-    /// At any moment, whatever other threads are in the midst of: there is one history of all that was done to this channel, in which the
-    /// party of this witness stands where its view says, with all that it asked and was answered, and so does each that was joined in. As
-    /// long as positions last it is a run of the channel: each message came once and in order, each answer is that of its call at moments of
-    /// it, each count is the number of handles, and nobody who is pending was missed. It waits for nobody.
+    /// At any moment, whatever other threads are doing: there is one history of all that was done to this channel, in which the party of
+    /// this witness is where its view says, with all that it asked and was answered, and so is each that was joined in. As long as
+    /// positions last it is a run of the channel: each message came once and in order, each answer is that of its call at moments of it,
+    /// each count is the number of handles, and no pending waiter was missed. It costs one load.
     pub fn look(&self, witness: &mut Witness<T>)
         requires here { self.now.table ≡ Some (seat_table witness.old) }
         ensures told { IsTold (view_in witness.old) }
@@ -89,7 +92,7 @@ impl<'a, T: Drop, R, K: Kind> Witnessed<'a, T, R, K> {
         self.channel.table.look(witness);
     }
 
-    /// Joins another witness into this one, so that one look tells of both in one history. It waits for nobody.
+    /// Joins another witness into this one, so that one look says of both that they are in one history. It costs one load.
     pub fn join(&self, one: &mut Witness<T>, other: Witness<T>)
         requires one { self.now.table ≡ Some (seat_table one.old) }
         requires other { self.now.table ≡ Some (seat_table other) }
@@ -128,7 +131,7 @@ impl<'a, T: Drop, R: Wait + Copy, K: Kind> Witnessed<'a, T, R, K> {
     }
 }
 
-// Questions that wait for nobody: those of the table, which take no runtime.
+// Questions, which never wait: those of the table, which take no runtime.
 impl<'a, T: Drop, R, K: Kind> Witnessed<'a, T, R, K> {
     /// Whether the channel is closed.
     #[inline(always)]

@@ -1,4 +1,4 @@
--- A clone and a drop of a strong handle, made on end: the steps of their machine by the deeds on the count.
+-- The fast paths of a clone and of a drop of a strong handle: the steps of their machine by the deeds on the count.
 use Rattle.std.proofs.Common.{◌≡◌, ℕ, Bool, true, false, nat_eq, nat_lt, Option, None, Some, refl, sym, subst, if◌then◌else◌}
 use Rattle.concurrent_queue.specs.declared.queue_call.QueueCall.{QueueCall}
 use Rattle.event_listener.specs.declared.key.Key.{Key}

@@ -1,4 +1,4 @@
--- Steps of a channel's call that are made on end: what they may answer, and that they leave nothing.
+-- The fast paths of a channel's calls: what they may answer, and that they leave nothing.
 use Rattle.std.proofs.Common.{◌≡◌, refl, sym, subst, Option, None, Some, Ok, Err, Result, MatchResult}
 use Rattle.concurrent_queue.specs.Replies.{IsAsking, MayCall}
 use Rattle.concurrent_queue.specs.declared.cells.QueueForm.{QueueForm}
@@ -113,12 +113,12 @@ module _ {T W : Type 0} where
       MatchResult result (λ e. (s : Stage (QueueCall T) T W) × Takes turn s (Some e.reply) × (e.kept ≡ kept_by s) × ((b : QueueForm) → FollowsTurn b turn s (Some e.reply)))
       (λ call. Takes turn call.stage None × ((b : QueueForm) → FollowsTurn b turn call.stage None))
 
-  -- what may be given to a poll that is made on end
+  -- what may be given to a poll on its fast path
   abbrev pub GivesOver : QueueForm → ChannelAsk T W → Result (Completed T) (ChannelCall T W) → Type 0
   GivesOver f asked result =
       MatchResult result (λ e. ReplyAllowed f asked e.reply e.kept.message) (λ call. (r : Reply T) (m : Option T) → MayEnd f call.stage r m → ReplyAllowed f asked r m)
 
-  -- what may be given to a call that is made on end
+  -- what may be given to a call on its fast path
   abbrev pub GivesOnEnd : QueueForm → ChannelAsk T W → Result (Reply T) (ChannelCall T W) → Type 0
   GivesOnEnd f asked result =
       MatchResult result (λ r. ReplyAllowed f asked r None) (λ call. (r : Reply T) (m : Option T) → MayEnd f call.stage r m → ReplyAllowed f asked r m)

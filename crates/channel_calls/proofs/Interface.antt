@@ -32,7 +32,7 @@ module _ {T W C S : Type 0} (did : Deed T W → C → C → Type 0) (parts : C �
       (carried (Done did wakes) (Done Does wakes) (a, k) (b, l) (seen (a, k)) (seen (b, l)) (λ d h. (exact d a b h.0, h.1)) (λ e. ap seen e) m next r at h)
 
 module _ {W : Type 0} where
-  -- the first of those who wait
+  -- the first of those that wait
   pub told_firsts : (n : ℕ) (l : Listeners W)
       → told_more n l ≡ record { told = l.told ++ told_with true (take n l.waiting) (map (λ w. tt) (take n l.waiting)); waiting = drop n l.waiting }
   told_firsts n l = facts.told_firsts n l.told l.waiting

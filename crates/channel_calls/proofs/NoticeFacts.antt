@@ -27,7 +27,7 @@ pub answer_of : {N : Type 0} (many told : ℕ) (rest : N) (r : Result ℕ Notify
 answer_of many told rest (Ok n) h = h.1
 answer_of many told rest (Err e) h = absurd (let no = h.4.0 in cc)
 
--- whatever no tag of the notice is refused
+-- whatever no tag of the notification is refused
 pub answer_by : {N : Type 0} (gives : N → Result (Unit {0}) NoMemory → N → Type 0) → ((s : N) (e : NoMemory) (t : N) → gives s (Err e) t → ⊥)
     → (many told : ℕ) (rest : N) (r : Result ℕ NotifyError) → IsAnswer gives many told rest r → told ≡ many
 answer_by gives never many told rest (Ok n) h = h.1
@@ -45,7 +45,7 @@ all_moved t w total k a b e = omega arith
 
 -- ---- telling so many more, one after another
 
--- these lists, with the first n of those who wait told
+-- these lists, with the first n of those that wait told
 abbrev first_told : {W : Type 0} → ℕ → Lists (Unit {0}) W → Lists (Unit {0}) W
 first_told n l = record { told = l.told ++ told_with true (take n l.waiting) (map (λ w. tt) (take n l.waiting)); waiting = drop n l.waiting }
 

@@ -181,7 +181,7 @@ module _ {T W X : Type 0} (stands : Stage (QueueCall T) T W → X → Type 0) (d
   pub told_on : (s t : X) (e : Ending T) → stands (Working (TellReceive e)) s → (names : List W) → did (told Receives One names) s t → stands (Working (TellStreams e)) t
   told_on s t e h names deed = leads (Working (TellReceive e)) (Working (TellStreams e)) s t (told Receives One names) h deed (Nothing, None, (names, refl, (refl, (refl, refl))))
 
-  -- so do steps on end
+  -- so do several steps one after another
   pub led_to : (n : ℕ) (s : X) (a : Stage (QueueCall T) T W) (t : X) (b : Stage (QueueCall T) T W) → stands a s → Leads did n s a t b → stands b t
   led_to zero s a t b h (e, f) = subst (λ (z : Stage (QueueCall T) T W). stands z t) (sym f) (subst (λ (z : X). stands a z) (sym e) h)
   led_to (suc n) s a t b h (x, y, m, step, path) = led_to n x y t b (stands_on s x m y None a h step) path

@@ -30,7 +30,7 @@ module _ {T : Type 0} where
   waiting_of (Send m) = waiting.Send m
   waiting_of Receive = waiting.Receive
 
-  -- the call that tries once, and what it answers where there is no place or no message
+  -- the call that tries once, and what it answers if there is no place or no message
   abbrev pub at_once : {W : Type 0} → Blocked T → ChannelAsk T W
   at_once (Send m) = TrySend m
   at_once Receive = TryRecv
@@ -92,7 +92,7 @@ module _ {T W X : Type 0} (did : Deed T W → X → X → Type 0) (asked : Optio
   abbrev pub SleepsOn : Blocked T → Key → X → Reply T → Returned T → X → Type 0
   SleepsOn b key s r kept t = (n : ℕ) × (k : Key) × (x : X) × Rounds n b key s k x × Wakens b k x r kept t
 
-  -- it looks some times, and begins; where its first poll listens, it sleeps
+  -- it looks some times, and begins; if its first poll listens, it sleeps
   abbrev pub Blocks : Blocked T → X → Reply T → Returned T → X → Type 0
   Blocks b s r kept t =
       (n : ℕ) × (x : X) × Looks did n b s x

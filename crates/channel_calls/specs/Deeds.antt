@@ -10,7 +10,7 @@ use Rattle.channel_calls.specs.declared.stage.WaitList.{WaitList}
 use Rattle.channel_calls.specs.declared.stage.Telling.{Telling}
 use Rattle.channel_calls.specs.declared.stage.Side.{Side}
 
--- a deed, with its answer. A telling and a removal answer whom they woke, in order
+-- a deed, with its answer. A notification and a removal answer which tasks they woke, in order
 pub data Deed (T W : Type 0) : Type 0 where
   stepped : QueueCall T → QueueCall T → Option (QueueReply T) → Deed T W
   inserted : WaitList → Result Key ListenError → Deed T W
@@ -22,12 +22,12 @@ pub data Deed (T W : Type 0) : Type 0 where
   raised : Side → ℕ → Bool → Deed T W
 
 module _ {T W : Type 0} where
-  -- whom it woke
+  -- the tasks that it woke
   abbrev pub woken_by : Deed T W → List W
   woken_by (taken_off line key names) = names
   woken_by (told line telling names) = names
   woken_by _ = []
 
-  -- it was done to the cells, and whom it woke went to the sink in order, and nobody else
+  -- it was done to the cells, and the tasks that it woke went to the sink in order, and no others
   abbrev pub Done : {C S : Type 0} → (Deed T W → C → C → Type 0) → (S → W → S → Type 0) → Deed T W → C × S → C × S → Type 0
   Done did wakes d before now = did d before.0 now.0 × Woken wakes before.1 (woken_by d) now.1

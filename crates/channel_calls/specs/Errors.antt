@@ -28,7 +28,7 @@ module _ {T : Type 0} where
   handed_back (refused.NoMemory m) = m
   handed_back (refused.SerialsUsedUp m) = m
 
-  -- the message of a polled send that a closed channel refused; where memory or serials were wanting the send has it still
+  -- the message of a polled send that a closed channel refused; if memory or serials were wanting the send has it still
   abbrev pub given_back : Refused (SendError T) Unit → Option T
   given_back (refused.Plain e) = Some (unsent e)
   given_back (refused.NoMemory u) = None
@@ -64,7 +64,7 @@ module _ {T : Type 0} where
   bare_try_send (refused.NoMemory m) = refused.NoMemory tt
   bare_try_send (refused.SerialsUsedUp m) = refused.SerialsUsedUp tt
 
--- the channel's own refusal; none where memory or serials were wanting
+-- the channel's own refusal; none if memory or serials were wanting
 abbrev pub own_refusal : {E K : Type 0} → Refused E K → Option E
 own_refusal (refused.Plain e) = Some e
 own_refusal (refused.NoMemory k) = None

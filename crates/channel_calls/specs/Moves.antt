@@ -84,7 +84,7 @@ module _ {T W : Type 0} where
   abbrev pub registers : WaitList → Key → W → Channel T W → Effect T W
   registers line key task c = on_line line (registration key task (listeners line c.wait_lists)) [] c
 
-  -- a listener leaves, and passes on the notice that it was told
+  -- a listener leaves, and passes on the notification that it was told
   abbrev pub removes : ListenerRef → Channel T W → Effect T W
   removes h c = on_line h.line (removed h.key true (listeners h.line c.wait_lists)) (removed_wakes h.key true (listeners h.line c.wait_lists)) c
 
@@ -175,7 +175,7 @@ module _ {T W : Type 0} where
   IsTaken (Works w) r s = (r ≡ None) × (s ≡ Working w)
   IsTaken (Ends x kept) r s = (r ≡ Some x) × (s ≡ Finished kept)
 
-  -- where the others are quiet, a call of the queue needs fewer steps after this one, or it answers
+  -- if the others are quiet, a call of the queue needs fewer steps after this one, or it answers
   abbrev pub Hastens : Contents T → Queue T → Phase T → Stage (QueueCall T) T W → Contents T → Option (Reply T) → Stage (QueueCall T) T W → Type 0
   Hastens c q f (Trying call purpose) d r stage' =
       ((call' : QueueCall T) × (stage' ≡ Trying call' purpose) × (rank d call' < rank c call))

@@ -68,7 +68,7 @@ module _ {W : Type 0} where
   abbrev pub is_raised : Side → ℕ → WaitLists W → Bool
   is_raised side n a = (count side a == n) && nat_lt n (2 ^ 64 - 1)
 
-  -- one more waiting listener is told, whoever is told already
+  -- one more waiting listener is told, however many are told already
   abbrev pub told_one : Listeners W → Listeners W
   told_one l = passed (record { additional = true; tag = tt }) l
 
@@ -84,7 +84,7 @@ module _ {W : Type 0} where
   told_more_wakes zero l = []
   told_more_wakes (suc n) l = told_one_wakes l ++ told_more_wakes n (told_one l)
 
-  -- all who wait are told
+  -- all that wait are told
   abbrev pub told_all : Listeners W → Listeners W
   told_all l = record { told = l.told ++ told_with false l.waiting (map (λ w. tt) l.waiting); waiting = [] }
 

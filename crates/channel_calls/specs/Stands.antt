@@ -1,5 +1,5 @@
--- What the cells of a channel may ask of whoever works on them: that each deed is the one that the call's machine does next. Cells of one
--- owner ask nothing; those of calls whose deeds are to be one history ask just this.
+-- What the cells of a channel may require of their deeds: each is the one that the call's machine does next. Cells of one owner require
+-- nothing; those of calls whose deeds are to be one history require just this.
 use Rattle.std.specs.Prelude.{◌≡◌, Option, None, Some}
 use Rattle.concurrent_queue.specs.declared.queue_call.QueueCall.{QueueCall}
 use Rattle.channel_calls.specs.Deeds.{Deed}

@@ -57,11 +57,11 @@ module _ {T W : Type 0} where
   SoManyUnseen zero a b = b ≡ a
   SoManyUnseen (suc n) a b = (c : Stage (QueueCall T) T W) × SoManyUnseen n a c × Unseen c b
 
-  -- whoever was seen at v may stand here
+  -- a call that was seen at v may be here
   abbrev pub SeenAt : Stage (QueueCall T) T W → Stage (QueueCall T) T W → Type 0
   SeenAt v at = (n : ℕ) × SoManyUnseen n v at
 
-  -- who was seen at v does this deed next
+  -- a call that was seen at v does this deed next
   abbrev pub Can : Stage (QueueCall T) T W → Deed T W → Type 0
   Can v d = (at next : Stage (QueueCall T) T W) × SeenAt v at × NextDeed at d next
 
@@ -217,7 +217,7 @@ module _ {T W : Type 0} where
   among zero v at e = inl (ap (λ z. unmarked z) e)
   among (suc n) v at (c, path, step) = among_on v c at (among n v c path) (unseen_to c at step)
 
-  -- who does a deed has its room, and has not answered
+  -- a call that does a deed has its room, and has not answered
   work_started : (w : ListStep T W) (d : Deed T W) (m : Mark) (b : Stage (QueueCall T) T W) (r : Option (Reply T)) → WorkMakes NotesDeed w None (Some d) m b r → started (Working w) ≡ Working w
   work_started (TakeRoom n) d m b r (turn, h, room, k) = absurd cc
   work_started w d m b r h = refl
@@ -268,7 +268,7 @@ module _ {T W : Type 0} where
   same_next (Trying call p) (Working w) d a b e h k = absurd cc
   same_next (Working w) (Trying call p) d a b e h k = absurd cc
 
-  -- THE STAGE at which whoever was seen here does a deed is one, but for a mark
+  -- the stage at which a call that was seen here does a deed is unique, but for a mark
   pub one_place : (v at to a b : Stage (QueueCall T) T W) (d e : Deed T W) → SeenAt v at → SeenAt v to → NextDeed at d a → NextDeed to e b → unmarked at ≡ unmarked to
   one_place v at to a b d e (n, path) (k, way) h j = at_start v at a d (among n v at path) h ∙ sym (at_start v to b e (among k v to way) j)
 
@@ -291,15 +291,15 @@ module _ {T W S : Type 0} (view : S → Stage (QueueCall T) T W) where
   pub tracked_leads : (did : Deed T W → S → S → Type 0) → ((s t : S) (d : Deed T W) → did d s t → MovesOn (view s) d (view t)) → GoesOn StandsAt did
   tracked_leads did moves at next s t d seen made h = led (view s) (view t) at next d seen h (moves s t d made)
 
-  -- whoever is seen where a call begins stands wherever its first turn may lead
+  -- a call that is seen where it begins may be wherever its first turn leads
   pub tracked_begins : (turn : NextStep T W) (s : S) → Takes turn (view s) None → BeginsHere StandsAt turn s
   tracked_begins turn s h at k = (1, (view s, refl, inl (same_taken turn (view s) at None None h k)))
 
   pub tracked_rests : StaysOn StandsAt
   tracked_rests at next s (n, path) h = (suc n, (at, path, inr (inl h)))
 
--- of the stages themselves: whoever may do just what a call does next, and does so, keeps what `ChannelCells` asks; whoever is seen where a
--- call begins may begin it; and what comes next is one step of one stage
+-- of the stages themselves: cells that allow just what a call does next, and do it, keep what `ChannelCells` requires; a party that is seen
+-- where a call begins may begin it; and what comes next is one step of one stage
 abbrev pub CallsKeepWhatCellsAsk : Type 0 → Type 0 → Type 0
 CallsKeepWhatCellsAsk T W =
     let seen : Stage (QueueCall T) T W → Stage (QueueCall T) T W = λ v. v in

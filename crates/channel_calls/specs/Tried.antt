@@ -49,7 +49,8 @@ module _ {T : Type 0} where
   received_by (Err try_recv_error.Empty) = Err Receive
   received_by (Err try_recv_error.Closed) = Ok (polled (reply.RecvPoll (Ready (Err (Plain (record {}))))) None)
 
-  -- the answer of a send that blocks as that of its last poll, and the message that this one left: a want hands it back
+  -- the answer of a send that blocks as that of its last poll, and the message that this one left: if memory or a serial was wanted it
+  -- returns that message
   abbrev pub sent_reply : Result Unit (Refused (SendError T) T) → Reply T
   sent_reply (Ok u) = reply.SendPoll (Ready (Ok tt))
   sent_reply (Err (Plain e)) = reply.SendPoll (Ready (Err (Plain e)))

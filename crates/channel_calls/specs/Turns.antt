@@ -38,7 +38,7 @@ abbrev pub held_on : WaitList → Option Key → Option ListenerRef
 held_on line None = None
 held_on line (Some key) = Some (record { line = line; key = key })
 
--- who closes where the last handle of this kind is dropped
+-- which call closes if the last handle of this kind is dropped
 abbrev pub dropper : Side → Option Key → Closer
 dropper Senders key = closer.Sender
 dropper Receivers key = closer.Receiver key
@@ -86,14 +86,14 @@ module _ {T : Type 0} where
   pending_reply Streams = reply.Next poll.Pending
   pending_reply Closings = reply.ClosedPoll poll.Pending
 
-  -- and where memory or a serial was refused
+  -- and if memory or a serial was refused
   abbrev pub refused_reply : WaitList → ListenError → Reply T
   refused_reply Sends e = reply.SendPoll (poll.Ready (Err (want e)))
   refused_reply Receives e = reply.RecvPoll (poll.Ready (Err (want e)))
   refused_reply Streams e = reply.Next (poll.Ready (Some (Err e)))
   refused_reply Closings e = reply.ClosedPoll (poll.Ready (Err e))
 
-  -- how a closing ends, where this call closed the channel or not
+  -- how a closing ends, if this call closed the channel or not
   abbrev pub closer_ending : Closer → Bool → Ending T
   closer_ending closer.Call closed = says (reply.Closed closed)
   closer_ending closer.Sender closed = says reply.Unit
@@ -137,14 +137,14 @@ module _ {T W : Type 0} where
   registered_next w key (Some task) = again w None task
   registered_next w key None = pends_by w key
 
-  -- a closing tells sends, receives, streams and those who wait for it, in this order
+  -- a closing tells sends, receives, streams and those that wait for it, in this order
   abbrev pub told_all_next : WaitList → Closer → NextStep T W
   told_all_next Sends c = Works (work.TellAll Receives c)
   told_all_next Receives c = Works (work.TellAll Streams c)
   told_all_next Streams c = Works (work.TellAll Closings c)
   told_all_next Closings c = ends_by (closer_ending c true)
 
-  -- room is taken for so many messages at most, and the first one is tried for; where none is wanted, nothing is
+  -- room is taken for so many messages at most, and the first one is tried for; if none is wanted, nothing is
   abbrev pub room_next : ℕ → NextStep T W
   room_next zero = Ends (reply.RecvMany (Ok [])) nothing_kept
   room_next (suc n) = Tries ask.Pop (purpose.RecvMany (gathering n))

@@ -1,5 +1,5 @@
--- The machine of a channel's calls: the deed that each stage does and what follows its answer; and calls walked on by it. It speaks of
--- any cells, whatever they hold, and of any relation `did` between two of their states, of which nothing is known: who shows that a
+-- The machine of a channel's calls: the deed that each stage does and what follows its answer; and calls walked on by it. It speaks of any
+-- cells, whatever they hold, and of any relation `did` between two of their states, of which nothing is known: a body that shows that a
 -- call was walked has done these deeds in this order, and no others, and has gone by their answers.
 use Rattle.std.specs.Prelude.{◌≡◌, ℕ, zero, suc, Bool, true, false, List, Option, None, Some, Result, Ok, Err}
 use Rattle.concurrent_queue.specs.Replies.{IsAsking}
@@ -54,7 +54,7 @@ module _ {T W : Type 0} where
   Heard purpose after (Some x) next r = Takes (answered_next purpose x) next r
 
 module _ {T W X : Type 0} (did : Deed T W → X → X → Type 0) where
-  -- a listener is taken off, where one is held
+  -- a listener is taken off, if one is held
   abbrev pub Leaves : Option ListenerRef → X → X → Type 0
   Leaves None s t = t ≡ s
   Leaves (Some held) s t = (names : List W) × did (taken_off held.line held.key names) s t

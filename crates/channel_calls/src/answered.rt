@@ -1,4 +1,5 @@
-//! What comes after each answer of a channel's queue.
+//! What comes after each answer of a channel's queue. These functions touch no cell. The order that they keep: whatever a call changed in
+//! the queue comes first, then its notifications, and last the removal of its own listener.
 
 ghost use Rattle.std.specs.Prelude.{◌≡◌};
 ghost use Rattle.channel_calls.specs.Several.{with_one};
@@ -16,7 +17,7 @@ use concurrent_queue::error::{ForcePushError, PopError, PushError};
 use event_listener::key::Key;
 use futures::task::Poll;
 
-/// The queue answers each call in its own kind, so this is never reached where its contents are known.
+/// The queue answers each call in its own kind, so this is never reached if its contents are known.
 fn lost<T, W>() -> NextStep<T, W>
     ensures { result ≡ lost }
 {
@@ -29,6 +30,7 @@ pub(crate) fn sent_next<T: Drop, W>(answer: QueueReply<T>) -> NextStep<T, W>
     ensures { result ≡ sent_next answer }
 {
     match answer {
+        // The message is in: only now a receive is notified.
         QueueReply::Push(Ok(())) => NextStep::Works(ListStep::TellReceive(says(Reply::TrySend(Ok(
             (),
         ))))),
@@ -47,7 +49,7 @@ pub(crate) fn sent_next<T: Drop, W>(answer: QueueReply<T>) -> NextStep<T, W>
     }
 }
 
-/// A send that displaces. It tells no send, since it makes no room.
+/// A send that displaces. It notifies no send, since it frees no place.
 #[inline(always)]
 pub(crate) fn forced_next<T: Drop, W>(answer: QueueReply<T>) -> NextStep<T, W>
     ensures { result ≡ forced_next answer }
@@ -73,6 +75,7 @@ pub(crate) fn received_next<T: Drop, W>(answer: QueueReply<T>) -> NextStep<T, W>
     ensures { result ≡ received_next answer }
 {
     match answer {
+        // The place is free: only now a send is notified.
         QueueReply::Pop(Ok(message)) => {
             NextStep::Works(ListStep::TellSend(says(Reply::TryRecv(Ok(message)))))
         }
@@ -86,7 +89,7 @@ pub(crate) fn received_next<T: Drop, W>(answer: QueueReply<T>) -> NextStep<T, W>
     }
 }
 
-/// Several messages are handed out, and as many more sends are told.
+/// Returns several messages, and notifies as many more sends.
 fn hands_out<T: Drop, W>(messages: Messages<T>) -> NextStep<T, W>
     ensures { result ≡ hands_out messages }
 {
@@ -94,7 +97,7 @@ fn hands_out<T: Drop, W>(messages: Messages<T>) -> NextStep<T, W>
     NextStep::Works(ListStep::TellSends(count, says(Reply::RecvMany(Ok(messages)))))
 }
 
-/// One more of several messages was taken: the next one is tried for, or all are handed out.
+/// One more of several messages was taken: try for the next one, or return all.
 fn gathered_next<T: Drop, W>(gathering: Gathering<T>, message: T) -> NextStep<T, W>
     ensures { result ≡ gathered_next (with_one gathering message) }
 {
@@ -104,7 +107,7 @@ fn gathered_next<T: Drop, W>(gathering: Gathering<T>, message: T) -> NextStep<T,
     }
 }
 
-/// There is no further message: those that were taken are handed out, or this is the answer.
+/// There is no further message: return those that were taken, or this answer.
 fn short_next<T: Drop, W>(gathering: Gathering<T>, error: TryRecvError) -> NextStep<T, W>
     ensures { result ≡ short_next gathering.taken error }
 {
@@ -127,8 +130,9 @@ fn several_next<T: Drop, W>(answer: QueueReply<T>, gathering: Gathering<T>) -> N
     }
 }
 
-/// A try of a polled send. A message that wasn't sent into a closed channel is in the error; one for which there was no
-/// memory stays with the send.
+/// A try of a polled send. A message that a closed channel refused is in the error; one for which there was no memory stays with the send.
+///
+/// A poll that ends drops its listener as the last step, behind its own notifications.
 pub(crate) fn send_next<T: Drop, W: Drop>(
     answer: QueueReply<T>,
     key: Option<Key>,
@@ -247,11 +251,12 @@ fn polled_next<T: Drop, W: Drop>(
     }
 }
 
-/// A closing: it tells all only where this call closed the channel.
+/// A closing: it notifies all only if this call closed the channel.
 fn closed_next<T: Drop, W>(answer: QueueReply<T>, closer: Closer) -> NextStep<T, W>
     ensures { result ≡ closed_next answer closer }
 {
     match answer {
+        // Only the call that set the mark notifies; until it has, it is the one in flight that owes the waiters their wake-up.
         QueueReply::Close(true) => NextStep::Works(ListStep::TellAll(WaitList::Sends, closer)),
         QueueReply::Close(false) => ends_by(closer_ending(closer, false)),
         _ => lost(),
@@ -271,12 +276,12 @@ pub(crate) fn asked_next<T: Drop, W>(answer: QueueReply<T>) -> NextStep<T, W>
     }
 }
 
-/// Whether a receiver has got its last message: an open channel has more to come, a closed one is asked whether it is
-/// empty.
+/// Whether a receiver has got its last message: an open channel may get more, a closed one is asked whether it is empty.
 fn terminated_next<T: Drop, W>(answer: QueueReply<T>) -> NextStep<T, W>
     ensures { result ≡ terminated_next answer }
 {
     match answer {
+        // Closed first: nothing comes in after that, so an empty channel stays empty. In the other order a message could come in between.
         QueueReply::Flag(true) => NextStep::Tries(QueueAsk::IsEmpty, Purpose::Ask),
         QueueReply::Flag(false) => ends_by(says(Reply::Flag(false))),
         _ => lost(),

@@ -1,4 +1,5 @@
-//! What a call of a channel is asked for, and how it begins.
+//! What a call of a channel is asked for, and its first step. An operation lends its call what it has, a listener's key or a message, and
+//! the call returns it with its answer, so it is never in two places.
 
 ghost use Rattle.std.specs.Prelude.{◌≡◌};
 ghost use Rattle.channel_calls.specs.Asks.{asks_listener, begins, first, gives_up, is_refused, lent, woken};
@@ -13,8 +14,8 @@ use event_listener::error::ListenError;
 use event_listener::key::Key;
 use futures::task::Poll;
 
-/// What an unfinished send or receive lends to its poll of its listener, until the call answers and returns what the operation keeps. So an
-/// operation is not polled twice at once. Own to this project.
+/// What an unfinished send or receive lends to its poll: its listener, until the call answers and returns what the operation keeps. So an
+/// operation is not polled twice at once.
 #[derive(Clone, Copy)]
 pub struct Loan {
     /// The listener that it holds.
@@ -43,8 +44,8 @@ pub fn woken(key: Key) -> Loan
     }
 }
 
-/// A call of a channel. A polled operation lends its call what it has: the key of the listener that it holds, a task that
-/// is to be woken once it may go on, the message of a send. Own to this project.
+/// A call of a channel. A polled operation lends its call what it has: the key of the listener that it holds, a task to wake once it may go
+/// on, the message of a send.
 #[derive(Drop)]
 pub enum ChannelAsk<T, W> {
     /// A send that doesn't wait.
@@ -55,7 +56,7 @@ pub enum ChannelAsk<T, W> {
     TryRecv,
     /// A receive of several messages, at most so many, that doesn't wait for any.
     RecvMany(Limit),
-    /// A closing by hand.
+    /// A call of `close`.
     Close,
     /// A poll of an unfinished send.
     PollSend(T, Loan, W),
@@ -65,13 +66,12 @@ pub enum ChannelAsk<T, W> {
     PollRecv(Loan, W),
     /// A poll for the closing.
     PollClosed(Option<Key>, W),
-    /// A poll of a receiver as a stream. A listener that it holds is asked before the queue is looked at.
+    /// A poll of a receiver as a stream. It asks a listener that it holds before it tries the queue.
     PollNext(Option<Key>, W),
-    /// A poll of an operation of this kind for which there was no copy of the waker: it drops the listener that it holds
-    /// and is refused for memory. A send keeps its message.
+    /// A poll of an operation of this kind for which there was no copy of the waker: it drops the listener that it holds and is refused for
+    /// memory. A send keeps its message.
     RefusePoll(WaitList, Option<T>, Option<Key>),
-    /// The giving up of an operation of this kind, which drops the listener that it holds and hands back the message of an
-    /// unfinished send.
+    /// Giving up an operation of this kind: it drops the listener that it holds and returns the message of an unfinished send.
     GiveUp(WaitList, Option<T>, Option<Key>),
     /// The drop of a sender. The last one closes.
     DropSender,
@@ -99,7 +99,7 @@ pub enum ChannelAsk<T, W> {
     SendIsTerminated(bool),
     /// Whether two handles are of one channel, as their identities say. Nothing is touched.
     SameChannel(bool),
-    /// The making of an operation or of a weak handle. Nothing is touched.
+    /// Making an operation or a weak handle. Nothing is touched.
     Make,
     /// The drop of a weak handle. Nothing is touched.
     DropWeak,
@@ -156,7 +156,7 @@ fn is_refused<T, W>(line: WaitList, message: Option<T>, key: Option<Key>) -> Nex
 }
 
 impl<T, W> ChannelAsk<T, W> {
-    /// The call's first turn. Who asks for one call has its turn alone.
+    /// The call's first step. Only the call itself asks for it.
     #[inline(always)]
     pub(crate) fn first(self) -> NextStep<T, W>
         ensures { result ≡ first self }

@@ -8,7 +8,7 @@ use crate::ask::{ChannelAsk, woken};
 use crate::stage::{WaitList, Waiting};
 use event_listener::key::Key;
 
-/// A call that blocks its thread. Own to this project.
+/// A call that blocks its thread.
 #[derive(Drop)]
 pub enum Blocked<T> {
     /// A send of this message.
@@ -28,7 +28,7 @@ impl<T> Blocked<T> {
         }
     }
 
-    /// The poll that it makes once it has listened and slept: this listener is asked first.
+    /// The poll that it makes once it has listened and slept: it asks this listener first.
     pub(crate) fn poll_woken<W>(self, key: Key, task: W) -> ChannelAsk<T, W>
         ensures { result ≡ poll_woken self key task }
     {

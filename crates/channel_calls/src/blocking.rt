@@ -1,8 +1,9 @@
-//! The calls that block their thread, over any cells on which it can sleep. Each makes rounds of polls of its machine: it tries,
-//! listens, tries again and registers, sleeps, and registers once more each time that it wakes, as a stream's poll begins. That it
-//! tries some times before its first poll is own to this project, and so is all the rest of it.
+//! The calls that block their thread, over any cells on which it can sleep. Each makes rounds of polls of its machine: it tries, listens,
+//! tries again and registers, sleeps, and registers once more each time that it wakes. Before its first poll it tries some times with short
+//! pauses.
 //!
-//! Whatever the cells hold: what such a call does is what `Blocks` of `specs/Blocks` says, and nothing else (clauses `deeds`).
+//! The invariant: the thread sleeps only after a try that was refused behind its listing, with its parker registered, so whatever it waits
+//! for wakes it. Whatever the cells hold, such a call does what `Blocks` of `specs/Blocks` says, and nothing else (clauses `deeds`).
 
 ghost use Rattle.std.specs.Prelude.{◌≡◌, None, Some, Ok, Err, IfOk, IfErr, MatchResult, Option, is_some, ℕ};
 ghost use Rattle.concurrent_queue.specs.declared.cells.QueueForm.{QueueForm};
@@ -45,7 +46,7 @@ fn polled<T>(reply: Reply<T>, message: Option<T>) -> Completed<T>
     Completed { reply, kept }
 }
 
-/// What a poll's try of a send comes to, by what a send answers that doesn't wait.
+/// What a poll's try of a send comes to, by the answer of a send that doesn't wait.
 #[inline(always)]
 fn sent_by<T: Drop>(
     sent: Result<(), Refused<TrySendError<T>, T>>,
@@ -64,7 +65,7 @@ fn sent_by<T: Drop>(
     Ok(polled(Reply::SendPoll(Poll::Ready(answer)), message))
 }
 
-/// What a poll's try of a receive comes to, by what a receive answers that doesn't wait.
+/// What a poll's try of a receive comes to, by the answer of a receive that doesn't wait.
 #[inline(always)]
 fn received_by<T: Drop>(received: Result<T, TryRecvError>) -> Result<Completed<T>, Blocked<T>>
     ensures { result ≡ received_by received }
@@ -132,8 +133,8 @@ fn tries<T: Drop, W: Drop, R: Wait, C: Sleeps<T, W>, S: Wakes<W>>(
     }
 }
 
-/// Tries some times more, with a pause before each, since what it waits for mostly comes sooner than a listener would be in: what it came
-/// to, or that it has to wait.
+/// Tries some times more, with a pause before each, since what it waits for mostly comes sooner than a listener could be listed: the
+/// answer, or the call, which has to wait.
 fn looks<T: Drop, W: Drop, R: Wait, C: Sleeps<T, W>, S: Wakes<W>>(
     rt: &R,
     call: Blocked<T>,
@@ -181,6 +182,7 @@ fn begins<T: Drop, W: Drop, R: Wait, C: Sleeps<T, W>, S: Wakes<W>>(
         Err(left) => left,
     };
     let line = call.line();
+    // List, then try again: what came free before this step notified nobody, and from here on it reaches the listener.
     let key = match cells.insert(line) {
         Ok(key) => key,
         Err(error) => {
@@ -191,6 +193,7 @@ fn begins<T: Drop, W: Drop, R: Wait, C: Sleeps<T, W>, S: Wakes<W>>(
     let again = tries(rt, call, cells, sink);
     match again {
         Ok(given) => {
+            // After the answer: a listener that was told meanwhile passes its notification on.
             cells.remove(line, key, sink);
             Ok(given)
         }
@@ -198,7 +201,7 @@ fn begins<T: Drop, W: Drop, R: Wait, C: Sleeps<T, W>, S: Wakes<W>>(
     }
 }
 
-/// What a poll left that is pending, or the poll that is over.
+/// The poll that is over, or what a pending poll left.
 fn still<T: Drop>(given: Completed<T>) -> Result<Completed<T>, (Blocked<T>, Key)>
     ensures waits { (b : Blocking T) → MayPoll (waiting_of b) given.reply given.kept.message → is_some given.kept.key ≡ pends given.reply → MatchResult result (λ over. (over ≡ given) × IsOver b over) (λ left. (left.0 ≡ b) × (given ≡ still_waits b left.1)) }
 {
@@ -235,7 +238,7 @@ fn registers<T: Drop, W: Drop, R: Wait, C: Sleeps<T, W>, S: Wakes<W>>(
     still(make(rt, call.poll_woken(key, task), cells, sink))
 }
 
-/// Drops the listener and ends, for want of a task: as a poll ends that is refused the copy of its waker.
+/// Drops the listener and ends for want of a task, as a poll does that is refused the copy of its waker.
 fn refused<T: Drop, W: Drop, R: Wait, C: Sleeps<T, W>, S: Wakes<W>>(
     rt: &R,
     call: Blocked<T>,
@@ -274,7 +277,7 @@ fn sleeps<T: Drop, W: Drop, R: Wait, C: Sleeps<T, W>, S: Wakes<W>>(
     let mut call = call;
     let mut key = key;
     for _ in rt.forever() {
-        // The parker is asked for only here, where registering is next: a first poll has no task yet, and takes no memory for one.
+        // The parker is asked for only here, before registering: a first poll has no task yet, and takes no memory for one.
         let Some(task) = cells.park() else {
             return refused(rt, call, key, cells, sink);
         };
@@ -285,12 +288,14 @@ fn sleeps<T: Drop, W: Drop, R: Wait, C: Sleeps<T, W>, S: Wakes<W>>(
                 key = next;
             }
         }
+        // After registering. The parker stays rung, so a notification since then ends this sleep at once.
         cells.sleep();
     }
     unreachable!()
 }
 
-/// Makes a call that blocks its thread up to its answer. It was tried once, apart: that goes through mostly, and needs nothing of this.
+/// Makes a call that blocks its thread up to its answer. It was tried once before, on its own, which mostly succeeds and needs nothing of
+/// this.
 fn blocks<T: Drop, W: Drop, R: Wait, C: Sleeps<T, W>, S: Wakes<W>>(
     rt: &R,
     call: Blocked<T>,
@@ -312,7 +317,7 @@ fn blocks<T: Drop, W: Drop, R: Wait, C: Sleeps<T, W>, S: Wakes<W>>(
     }
 }
 
-/// What a send that blocks answers, by its last poll: a want hands the message back that stayed with it.
+/// What a send that blocks answers, by its last poll: if memory or a serial was refused it returns the message that stayed with the send.
 pub fn answered<T: Drop>(
     answer: Result<(), Refused<SendError<T>>>,
     message: Option<T>,

@@ -1,4 +1,5 @@
-//! A call of a channel, which is made one step at a time.
+//! A call of a channel, which is made one step at a time. It owns what its operation lent it, and touches a channel only through the cells
+//! that each step is given.
 
 ghost use Rattle.std.specs.Prelude.{◌≡◌, true, Some};
 ghost use Rattle.channel_calls.specs.Asks.{kept_by};
@@ -21,14 +22,14 @@ use std::mem;
 
 /// A call of a channel under way, with what its operation lent it: a listener's key, a task, a message.
 ///
-/// Each [`step`](ChannelCall::step) does one thing to the channel's cells: one step of a call of the queue, one section on
-/// one list of listeners, one operation on one count, or nothing. Own to this project.
+/// Each [`step`](ChannelCall::step) does one thing to the channel's cells: one step of a call of the queue, one critical section on one
+/// wait queue, one operation on one count, or nothing.
 pub struct ChannelCall<T, W> {
     pub(crate) stage: Stage<QueueCall<T>, T, W>,
     pub(crate) mark: Mark,
 }
 
-/// By hand, so that what a crate above proves of a call that it lets go doesn't go into its stages.
+/// Written by hand, so that crates above prove nothing about the stages when they drop a call.
 impl<T: Drop, W: Drop> Drop for ChannelCall<T, W> {
     fn drop(self) {
         let ChannelCall { stage, mark: _ } = self;
@@ -37,8 +38,8 @@ impl<T: Drop, W: Drop> Drop for ChannelCall<T, W> {
 }
 
 impl<T: Drop, W: Drop> ChannelCall<T, W> {
-    /// What the last step did to the channel; before the first step nothing. Cells that make all steps of the queue's call in this
-    /// one, as those that threads share, give it no mark: it is `Nothing` then, and what was done is said by the answer alone.
+    /// What the last step did to the channel; before the first step nothing. Cells that make all steps of the queue's call at once, as
+    /// shared ones do, give it no mark: then it is `Nothing`, and the answer alone says what was done.
     pub fn last_mark(&self) -> Mark
         ensures { result ≡ self.now.mark }
     {
@@ -48,11 +49,10 @@ impl<T: Drop, W: Drop> ChannelCall<T, W> {
     /// Makes the next step. Tasks that it wakes go to the sink in order. It gives the reply with the call's last step,
     /// and does nothing after that.
     ///
-    /// Over any cells it does the one deed that the call's machine does at this stage, and goes by its answer. Where the contents
-    /// are known that deed is its whole effect on them, and so it is one step whatever other calls are under way. Over cells whose
-    /// contents are unknown, what may be answered after the step, and what it answers, might have been
-    /// answered before it. Over any cells a step that counts one handle more is its call's last, and answers that it was made:
-    /// a clone or an upgrade that is refused has counted none.
+    /// Over any cells it does the one operation that the call's machine does at this stage, and goes by its answer. Where the contents are
+    /// known, that operation is its whole effect on them, whatever other calls are under way. Where they are unknown, what may be answered
+    /// after the step, and what it answers, might have been answered before it. A step that counts one handle more is its call's last, and
+    /// answers that it was made: a clone or an upgrade that is refused has counted none.
     #[inline(always)]
     pub fn step<C: ChannelCells<T, W>, S: Wakes<W>>(
         &mut self,
@@ -93,8 +93,8 @@ impl<T: Drop, W: Drop> ChannelCall<T, W> {
         ChannelCall { stage, mark }
     }
 
-    /// What a call that has answered leaves to its operation: the listener of a pending one, the message of an unfinished
-    /// send. A call that has not answered is let go, with what it holds.
+    /// What a call that has answered leaves to its operation: the listener of a pending one, the message of an unfinished send. A call that
+    /// has not answered is dropped, with what it holds.
     #[inline(always)]
     pub fn into_kept(self) -> Returned<T>
         ensures { result ≡ kept_by self.stage }
@@ -102,7 +102,7 @@ impl<T: Drop, W: Drop> ChannelCall<T, W> {
         kept_by(self.into_stage())
     }
 
-    /// Where the call stands, with what it holds.
+    /// The call's stage, with what it holds.
     #[inline(always)]
     pub(crate) fn into_stage(self) -> Stage<QueueCall<T>, T, W>
         ensures { result ≡ self.stage }
@@ -112,7 +112,7 @@ impl<T: Drop, W: Drop> ChannelCall<T, W> {
     }
 }
 
-/// What a call that stands here leaves to its operation; one that has not answered is let go.
+/// What a call at this stage leaves to its operation; one that has not answered is dropped.
 #[inline(always)]
 pub(crate) fn kept_by<T: Drop, W: Drop>(stage: Stage<QueueCall<T>, T, W>) -> Returned<T>
     ensures { result ≡ kept_by stage }

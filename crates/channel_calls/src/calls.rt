@@ -1,8 +1,7 @@
-//! The calls of a channel that don't wait for a message or a place, each made up to its answer over any cells. All of it is own to
-//! this project.
+//! The calls of a channel that don't wait for a message or a place, each made up to its answer over any cells.
 //!
-//! Whatever the cells hold: what each does is what the machine of its call does from its first turn to this answer (clauses `deeds`).
-//! That the answer is of the call's own kind rests on the form that the queue is said to have.
+//! Whatever the cells hold, each does what the machine of its call does from its first step to this answer (clauses `deeds`). That the
+//! answer is of the call's own kind follows from the form that the queue is said to have.
 
 ghost use Rattle.std.specs.Prelude.{◌≡◌, None, Ok, Err, IfOk, IfErr, MatchResult};
 ghost use Rattle.concurrent_queue.specs.Replies.{is_bounded, room_of};
@@ -26,7 +25,7 @@ use event_listener::wakes::Wakes;
 use std::alloc::Global;
 use std::sync::Wait;
 
-/// What a send that doesn't wait answers: its steps made on end as far as they go, and the others after them.
+/// The answer of a send that doesn't wait: the fast path as far as it goes, and the other steps after it.
 #[inline(always)]
 fn sent<T: Drop, W: Drop, R: Wait, C: ChannelCells<T, W>, S: Wakes<W>>(
     rt: &R,
@@ -45,7 +44,7 @@ fn sent<T: Drop, W: Drop, R: Wait, C: ChannelCells<T, W>, S: Wakes<W>>(
     }
 }
 
-/// What a send that displaces answers, likewise.
+/// The answer of a send that displaces, likewise.
 #[inline(always)]
 fn displaced<T: Drop, W: Drop, R: Wait, C: ChannelCells<T, W>, S: Wakes<W>>(
     rt: &R,
@@ -64,7 +63,7 @@ fn displaced<T: Drop, W: Drop, R: Wait, C: ChannelCells<T, W>, S: Wakes<W>>(
     }
 }
 
-/// What a receive that doesn't wait answers, likewise.
+/// The answer of a receive that doesn't wait, likewise.
 #[inline(always)]
 fn received<T: Drop, W: Drop, R: Wait, C: ChannelCells<T, W>, S: Wakes<W>>(
     rt: &R,
@@ -82,7 +81,7 @@ fn received<T: Drop, W: Drop, R: Wait, C: ChannelCells<T, W>, S: Wakes<W>>(
     }
 }
 
-/// What the question for the length answers, likewise.
+/// The answer of the question for the length, likewise.
 #[inline(always)]
 fn counted<T: Drop, W: Drop, R: Wait, C: ChannelCells<T, W>, S: Wakes<W>>(
     rt: &R,
@@ -120,7 +119,7 @@ pub fn try_send<T: Drop, W: Drop, R: Wait, C: ChannelCells<T, W>, S: Wakes<W>>(
     }
 }
 
-/// A send that displaces the oldest message of a full channel, which is answered.
+/// A send that displaces the oldest message of a full channel and returns it.
 pub fn force_send<T: Drop, W: Drop, R: Wait, C: ChannelCells<T, W>, S: Wakes<W>>(
     rt: &R,
     message: T,
@@ -158,8 +157,8 @@ pub fn try_recv<T: Drop, W: Drop, R: Wait, C: ChannelCells<T, W>, S: Wakes<W>>(
     }
 }
 
-/// A receive of several messages, at most so many, that waits for none. Room for all of them is its first step, so that what was taken
-/// never waits for memory; then it is the receive into room that its caller has.
+/// A receive of several messages, at most so many, that waits for none. It reserves room for all of them first, so that no message that was
+/// taken is lost for want of memory; then it receives into that room.
 pub fn recv_many<T: Drop, W: Drop, R: Wait, C: ChannelCells<T, W>, S: Wakes<W>>(
     rt: &R,
     limit: usize,
@@ -186,7 +185,7 @@ pub fn recv_many<T: Drop, W: Drop, R: Wait, C: ChannelCells<T, W>, S: Wakes<W>>(
     }
 }
 
-/// A closing by hand: whether this call closed the channel.
+/// Closes the channel, and answers whether this call did.
 pub fn close<T: Drop, W: Drop, R: Wait, C: ChannelCells<T, W>, S: Wakes<W>>(
     rt: &R,
     cells: &mut C,

@@ -1,4 +1,8 @@
-//! What a call of a channel is refused by.
+//! Why a call of a channel is refused.
+//!
+//! # Extensions
+//!
+//! [`Refused`], [`OpenError`] and [`HandleError`], for want of memory, serials, identities or counts.
 
 use std::error::Error;
 use std::fmt;
@@ -29,7 +33,7 @@ pub enum TryRecvError {
     Closed,
 }
 
-/// A refusal: by the channel, or for want of memory or of serials, with what is handed back. Own to this project.
+/// A refusal: by the channel, or for want of memory or of serials, with what is returned.
 #[derive(Clone, Copy, Debug, Drop, PartialEq, Eq)]
 pub enum Refused<E, K = ()> {
     /// The channel's own refusal.
@@ -40,7 +44,7 @@ pub enum Refused<E, K = ()> {
     SerialsUsedUp(K),
 }
 
-/// No channel was opened. Own to this project.
+/// No channel was opened.
 #[derive(Clone, Copy, Debug, PartialEq, Eq)]
 pub enum OpenError {
     /// Memory was refused, or the capacity is above 2^58.
@@ -49,7 +53,7 @@ pub enum OpenError {
     IdsUsedUp,
 }
 
-/// No handle was made. Own to this project.
+/// No handle was made.
 #[derive(Clone, Copy, Debug, PartialEq, Eq)]
 pub enum HandleError {
     /// More than half of `usize::MAX` handles of this kind live.
@@ -106,7 +110,7 @@ impl<E, K> Refused<E, K> {
     ghost use Rattle.std.specs.Prelude.{◌≡◌};
     ghost use Rattle.channel_calls.specs.Errors.{own_refusal, wanted_memory};
 
-    /// The channel's own refusal. `None` where memory or serials were wanting: what they hand back is dropped then.
+    /// The channel's own refusal. `None` if memory or serials were wanting: what they return is dropped then.
     pub fn into_plain(self) -> Option<E>
     where
         E: Drop,
@@ -149,8 +153,8 @@ impl<T> Refused<SendError<T>> {
     ghost use Rattle.std.specs.Prelude.{◌≡◌};
     ghost use Rattle.channel_calls.specs.Errors.{given_back};
 
-    /// The message that a closed channel refused. `None` where memory or serials were wanting: the send keeps its message then.
-    /// It has a name of its own, since at messages of type `()` both kinds of refused sends are of one type.
+    /// The message that a closed channel refused. `None` if memory or serials were wanting: the send keeps its message then. It has a name
+    /// of its own, since at messages of type `()` both kinds of refused sends are of one type.
     pub fn into_message(self) -> Option<T>
         ensures { result ≡ given_back self }
     {

@@ -1,5 +1,5 @@
-//! The steps of the simple calls, made on end: of sends and receives that don't wait, and of the question for the length. What is
-//! saved is the stage that a call keeps from step to step, and the choice of the next step by it, so this is a matter of speed alone.
+//! The fast path of the simple calls: of sends and receives that don't wait, and of the question for the length. It makes the machine's
+//! operations in straight code, which saves storing the stage and choosing the next step by it. `step` has the reason for each operation.
 
 ghost use Rattle.std.specs.Prelude.{◌≡◌, false, None, Some, Ok, Option, MatchResult};
 ghost use Rattle.concurrent_queue.specs.declared.call.QueueReply.TheVariants as queue;
@@ -59,7 +59,7 @@ pub(crate) fn popped<T: Drop>(answer: QueueReply<T>) -> Result<T, QueueReply<T>>
     }
 }
 
-/// What a call has come to by its turn after a step of the queue: its answer, or the call that has to be stepped on.
+/// What a call has come to after a step of the queue: its answer, or the call, which has to be stepped on.
 #[inline(always)]
 pub(crate) fn turned<T: Drop, W: Drop>(
     turn: NextStep<T, W>,
@@ -79,8 +79,8 @@ pub(crate) fn turned<T: Drop, W: Drop>(
     }
 }
 
-/// Makes the steps of a send that doesn't wait, or answers the call that has to be stepped on: where the cells make one step
-/// of the queue's call at a time. Own to this project.
+/// Makes the steps of a send that doesn't wait; or returns the call, which has to be stepped on, if the cells make one step of the queue's
+/// call at a time.
 #[inline(always)]
 pub fn send_fast<T: Drop, W: Drop, C: ChannelCells<T, W>, S: Wakes<W>>(
     message: T,
@@ -94,6 +94,7 @@ pub fn send_fast<T: Drop, W: Drop, C: ChannelCells<T, W>, S: Wakes<W>>(
     ensures form { (f : QueueForm) → C.has_form cells.old f → C.has_form cells.new f }
 {
     let mut call = QueueCall::push(message);
+    // The queue first: whether anybody is notified follows from its answer.
     let answer = cells.step_queue(&mut call);
     let mark = Mark::of_queue(call.last_mark());
     match answer {
@@ -105,6 +106,7 @@ pub fn send_fast<T: Drop, W: Drop, C: ChannelCells<T, W>, S: Wakes<W>>(
             drop(call);
             match pushed(answer) {
                 Ok(()) => {
+                    // The message is in, so notify: one more receive, then all streams, as the machine does.
                     cells.tell(WaitList::Receives, Telling::One, sink);
                     cells.tell(WaitList::Streams, Telling::All, sink);
                     Ok(Reply::TrySend(Ok(())))
@@ -115,8 +117,7 @@ pub fn send_fast<T: Drop, W: Drop, C: ChannelCells<T, W>, S: Wakes<W>>(
     }
 }
 
-/// Makes the steps of a send that displaces, or answers the call that has to be stepped on: where the cells make one step
-/// of the queue's call at a time. Own to this project.
+/// The same for a send that displaces.
 #[inline(always)]
 pub fn displace_fast<T: Drop, W: Drop, C: ChannelCells<T, W>, S: Wakes<W>>(
     message: T,
@@ -130,6 +131,7 @@ pub fn displace_fast<T: Drop, W: Drop, C: ChannelCells<T, W>, S: Wakes<W>>(
     ensures form { (f : QueueForm) → C.has_form cells.old f → C.has_form cells.new f }
 {
     let mut call = QueueCall::force_push(message);
+    // The queue first: whether anybody is notified follows from its answer.
     let answer = cells.step_queue(&mut call);
     let mark = Mark::of_queue(call.last_mark());
     match answer {
@@ -141,6 +143,7 @@ pub fn displace_fast<T: Drop, W: Drop, C: ChannelCells<T, W>, S: Wakes<W>>(
             drop(call);
             match displaced(answer) {
                 Ok(old) => {
+                    // As in `send_fast`. No send is notified: a displaced message frees no place.
                     cells.tell(WaitList::Receives, Telling::One, sink);
                     cells.tell(WaitList::Streams, Telling::All, sink);
                     Ok(Reply::ForceSend(Ok(old)))
@@ -151,8 +154,7 @@ pub fn displace_fast<T: Drop, W: Drop, C: ChannelCells<T, W>, S: Wakes<W>>(
     }
 }
 
-/// Makes the steps of a receive that doesn't wait, or answers the call that has to be stepped on: where the cells make one step
-/// of the queue's call at a time. Own to this project.
+/// The same for a receive that doesn't wait.
 #[inline(always)]
 pub fn receive_fast<T: Drop, W: Drop, C: ChannelCells<T, W>, S: Wakes<W>>(
     cells: &mut C,
@@ -165,6 +167,7 @@ pub fn receive_fast<T: Drop, W: Drop, C: ChannelCells<T, W>, S: Wakes<W>>(
     ensures form { (f : QueueForm) → C.has_form cells.old f → C.has_form cells.new f }
 {
     let mut call = QueueCall::pop();
+    // The queue first: whether anybody is notified follows from its answer.
     let answer = cells.step_queue(&mut call);
     let mark = Mark::of_queue(call.last_mark());
     match answer {
@@ -176,6 +179,7 @@ pub fn receive_fast<T: Drop, W: Drop, C: ChannelCells<T, W>, S: Wakes<W>>(
             drop(call);
             match popped(answer) {
                 Ok(message) => {
+                    // The place is free, so notify one more send.
                     cells.tell(WaitList::Sends, Telling::One, sink);
                     Ok(Reply::TryRecv(Ok(message)))
                 }
@@ -185,7 +189,7 @@ pub fn receive_fast<T: Drop, W: Drop, C: ChannelCells<T, W>, S: Wakes<W>>(
     }
 }
 
-/// Makes the steps of the question for the length, or answers the call that has to be stepped on, likewise. Own to this project.
+/// The same for the question for the length.
 #[inline(always)]
 pub fn length_fast<T: Drop, W: Drop, C: ChannelCells<T, W>, S: Wakes<W>>(
     cells: &mut C,
@@ -198,6 +202,7 @@ pub fn length_fast<T: Drop, W: Drop, C: ChannelCells<T, W>, S: Wakes<W>>(
     ensures form { (f : QueueForm) → C.has_form cells.old f → C.has_form cells.new f }
 {
     let mut call = QueueCall::len();
+    // A question: nobody is notified.
     let answer = cells.step_queue(&mut call);
     let mark = Mark::of_queue(call.last_mark());
     match answer {

@@ -1,5 +1,5 @@
-//! Polls that have no listener, whose steps are made on end where they find what they want, a place or a message. What is saved is the
-//! stage that a call keeps from step to step, and the choice of the next step by it, so this is a matter of speed alone.
+//! The fast path of polls that have no listener and find what they want, a place or a message. It makes the machine's operations in
+//! straight code, which saves storing the stage and choosing the next step by it. `step` has the reason for each operation.
 
 ghost use Rattle.std.specs.Prelude.{◌≡◌, true, false, None, Some, Option, MatchResult};
 ghost use Rattle.concurrent_queue.specs.declared.cells.QueueForm.{QueueForm};
@@ -29,7 +29,7 @@ use event_listener::wakes::Wakes;
 use futures::task::Poll;
 use std::sync::Wait;
 
-/// What a poll has come to by its turn after a step of the queue: it is over, or the call has to be stepped on.
+/// What a poll has come to after a step of the queue: it is over, or the call has to be stepped on.
 #[inline(always)]
 fn over<T: Drop, W: Drop>(
     turn: NextStep<T, W>,
@@ -64,6 +64,7 @@ fn send_fast<T: Drop, W: Drop, C: ChannelCells<T, W>, S: Wakes<W>>(
     ensures form { (f : QueueForm) → C.has_form cells.old f → C.has_form cells.new f }
 {
     let mut call = QueueCall::push(message);
+    // The queue first: whether anybody is notified, or the poll listens, follows from its answer.
     let answer = cells.step_queue(&mut call);
     let mark = Mark::of_queue(call.last_mark());
     match answer {
@@ -76,6 +77,7 @@ fn send_fast<T: Drop, W: Drop, C: ChannelCells<T, W>, S: Wakes<W>>(
             match pushed(answer) {
                 Ok(()) => {
                     drop(task);
+                    // The message is in, so notify: one more receive, then all streams.
                     cells.tell(WaitList::Receives, Telling::One, sink);
                     cells.tell(WaitList::Streams, Telling::All, sink);
                     Ok(Completed {
@@ -106,6 +108,7 @@ fn receive_fast<T: Drop, W: Drop, C: ChannelCells<T, W>, S: Wakes<W>>(
     ensures form { (f : QueueForm) → C.has_form cells.old f → C.has_form cells.new f }
 {
     let mut call = QueueCall::pop();
+    // The queue first: whether anybody is notified, or the poll listens, follows from its answer.
     let answer = cells.step_queue(&mut call);
     let mark = Mark::of_queue(call.last_mark());
     match answer {
@@ -118,6 +121,7 @@ fn receive_fast<T: Drop, W: Drop, C: ChannelCells<T, W>, S: Wakes<W>>(
             match popped(answer) {
                 Ok(message) => {
                     drop(task);
+                    // The place is free, so notify one more send.
                     cells.tell(WaitList::Sends, Telling::One, sink);
                     Ok(Completed {
                         reply: Reply::RecvPoll(Poll::Ready(Ok(message))),
@@ -147,6 +151,7 @@ fn stream_fast<T: Drop, W: Drop, C: ChannelCells<T, W>, S: Wakes<W>>(
     ensures form { (f : QueueForm) → C.has_form cells.old f → C.has_form cells.new f }
 {
     let mut call = QueueCall::pop();
+    // The queue first: whether anybody is notified, or the poll listens, follows from its answer.
     let answer = cells.step_queue(&mut call);
     let mark = Mark::of_queue(call.last_mark());
     match answer {
@@ -159,6 +164,7 @@ fn stream_fast<T: Drop, W: Drop, C: ChannelCells<T, W>, S: Wakes<W>>(
             match popped(answer) {
                 Ok(message) => {
                     drop(task);
+                    // The place is free, so notify one more send.
                     cells.tell(WaitList::Sends, Telling::One, sink);
                     Ok(Completed {
                         reply: Reply::Next(Poll::Ready(Some(Ok(message)))),
@@ -232,7 +238,7 @@ fn streamed<T: Drop, W: Drop, R: Wait, C: ChannelCells<T, W>, S: Wakes<W>>(
     }
 }
 
-/// Whether a poll has no listener, and so is not to ask one first.
+/// Whether a poll has no listener, and so has none to ask first.
 #[inline(always)]
 fn has_no_listener(loan: Loan) -> bool
     ensures none { result ≡ true → loan ≡ lent None }
@@ -244,7 +250,7 @@ fn has_no_listener(loan: Loan) -> bool
     }
 }
 
-/// Makes a poll from its first turn up to its answer, as [`make`] does.
+/// Makes a poll from its first step up to its answer, as [`make`] does.
 #[inline(always)]
 pub(crate) fn make_poll<T: Drop, W: Drop, R: Wait, C: ChannelCells<T, W>, S: Wakes<W>>(
     rt: &R,

@@ -1,7 +1,7 @@
-//! A receive of several messages into room that its caller has, over any cells. All of it is own to this project.
+//! A receive of several messages into room that its caller has, over any cells.
 //!
-//! Whatever the cells hold: what it does is what the machine of a receive of several does that got room for as many messages (clause
-//! `deeds`). It asks for no memory.
+//! Whatever the cells hold, it does what the machine of a receive of several does once it has room for as many messages (clause `deeds`).
+//! It takes no memory.
 
 ghost use Rattle.std.specs.Prelude.{◌≡◌, ◌≤◌, ◌<◌, List, MatchResult};
 ghost use Rattle.std.specs.Vec.{vec_capacity, vec_ptr};
@@ -38,7 +38,7 @@ fn popped<T: Drop>(answer: QueueReply<T>) -> Result<T, TryRecvError>
     }
 }
 
-/// As many sends are told as messages were taken.
+/// Notifies as many sends as messages were taken.
 fn tells<T, W, C: ChannelCells<T, W>, S: Wakes<W>>(
     taken: usize,
     cells: &mut C,
@@ -49,12 +49,13 @@ fn tells<T, W, C: ChannelCells<T, W>, S: Wakes<W>>(
     ensures deed { (names : List W) × Done C.did S.wakes (told WaitList.Sends (Telling.More taken) names) (cells.old, sink.old) (cells.new, sink.new) }
     ensures form { (f : QueueForm) → C.has_form cells.old f → C.has_form cells.new f }
 {
+    // One critical section, after the last pop: until then the places are answered for by this call, which is in flight.
     cells.tell(WaitList::Sends, Telling::More(taken), sink);
     taken
 }
 
-/// Takes messages into the room that is there, until it is full or no further message is there: how many. Refused where there is
-/// none; where there is no room, nothing is tried.
+/// Takes messages into the room that is there, until it is full or no further message is there, and answers how many. `Err` if there is
+/// none; if there is no room, nothing is tried.
 pub fn recv_many_into<T: Drop, W: Drop, R: Wait, C: ChannelCells<T, W>, S: Wakes<W>>(
     rt: &R,
     into: &mut Vec<T>,
@@ -75,6 +76,7 @@ pub fn recv_many_into<T: Drop, W: Drop, R: Wait, C: ChannelCells<T, W>, S: Wakes
     }
     let mut call = QueueCall::pop();
     for _ in rt.forever() {
+        // Room was tested before this pop, so a message that is taken always fits.
         let Some(answer) = cells.step_queue(&mut call) else {
             continue;
         };

@@ -1,4 +1,4 @@
-//! The two kinds of strong handles as types. All of it is own to this project.
+//! The two kinds of strong handles as types.
 
 ghost use Rattle.std.specs.Prelude.{◌≡◌};
 ghost use Rattle.channel_calls.specs.declared.stage.Side.{Side as Kinds};

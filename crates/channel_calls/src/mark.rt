@@ -3,7 +3,7 @@
 use crate::stage::Side;
 use concurrent_queue::call::QueueMark;
 
-/// What one step does to the channel that its callers see. Own to this project.
+/// What one step does to the channel that its callers see.
 #[derive(Clone, Copy, PartialEq, Eq, Debug)]
 pub enum Mark {
     /// Nothing.
@@ -12,7 +12,7 @@ pub enum Mark {
     Append,
     /// The oldest message is taken.
     Take,
-    /// The oldest message is taken out to make room for the call's own, which is appended at a later step.
+    /// The oldest message is taken out to make room for the call's own, which a later step appends.
     TakeDisplaced,
     /// The oldest message is taken out and the call's own appended.
     Replace,

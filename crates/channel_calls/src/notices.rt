@@ -1,4 +1,4 @@
-//! The sections on one list that a channel's steps are made of. Own to this project.
+//! The critical sections on one list that a channel's steps are made of. The caller holds the list's lock.
 
 ghost use Rattle.std.specs.Prelude.{◌≡◌};
 ghost use Rattle.event_listener.specs.Notices.{Woken};
@@ -12,7 +12,7 @@ use event_listener::list::List;
 use event_listener::notify::{Additional, Notify};
 use event_listener::wakes::Wakes;
 
-/// Tells one more of those who wait, whoever is told already.
+/// Notifies one more of the waiting listeners, however many are told already.
 #[inline(always)]
 fn tell_one<W: Drop, S: Wakes<W>>(list: &mut List<(), W>, sink: &mut S)
     ensures lists { list.new.lists ≡ told_one list.old.lists }
@@ -20,12 +20,13 @@ fn tell_one<W: Drop, S: Wakes<W>>(list: &mut List<(), W>, sink: &mut S)
     ensures room { list.new.room ≡ list.old.room }
 {
     let notice = Additional {
+        // Additional: a plain notification for one would tell nobody while a listener is told that has not polled.
         inner: Notify { count: 1 },
     };
     let _ = list.notify(notice, sink);
 }
 
-/// Tells so many more of those who wait, whoever is told already.
+/// Notifies so many more of the waiting listeners, however many are told already.
 fn tell_more<W: Drop, S: Wakes<W>>(list: &mut List<(), W>, count: usize, sink: &mut S)
     ensures lists { list.new.lists ≡ told_more count list.old.lists }
     ensures woken { Woken S.wakes sink.old (told_more_wakes count list.old.lists) sink.new }
@@ -37,7 +38,7 @@ fn tell_more<W: Drop, S: Wakes<W>>(list: &mut List<(), W>, count: usize, sink: &
     let _ = list.notify(notices, sink);
 }
 
-/// Tells all who wait: a list never has as many listeners as this notice is for.
+/// Notifies all: a list never has as many listeners as this notification is for.
 #[inline(always)]
 fn tell_all<W: Drop, S: Wakes<W>>(list: &mut List<(), W>, sink: &mut S)
     ensures lists { list.new.lists ≡ told_all list.old.lists }
@@ -49,7 +50,7 @@ fn tell_all<W: Drop, S: Wakes<W>>(list: &mut List<(), W>, sink: &mut S)
     let _ = list.notify(notice, sink);
 }
 
-/// Tells these of those who wait.
+/// Notifies these of the waiting listeners.
 #[inline(always)]
 pub fn tell<W: Drop, S: Wakes<W>>(list: &mut List<(), W>, telling: Telling, sink: &mut S)
     ensures lists { list.new.lists ≡ told_as telling list.old.lists }
@@ -63,13 +64,14 @@ pub fn tell<W: Drop, S: Wakes<W>>(list: &mut List<(), W>, telling: Telling, sink
     }
 }
 
-/// Gives a waiting listener its task. One that was told is taken off, and the task comes back: the list would drop it,
-/// and the poll that goes on needs it for its next listener.
+/// Gives a waiting listener its task. One that was told is removed, and the task is returned: the list would drop it, and the poll that
+/// goes on needs it for its next listener.
 pub fn register<W: Drop>(list: &mut List<(), W>, key: Key, task: W) -> Option<W>
     ensures answer { Registers list.old.lists key task result }
     ensures lists { list.new.lists ≡ registration key task list.old.lists }
     ensures room { list.new.room ≡ room_polled list.old.lists key list.old.room }
 {
+    // Both calls are under one lock, so a listener that is found waiting still waits when it gets its task.
     match list.poll(key) {
         Ok(None) => {
             let _ = list.register(key, task);

@@ -1,4 +1,4 @@
-//! The cells of a channel with one owner.
+//! The cells of a channel with one owner: what they hold is known, so each operation's effect is exact.
 
 use crate::cells::ChannelCells;
 use crate::notices::{register, tell};
@@ -14,7 +14,7 @@ use event_listener::list::List;
 use event_listener::wakes::Wakes;
 use std::alloc::{AllocError, Global};
 
-/// A queue's cells, four lists of listeners and two counts of handles, with one owner. Own to this project.
+/// A queue's cells, four wait queues and two counts of handles, with one owner.
 pub struct PlainChannel<T, W> {
     cells: PlainCells<T>,
     sends: List<(), W>,
@@ -25,7 +25,7 @@ pub struct PlainChannel<T, W> {
     receivers: usize,
 }
 
-/// By hand, so that what a crate above proves of a channel that it lets go doesn't go into its cells and lists.
+/// Written by hand, so that crates above prove nothing about the cells and lists when they drop a channel.
 impl<T: Drop, W: Drop> Drop for PlainChannel<T, W> {
     fn drop(self) {
         let PlainChannel {
@@ -54,8 +54,8 @@ impl<T: Drop, W: Drop> PlainChannel<T, W> {
     ghost use Rattle.channel_calls.specs.Parts.{new_wait_lists, listeners, count};
     ghost use Rattle.channel_calls.specs.Plain.{parts_of};
 
-    /// An open and empty channel over a queue of this form, with one sender, one receiver and no listeners. `Err` where
-    /// there is no memory for the queue.
+    /// An open and empty channel over a queue of this form, with one sender, one receiver and no listeners. `Err` if there is no memory for
+    /// the queue.
     pub fn new(form: QueueForm, alloc: Global) -> Result<PlainChannel<T, W>, AllocError>
         requires form { CanBeMade form }
         ensures queue { IfOk result (λ channel. IsNew form (parts_of channel).cells) }
@@ -65,7 +65,7 @@ impl<T: Drop, W: Drop> PlainChannel<T, W> {
         Ok(PlainChannel::over(cells, alloc))
     }
 
-    /// How many listeners of this list wait untold.
+    /// How many listeners of this list are waiting and not told.
     pub fn waiting(&self, line: WaitList) -> usize
         ensures { result ≡ length (listeners line (parts_of self.now).wait_lists).waiting }
     {
@@ -77,7 +77,7 @@ impl<T: Drop, W: Drop> PlainChannel<T, W> {
         }
     }
 
-    /// How many messages fit; none where there is no bound.
+    /// How many messages fit; `None` without a bound.
     pub fn capacity(&self) -> Option<usize>
         ensures { result ≡ capacity_of (parts_of self.now).cells.form }
     {
@@ -127,8 +127,7 @@ impl<T: Drop, W: Drop> PlainChannel<T, W> {
     ghost use Rattle.channel_calls.specs.Plain.{parts_of};
     ghost use Rattle.channel_calls.specs.declared.stage.WaitList.{WaitList};
 
-    /// A number that none of the four lists of listeners is longer than: how many listen on the longest. So no step wakes
-    /// more. Own to this project.
+    /// A number that none of the four wait queues is longer than, so no step wakes more tasks.
     pub fn most_listeners(&self) -> usize
         ensures { (line : WaitList) → length (listeners line (parts_of self.now).wait_lists).waiting ≤ result }
     {

@@ -1,8 +1,8 @@
-//! One poll of each kind of operation, made up to its answer over any cells, with or without a copy of its waker: without one
-//! nothing is tried, the listener leaves, passing its notice on, and memory is what is wanted. All of it is own to this project.
+//! One poll of each kind of operation, made up to its answer over any cells. Without a copy of the waker (`None` as the task) nothing is
+//! tried: the listener leaves, passing its notification on, and the poll is refused for memory.
 //!
-//! Whatever the cells hold: what each does is what the machine of its call does from its first turn to this answer (clauses `deeds`),
-//! and it leaves a listener to its operation where it answers that it waits, and else none (clauses `listed`).
+//! Whatever the cells hold, each does what the machine of its call does from its first step to this answer (clauses `deeds`). It leaves a
+//! listener to its operation if it answers that it waits, and otherwise none (clauses `listed`).
 
 ghost use Rattle.std.specs.Prelude.{◌≡◌, None, is_some};
 ghost use Rattle.concurrent_queue.specs.declared.cells.QueueForm.{QueueForm};
@@ -30,7 +30,7 @@ use event_listener::wakes::Wakes;
 use futures::task::Poll;
 use std::sync::Wait;
 
-/// What a poll of a send asks; of a finished one, which has no message, nothing.
+/// What a poll of a send asks; a finished one, which has no message, asks nothing.
 fn send_ask<T: Drop, W: Drop>(
     message: Option<T>,
     key: Option<Key>,
@@ -80,7 +80,7 @@ fn next_ask<T, W>(key: Option<Key>, task: Option<W>) -> ChannelAsk<T, W>
     }
 }
 
-/// A poll of a send with this message; of a finished one without.
+/// A poll of a send with this message; of a finished one with none.
 pub fn poll_send<T: Drop, W: Drop, R: Wait, C: ChannelCells<T, W>, S: Wakes<W>>(
     rt: &R,
     message: Option<T>,
@@ -174,7 +174,7 @@ pub fn poll_next<T: Drop, W: Drop, R: Wait, C: ChannelCells<T, W>, S: Wakes<W>>(
     }
 }
 
-/// An operation of this kind is given up: the message of an unfinished send comes back.
+/// Gives up an operation of this kind, and returns the message of an unfinished send.
 pub fn give_up<T: Drop, W: Drop, R: Wait, C: ChannelCells<T, W>, S: Wakes<W>>(
     rt: &R,
     line: WaitList,

@@ -1,7 +1,6 @@
-//! The questions of a channel that wait for nobody, each made up to its answer over words of any kind. All of it is own to this
-//! project.
+//! The questions of a channel that never wait, each made up to its answer over words of any kind.
 //!
-//! Whatever the words hold: what each does is what the machine of its call does from its first turn to this answer (clauses `deeds`).
+//! Whatever the words hold, each does what the machine of its call does from its first step to this answer (clauses `deeds`).
 
 ghost use Rattle.std.specs.Prelude.{◌≡◌, None, false};
 ghost use Rattle.concurrent_queue.specs.Replies.{AsksWords, MayAnswer, room_of};
@@ -109,6 +108,7 @@ pub fn is_terminated<T: Drop, W: Drop, C: ChannelWords<T, W>>(words: &mut C) -> 
     ensures deeds { WalkedTo C.did (first ask.IsTerminated) words.old (reply.Flag result) words.new }
     ensures form { (f : QueueForm) → C.has_form words.old f → C.has_form words.new f }
 {
+    // Closed first: nothing comes in after that, so an empty channel stays empty. In the other order a message could come in between.
     let first = asks(QueueAsk::IsClosed, words);
     match first {
         QueueReply::Flag(true) => {

@@ -1,10 +1,9 @@
-//! What a channel counts of its strong handles, carried by a value from the step that raises a count to the one that lowers it. All of
-//! it is own to this project.
+//! What a channel counts of its strong handles, carried by a value from the step that raises a count to the one that lowers it.
 //!
-//! A [`Raised`] can't be let go, copied or made anew: a clone and an upgrade give one where they counted, a drop takes it and lowers,
-//! and nothing else can take it apart. So a body that counts and then refuses, that hands out what it didn't count, or that never
-//! lowers what it counted is no program, whoever writes it. The two first of a channel come with new [`Counters`], and with nothing
-//! else. What a body could still do is open whole new counters for the sake of their two first values.
+//! A [`Raised`] can't be dropped, copied or made anew: a clone and an upgrade return one when they have counted, a drop takes it and lowers
+//! the count, and nothing else can take it apart. So a body that counts and then refuses, that returns a handle which it didn't count, or
+//! that never lowers what it counted does not type-check. The first two of a channel come with new [`Counters`], and with nothing else.
+//! What a body could still do is open whole new counters for the sake of their first two values.
 
 ghost use Rattle.std.specs.Prelude.{◌≡◌, IfErr};
 ghost use Rattle.channel_calls.specs.Asks.{first};
@@ -34,7 +33,7 @@ use std::marker::{Model, PhantomData};
 use std::sync::Wait;
 use std::sync::atomic::AtomicUsize;
 
-/// One strong handle of this kind that a channel counts. It has no bytes, and it has no drop: who has it gives it to a handle, or to
+/// One strong handle of this kind that a channel counts. It has no bytes and no drop: its owner has to give it to a handle, or to
 /// [`drop_sender`] or [`drop_receiver`].
 pub struct Raised<K: Kind> {
     one: (),
@@ -54,7 +53,8 @@ pub struct Counters {
     receivers: CachePadded<AtomicUsize>,
 }
 
-/// The right to the two first handles of a channel, which its counts have from the start. It can't be copied, and is let go where the opening is refused: nobody has a handle then.
+/// The right to the first two handles of a channel, which its counts have from the start. It can't be copied, and is dropped if the opening
+/// is refused: nobody has a handle then.
 #[derive(Drop)]
 pub struct Opening {
     first: (),
@@ -100,7 +100,7 @@ impl Opening {
     }
 }
 
-/// One more of these handles, given where a count was raised for it.
+/// One more of these handles, made when a count was raised for it.
 #[inline(always)]
 fn one_more<K: Kind>() -> Raised<K> {
     Raised {
@@ -130,7 +130,7 @@ fn upgraded_answer<K: Kind, T: Drop>(answer: Reply<T>) -> Result<Option<Raised<K
     }
 }
 
-/// The steps of a clone after another handle came between: the count is read again.
+/// The steps of a clone after another handle came in between: the count is read again.
 #[inline(never)]
 fn count_again<T: Drop, W: Drop, R: Wait, C: ChannelCells<T, W>, S: Wakes<W>>(
     rt: &R,
@@ -150,8 +150,8 @@ fn count_again<T: Drop, W: Drop, R: Wait, C: ChannelCells<T, W>, S: Wakes<W>>(
     reply
 }
 
-/// One more strong handle of this kind is counted, or more than half of `usize::MAX` live and nothing is changed. Two steps where no
-/// other handle comes between.
+/// Counts one more strong handle of this kind. `Err`, with nothing changed, if more than half of `usize::MAX` live. It takes two operations
+/// if no other handle comes in between.
 pub fn clone_handle<K: Kind, T: Drop, W: Drop, R: Wait, C: ChannelCells<T, W>, S: Wakes<W>>(
     rt: &R,
     cells: &mut C,
@@ -162,18 +162,19 @@ pub fn clone_handle<K: Kind, T: Drop, W: Drop, R: Wait, C: ChannelCells<T, W>, S
     ensures reason { IfErr result (λ e. e ≡ HandleError.TooMany) }
 {
     let side = K::side();
-    // Straight code for a clone that meets no other: it saves the stage that a call keeps from step to step.
+    // The fast path of a clone that meets no other, which saves storing the stage from step to step.
     let count = cells.count(side);
     if is_too_many(count) {
         return Err(HandleError::TooMany);
     }
+    // An exchange: the limit was tested of this count, and of no other.
     if cells.raise(side, count) {
         return Ok(one_more());
     }
     made_answer(count_again(rt, side, cells, sink))
 }
 
-/// One more strong handle of this kind is counted, where the channel is open and one lives; `None` elsewhere. Refused as a clone is.
+/// Counts one more strong handle of this kind if the channel is open and one lives; otherwise `None`. `Err` as for a clone.
 pub fn upgrade<K: Kind, T: Drop, W: Drop, R: Wait, C: ChannelCells<T, W>, S: Wakes<W>>(
     rt: &R,
     cells: &mut C,
@@ -187,8 +188,8 @@ pub fn upgrade<K: Kind, T: Drop, W: Drop, R: Wait, C: ChannelCells<T, W>, S: Wak
     upgraded_answer(given.reply)
 }
 
-/// A strong handle is dropped, with the listener that a receiver may have as a stream. One step, where others of its kind live and it
-/// has none.
+/// Drops a strong handle, with the listener that a receiver may have as a stream. It is one operation if others of its kind live and it has
+/// none.
 fn lowered<T: Drop, W: Drop, R: Wait, C: ChannelCells<T, W>, S: Wakes<W>>(
     rt: &R,
     side: Side,
@@ -199,6 +200,7 @@ fn lowered<T: Drop, W: Drop, R: Wait, C: ChannelCells<T, W>, S: Wakes<W>>(
     requires stands { BeginsHere C.stands (NextStep.Works (ListStep.Lower side stream_key)) cells.old }
     ensures deeds { (r : Answer T) × WalkedTo (Done C.did S.wakes) (NextStep.Works (ListStep.Lower side stream_key)) (cells.old, sink.old) r (cells.new, sink.new) }
 {
+    // Lowers and reads in one operation: of two drops at once only one finds that it was the last, and closes.
     let before = cells.lower(side);
     if before != 1 && stream_key.is_none() {
         return;
@@ -209,7 +211,7 @@ fn lowered<T: Drop, W: Drop, R: Wait, C: ChannelCells<T, W>, S: Wakes<W>>(
     }
 }
 
-/// A sender is dropped: its count is lowered, and the last one closes.
+/// Drops a sender: its count is lowered, and the last one closes.
 pub fn drop_sender<T: Drop, W: Drop, R: Wait, C: ChannelCells<T, W>, S: Wakes<W>>(
     rt: &R,
     raised: Raised<OfSenders>,
@@ -223,7 +225,7 @@ pub fn drop_sender<T: Drop, W: Drop, R: Wait, C: ChannelCells<T, W>, S: Wakes<W>
     lowered(rt, Side::Senders, None, cells, sink);
 }
 
-/// A receiver is dropped, which may have a listener as a stream: its count is lowered, and the last one closes.
+/// Drops a receiver, which may have a listener as a stream: its count is lowered, and the last one closes before that listener leaves.
 pub fn drop_receiver<T: Drop, W: Drop, R: Wait, C: ChannelCells<T, W>, S: Wakes<W>>(
     rt: &R,
     raised: Raised<OfReceivers>,

@@ -5,12 +5,12 @@ use crate::several::Messages;
 use event_listener::error::ListenError;
 use futures::task::Poll;
 
-/// What a call answers. Own to this project.
+/// What a call answers.
 #[derive(Debug, Drop, PartialEq, Eq)]
 pub enum Reply<T> {
     /// Of a send that doesn't wait.
     TrySend(Result<(), Refused<TrySendError<T>, T>>),
-    /// Of a send that displaces the oldest message of a full channel, which is handed out.
+    /// Of a send that displaces the oldest message of a full channel, which it returns.
     ForceSend(Result<Option<T>, Refused<SendError<T>, T>>),
     /// Of a receive that doesn't wait.
     TryRecv(Result<T, TryRecvError>),
@@ -24,13 +24,13 @@ pub enum Reply<T> {
     ClosedPoll(Poll<Result<(), ListenError>>),
     /// Of a poll of the stream of messages.
     Next(Poll<Option<Result<T, ListenError>>>),
-    /// Of a closing: whether this call closed the channel.
+    /// Of `close`: whether this call closed the channel.
     Closed(bool),
     /// Of a question with two answers.
     Flag(bool),
     /// A number of messages or handles.
     Count(usize),
-    /// The capacity, where there is one.
+    /// The capacity, if there is one.
     Cap(Option<usize>),
     /// A handle or an operation was made.
     Made,

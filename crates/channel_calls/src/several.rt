@@ -1,11 +1,12 @@
-//! Messages that one call takes one after another. All of it is own to this project.
+//! Messages that one call takes one after another. The invariant of `Gathering`: there is room for all that may still be taken, so a
+//! message that was taken is never lost for want of memory.
 
 ghost use Rattle.std.specs.Prelude.{◌≡◌, []};
 
 use std::alloc::Global;
 use std::marker::Model;
 
-/// Messages in order. Contracts see no more of them than the list, so two are equal whatever room they have.
+/// Messages in order. Contracts see only the list, so two are equal whatever room they have.
 #[derive(Debug, Drop)]
 pub struct Messages<T> {
     items: Vec<T>,
@@ -114,7 +115,7 @@ impl Limit {
         }
     }
 
-    /// Room for all that may be taken. `None` where there is none.
+    /// Room for all that may be taken. `None` if there is no memory for it.
     pub(crate) fn room<T: Drop>(self) -> Option<Gathering<T>>
         requires { 0 < self }
         ensures { IfSome result (λ g. g ≡ gathering (self - 1)) }
@@ -140,7 +141,7 @@ impl<T: Drop> Gathering<T> {
         self.items.is_empty()
     }
 
-    /// One message more. Gives the whole where no more is wanted.
+    /// One message more. `Err` has the whole if no more is wanted.
     pub(crate) fn with(self, message: T) -> Result<Gathering<T>, Messages<T>>
         ensures { result ≡ with_one self message }
     {

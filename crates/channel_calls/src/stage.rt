@@ -1,11 +1,11 @@
-//! How far a call of a channel has come. All of it is own to this project.
+//! The program counter of a call of a channel (`Stage`), with what the call holds: its call of the queue, a message, a listener's key, a task.
 
 use crate::reply::Reply;
 use crate::several::{Gathering, Limit};
 use concurrent_queue::call::QueueAsk;
 use event_listener::key::Key;
 
-/// One of a channel's four lists of listeners, and so one of the four kinds of waiting operations.
+/// One of a channel's four wait queues, and so one of the four kinds of waiting operations.
 #[derive(Clone, Copy, PartialEq, Eq, Debug)]
 pub enum WaitList {
     /// Sends, which wait for a free place.
@@ -14,16 +14,16 @@ pub enum WaitList {
     Receives,
     /// Receivers polled as streams, which wait for a message.
     Streams,
-    /// Those who wait for the channel's closing.
+    /// Operations that wait for the channel's closing.
     Closings,
 }
 
-/// Whom a telling on a list tells, of those who wait there and weren't told before.
+/// Which of the listeners that wait on a list, and were not told before, a notification tells.
 #[derive(Clone, Copy, PartialEq, Eq, Debug)]
 pub enum Telling {
-    /// The one who has waited longest.
+    /// The one that has waited longest.
     One,
-    /// So many of them, those who have waited longest first.
+    /// So many of them, those that have waited longest first.
     More(usize),
     /// All of them.
     All,
@@ -47,7 +47,7 @@ pub struct ListenerRef {
     pub key: Key,
 }
 
-/// How a call ends once it has told whom it has to tell: it drops the listener that it still holds, and answers.
+/// How a call ends once it has notified: it drops the listener that it still holds, and answers.
 #[derive(Drop)]
 pub struct Ending<T> {
     /// What it answers.
@@ -67,10 +67,10 @@ pub struct Returned<T> {
     pub message: Option<T>,
 }
 
-/// Who closes, and so what is answered and dropped at the end.
+/// Which call closes, and so what is answered and dropped at the end.
 #[derive(Clone, Copy, PartialEq, Eq, Debug)]
 pub enum Closer {
-    /// A call that closes by hand.
+    /// A call of `close`.
     Call,
     /// The drop of the last sender.
     Sender,
@@ -117,7 +117,7 @@ pub enum Purpose<T, W> {
     Close(Closer),
     /// A question that the queue's answer answers.
     Ask,
-    /// Whether a receiver has got its last message: closed is asked first, then empty.
+    /// Whether a receiver has got its last message: it asks for closed first, then for empty.
     IsTerminated,
     /// Whether a weak handle of this kind may still be upgraded.
     Upgrade(Side),
@@ -126,40 +126,40 @@ pub enum Purpose<T, W> {
 /// A step on a list or on a count that is made next, and why.
 #[derive(Drop)]
 pub enum ListStep<T, W> {
-    /// A message is in: one more receive is told, the streams next.
+    /// A message is in: notify one more receive; the streams come next.
     TellReceive(Ending<T>),
-    /// All streams are told.
+    /// Notify all streams.
     TellStreams(Ending<T>),
-    /// A message is taken: one more send is told.
+    /// A message is taken: notify one more send.
     TellSend(Ending<T>),
-    /// So many messages are taken: as many more sends are told.
+    /// So many messages are taken: notify as many more sends.
     TellSends(usize, Ending<T>),
-    /// Room is taken for as many messages as are wanted at most.
+    /// Reserve room for as many messages as are wanted at most.
     TakeRoom(Limit),
-    /// The channel is closed: all of this list are told, those of the later lists next.
+    /// The channel is closed: notify all of this list, then those of the later lists.
     TellAll(WaitList, Closer),
     /// An operation that was refused listens, and tries again.
     Insert(Waiting<T>, W),
-    /// An operation that was refused asks its listener: told, it tries again; else its poll ends.
+    /// An operation that was refused asks its listener: if that was told, it tries again; otherwise its poll ends pending.
     Register(Waiting<T>, Key, W),
-    /// A listener that is still held is dropped, and the call answers.
+    /// Drop the listener that is still held, and answer.
     Leave(Ending<T>),
-    /// A strong handle of this kind is dropped; a receiver may hold a listener as a stream.
+    /// Drop a strong handle of this kind; a receiver may hold a listener as a stream.
     Lower(Side, Option<Key>),
-    /// A count is asked for.
+    /// Load a count, for a question.
     Count(Side),
-    /// A count is read before it is raised.
+    /// Load a count that is to be raised.
     Load(Side, Making),
-    /// A count is raised by one, if it is still this one.
+    /// Raise a count by one, if it is still this one.
     Raise(Side, usize, Making),
 }
 
-/// How far a call has come. `Q` is its call of the queue that is under way.
+/// The program counter of a call. `Q` is its call of the queue that is under way.
 #[derive(Drop)]
 pub enum Stage<Q, T, W> {
-    /// The queue's call has the next step.
+    /// The next step is one of the queue's call.
     Trying(Q, Purpose<T, W>),
-    /// A list or a count has the next step.
+    /// The next step is one on a list or a count.
     Working(ListStep<T, W>),
     /// The call has answered.
     Finished(Returned<T>),

@@ -1,4 +1,4 @@
-//! One step of a channel's call.
+//! One step of a channel's call: one step of its queue's call, one critical section on a wait queue, or one operation on a count.
 
 ghost use Rattle.std.specs.Prelude.{◌≡◌, None, true, false};
 ghost use Rattle.channel_calls.specs.Turns.{leaving, answer_of};
@@ -23,7 +23,7 @@ use concurrent_queue::queue_call::QueueCall;
 use event_listener::key::Key;
 use event_listener::wakes::Wakes;
 
-/// What one step leaves. One that counts a handle more answers that it was made: no call that is refused has counted one.
+/// What one step leaves. A step that counts one handle more answers that it was made, so a call that is refused has counted none.
 #[derive(Drop)]
 pub(crate) struct Stepped<T, W> {
     pub(crate) stage: Stage<QueueCall<T>, T, W>,
@@ -32,7 +32,7 @@ pub(crate) struct Stepped<T, W> {
     ghost raises: { is_up mark ≡ true → is_made reply ≡ true },
 }
 
-/// Takes the turn after a step with this mark.
+/// Goes on as decided, after a step with this mark.
 #[inline(always)]
 pub(crate) fn takes<T: Drop, W: Drop>(turn: NextStep<T, W>, mark: Mark) -> Stepped<T, W>
     requires raises { is_up mark ≡ true → is_made (answer_of turn) ≡ true }
@@ -59,7 +59,7 @@ pub(crate) fn takes<T: Drop, W: Drop>(turn: NextStep<T, W>, mark: Mark) -> Stepp
     }
 }
 
-/// The call stands at this stage after a step with this mark, and hasn't answered by it.
+/// The call is at this stage after a step with this mark, and hasn't answered by it.
 #[inline(always)]
 fn goes_on<T, W>(stage: Stage<QueueCall<T>, T, W>, mark: Mark) -> Stepped<T, W>
     requires raises { is_up mark ≡ false }
@@ -86,6 +86,8 @@ fn try_step<T: Drop, W: Drop, C: ChannelCells<T, W>>(
     ensures answers { (f : QueueForm) → C.has_form cells.old f → FollowsStage f (Stage.Trying call purpose) result.stage result.reply }
     ensures form { (f : QueueForm) → C.has_form cells.old f → C.has_form cells.new f }
 {
+    // The queue first, and all notifications after its answer: a receive that is notified before the message is in finds nothing and pends
+    // again, and then the message lies there with nobody awake.
     let answer = cells.step_queue(&mut call);
     let mark = Mark::of_queue(call.last_mark());
     match answer {
@@ -97,7 +99,7 @@ fn try_step<T: Drop, W: Drop, C: ChannelCells<T, W>>(
     }
 }
 
-/// A refused poll listens: it adds its listener and tries again, or that is refused.
+/// A poll that was refused adds its listener and tries again, or the list refuses it.
 fn insert<T: Drop, W: Drop, C: ChannelCells<T, W>>(
     waiting: Waiting<T>,
     task: W,
@@ -108,13 +110,15 @@ fn insert<T: Drop, W: Drop, C: ChannelCells<T, W>>(
     ensures answers { (b : QueueForm) → FollowsStage b (Stage.Working (ListStep.Insert waiting task)) result.stage result.reply }
     ensures form { (f : QueueForm) → C.has_form cells.old f → C.has_form cells.new f }
 {
+    // List, then try again: what came free between the first try and this step notified nobody. Whatever comes free from here on reaches
+    // the listener.
     match cells.insert(waiting.line()) {
         Ok(key) => takes(again(waiting, Some(key), task), Mark::Nothing),
         Err(error) => takes(unlistened(waiting, error), Mark::Nothing),
     }
 }
 
-/// A refused poll asks its listener: one that was told is used up and the poll tries again, else it ends pending.
+/// A poll that was refused asks its listener: one that was told is used up and the poll tries again; otherwise it ends pending.
 fn register<T: Drop, W: Drop, C: ChannelCells<T, W>>(
     waiting: Waiting<T>,
     key: Key,
@@ -126,6 +130,7 @@ fn register<T: Drop, W: Drop, C: ChannelCells<T, W>>(
     ensures answers { (b : QueueForm) → FollowsStage b (Stage.Working (ListStep.Register waiting key task)) result.stage result.reply }
     ensures form { (f : QueueForm) → C.has_form cells.old f → C.has_form cells.new f }
 {
+    // One critical section asks the listener and registers the task: a notification in between would wake nobody.
     match cells.register(waiting.line(), key, task) {
         Some(task) => takes(again(waiting, None, task), Mark::Nothing),
         None => takes(pends_by(waiting, key), Mark::Nothing),
@@ -159,6 +164,8 @@ fn leave<T: Drop, W: Drop, C: ChannelCells<T, W>, S: Wakes<W>>(
     match ending.held {
         None => answers(ending),
         Some(held) => {
+            // If the listener was told, this passes its notification on: the call can't know whether anybody else was notified for what is
+            // left.
             cells.remove(held.line, held.key, sink);
             answers(ending)
         }
@@ -176,6 +183,7 @@ fn lower<T: Drop, W: Drop, C: ChannelCells<T, W>>(
     ensures answers { (b : QueueForm) → FollowsStage b (Stage.Working (ListStep.Lower side key)) result.stage result.reply }
     ensures form { (f : QueueForm) → C.has_form cells.old f → C.has_form cells.new f }
 {
+    // Lowers and reads in one operation: of two drops at once only one finds that it was the last, and closes.
     let before = cells.lower(side);
     takes(lowered_next(side, key, before), Mark::down(side))
 }
@@ -192,6 +200,7 @@ fn raise<T: Drop, W: Drop, C: ChannelCells<T, W>>(
     ensures answers { (b : QueueForm) → FollowsStage b (Stage.Working (ListStep.Raise side from making)) result.stage result.reply }
     ensures form { (f : QueueForm) → C.has_form cells.old f → C.has_form cells.new f }
 {
+    // An exchange: the limit, and for an upgrade that a handle lives, were tested of `from`, and of no other number.
     if cells.raise(side, from) {
         takes(raised_next(side, making, true), Mark::up(side))
     } else {
@@ -213,6 +222,7 @@ fn work_step<T: Drop, W: Drop, C: ChannelCells<T, W>, S: Wakes<W>>(
 {
     match work {
         ListStep::TellReceive(ending) => {
+            // One more, not at least one: a second message would then notify nobody while the first notified receive has not polled.
             cells.tell(WaitList::Receives, Telling::One, sink);
             takes(
                 NextStep::Works(ListStep::TellStreams(ending)),
@@ -220,19 +230,23 @@ fn work_step<T: Drop, W: Drop, C: ChannelCells<T, W>, S: Wakes<W>>(
             )
         }
         ListStep::TellStreams(ending) => {
+            // All of them: beside a message a stream may wait only while a send is in flight.
             cells.tell(WaitList::Streams, Telling::All, sink);
             takes(ends_by(ending), Mark::Nothing)
         }
         ListStep::TellSend(ending) => {
+            // One more send for the place that came free, as for receives.
             cells.tell(WaitList::Sends, Telling::One, sink);
             takes(ends_by(ending), Mark::Nothing)
         }
         ListStep::TellSends(count, ending) => {
+            // One critical section for all places that came free.
             cells.tell(WaitList::Sends, Telling::More(count), sink);
             takes(ends_by(ending), Mark::Nothing)
         }
         ListStep::TakeRoom(limit) => takes(room_next(limit), Mark::Nothing),
         ListStep::TellAll(line, closer) => {
+            // The closed mark was set before: a listener that is notified earlier could find the channel open and pend again.
             cells.tell(line, Telling::All, sink);
             takes(told_all_next(line, closer), Mark::Nothing)
         }
@@ -241,6 +255,7 @@ fn work_step<T: Drop, W: Drop, C: ChannelCells<T, W>, S: Wakes<W>>(
         ListStep::Leave(ending) => leave(ending, cells, sink),
         ListStep::Lower(side, key) => lower(side, key, cells),
         ListStep::Count(side) => {
+            // One load is the whole question: the count at that moment.
             let count = cells.count(side);
             takes(
                 NextStep::Ends(Reply::Count(count), Returned::nothing()),
@@ -248,6 +263,7 @@ fn work_step<T: Drop, W: Drop, C: ChannelCells<T, W>, S: Wakes<W>>(
             )
         }
         ListStep::Load(side, making) => {
+            // Only read: the exchange that raises the count fails if it has changed since.
             let count = cells.count(side);
             takes(loaded_next(side, making, count), Mark::Nothing)
         }

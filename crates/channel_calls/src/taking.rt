@@ -1,7 +1,7 @@
-//! A walk that waits for the messages of a channel, over any cells: what gives the next one. Own to this project.
+//! The next message of a walk that waits for the messages of a channel, over any cells.
 //!
-//! Whatever the cells hold: while the walk has not ended, its next item is what one receive answers, and after its end nothing is done
-//! (clause `deeds`). That it has ended is kept by the walk, so nothing comes after its end.
+//! Whatever the cells hold, while the walk has not ended its next item is what one receive answers, and after its end nothing is done
+//! (clause `deeds`). The walk itself keeps whether it has ended, so nothing comes after its end.
 
 ghost use Rattle.std.specs.Prelude.{◌≡◌, false};
 ghost use Rattle.concurrent_queue.specs.declared.cells.QueueForm.{QueueForm};
@@ -37,8 +37,8 @@ pub fn next_item<T>(
     }
 }
 
-/// The next message, for which the thread sleeps while there is none. `None` where the channel is closed and empty, which ends the
-/// walk. A refusal for memory or for serials is an item, and doesn't end it.
+/// The next message, for which the thread sleeps while there is none. `None` if the channel is closed and empty, which ends the walk. A
+/// refusal for memory or for serials is an item, and doesn't end it.
 #[inline(always)]
 pub fn next_blocking<T: Drop, W: Drop, R: Wait, C: Sleeps<T, W>, S: Wakes<W>>(
     rt: &R,

@@ -1,4 +1,4 @@
-//! What comes after each step of a call on a list or on a count.
+//! What comes after each step of a call on a list or on a count. These functions touch no cell.
 
 ghost use Rattle.std.specs.Prelude.{◌≡◌, nat_lt};
 ghost use Rattle.channel_calls.specs.Turns.{most, line_of, message_of, ask_of, nothing_kept, says, held_on, ends_by, again, refused_next, pending_reply, pends_by, want, refused_reply, unlistened, closer_ending, dropper, told_all_next, TakesRoom, lowered_next, loaded_next, raised_next};
@@ -15,7 +15,7 @@ use event_listener::error::ListenError;
 use event_listener::key::Key;
 use futures::task::Poll;
 
-/// A count that is greater than this isn't raised.
+/// A count greater than this isn't raised.
 const MOST: usize = usize::MAX / 2;
 
 impl<T> Waiting<T> {
@@ -57,7 +57,7 @@ impl<T> Waiting<T> {
 }
 
 impl<T> Returned<T> {
-    /// A call that leaves nothing.
+    /// A call that leaves nothing to its operation.
     pub(crate) fn nothing() -> Returned<T>
         ensures { result ≡ nothing_kept }
     {
@@ -80,7 +80,7 @@ pub(crate) fn says<T>(reply: Reply<T>) -> Ending<T>
     }
 }
 
-/// The listener under this key on this list, where there is one.
+/// The listener under this key on this list, if there is one.
 pub(crate) fn held_on(line: WaitList, key: Option<Key>) -> Option<ListenerRef>
     ensures { result ≡ held_on line key }
 {
@@ -90,7 +90,7 @@ pub(crate) fn held_on(line: WaitList, key: Option<Key>) -> Option<ListenerRef>
     }
 }
 
-/// The call answers, or drops the listener that it holds and answers then.
+/// The call answers; if it holds a listener it drops that first.
 #[inline(always)]
 pub(crate) fn ends_by<T, W>(ending: Ending<T>) -> NextStep<T, W>
     ensures { result ≡ ends_by ending }
@@ -151,7 +151,7 @@ pub(crate) fn pends_by<T, W>(waiting: Waiting<T>, key: Key) -> NextStep<T, W>
     )
 }
 
-/// A refusal for want of memory or of serials, which hands nothing back.
+/// A refusal for want of memory or of serials, which returns nothing.
 fn want<E>(error: ListenError) -> Refused<E>
     ensures { result ≡ want error }
 {
@@ -161,7 +161,7 @@ fn want<E>(error: ListenError) -> Refused<E>
     }
 }
 
-/// What a poll of this kind answers where memory or a serial was refused.
+/// What a poll of this kind answers if memory or a serial was refused.
 pub(crate) fn refused_reply<T>(line: WaitList, error: ListenError) -> Reply<T>
     ensures { result ≡ refused_reply line error }
 {
@@ -173,7 +173,7 @@ pub(crate) fn refused_reply<T>(line: WaitList, error: ListenError) -> Reply<T>
     }
 }
 
-/// A poll that wasn't let listen ends: its operation is not pending, and keeps its message.
+/// A poll that couldn't listen ends: its operation is not pending, and keeps its message.
 pub(crate) fn unlistened<T, W>(waiting: Waiting<T>, error: ListenError) -> NextStep<T, W>
     ensures { result ≡ unlistened waiting error }
 {
@@ -187,7 +187,7 @@ pub(crate) fn unlistened<T, W>(waiting: Waiting<T>, error: ListenError) -> NextS
     )
 }
 
-/// How a closing ends, where the queue answered whether this call closed it.
+/// How a closing ends; `closed` is whether this call closed the channel.
 pub(crate) fn closer_ending<T>(closer: Closer, closed: bool) -> Ending<T>
     ensures { result ≡ closer_ending closer closed }
 {
@@ -202,7 +202,7 @@ pub(crate) fn closer_ending<T>(closer: Closer, closed: bool) -> Ending<T>
     }
 }
 
-/// A closing tells sends, receives, streams and those who wait for it, in this order.
+/// A closing notifies sends, receives, streams and closings, in this order.
 pub(crate) fn told_all_next<T, W>(line: WaitList, closer: Closer) -> NextStep<T, W>
     ensures { result ≡ told_all_next line closer }
 {
@@ -214,7 +214,7 @@ pub(crate) fn told_all_next<T, W>(line: WaitList, closer: Closer) -> NextStep<T,
     }
 }
 
-/// Who closes where the last handle of this kind is dropped.
+/// Which call closes if the last handle of this kind is dropped.
 pub(crate) fn dropper(side: Side, key: Option<Key>) -> Closer
     ensures { result ≡ dropper side key }
 {
@@ -224,11 +224,12 @@ pub(crate) fn dropper(side: Side, key: Option<Key>) -> Closer
     }
 }
 
-/// A handle was dropped where so many lived: the last one closes.
+/// A handle was dropped; `before` is the count that the drop found. The last one closes.
 pub(crate) fn lowered_next<T, W>(side: Side, key: Option<Key>, before: usize) -> NextStep<T, W>
     ensures { result ≡ lowered_next side key before }
 {
     let closer = dropper(side, key);
+    // Only one drop finds 1, and no count is raised from 0: the last handle closes, once.
     if before == 1 {
         NextStep::Tries(QueueAsk::Close, Purpose::Close(closer))
     } else {
@@ -236,20 +237,21 @@ pub(crate) fn lowered_next<T, W>(side: Side, key: Option<Key>, before: usize) ->
     }
 }
 
-/// Room is taken for as many messages as are wanted at most: the first one is tried for. Where none is wanted, none is taken.
+/// Room is reserved for as many messages as are wanted at most, and the first one is tried for. If none is wanted, none is taken.
 pub(crate) fn room_next<T: Drop, W>(limit: Limit) -> NextStep<T, W>
     ensures { TakesRoom limit result }
 {
     if limit.is_zero() {
         return ends_by(says(Reply::RecvMany(Ok(limit.nothing()))));
     }
+    // Room before the first message: what was taken must not be lost for want of memory.
     match limit.room() {
         Some(gathering) => NextStep::Tries(QueueAsk::Pop, Purpose::RecvMany(gathering)),
         None => ends_by(says(Reply::RecvMany(Err(Refused::NoMemory(()))))),
     }
 }
 
-/// Whether more handles are counted than one may be added to: more than half of `usize::MAX`.
+/// Whether the count is above the limit of half of `usize::MAX`, so that no handle may be added.
 #[inline(always)]
 pub(crate) fn is_too_many(count: usize) -> bool
     ensures { result ≡ nat_lt most count }
@@ -261,6 +263,7 @@ pub(crate) fn is_too_many(count: usize) -> bool
 pub(crate) fn loaded_next<T, W>(side: Side, making: Making, count: usize) -> NextStep<T, W>
     ensures { result ≡ loaded_next side making count }
 {
+    // An upgrade raises no count from 0: the last handle is gone, and its drop closes the channel.
     if making == Making::Upgrade && count == 0 {
         return NextStep::Ends(Reply::NotMade, Returned::nothing());
     }
@@ -270,7 +273,7 @@ pub(crate) fn loaded_next<T, W>(side: Side, making: Making, count: usize) -> Nex
     NextStep::Works(ListStep::Raise(side, count, making))
 }
 
-/// A count was raised, or another call came between and it is read again.
+/// A count was raised; or another call came between, and the count is read again.
 pub(crate) fn raised_next<T, W>(side: Side, making: Making, raised: bool) -> NextStep<T, W>
     ensures { result ≡ raised_next side making raised }
 {

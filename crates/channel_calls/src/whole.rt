@@ -1,4 +1,5 @@
-//! A call of a channel made up to its answer.
+//! A call of a channel made up to its answer, over any cells. Other threads may make steps between its own; nothing else of this call comes
+//! between them.
 
 ghost use Rattle.concurrent_queue.specs.declared.cells.QueueForm.{QueueForm};
 ghost use Rattle.channel_calls.specs.Asks.{first};
@@ -16,7 +17,7 @@ use crate::step::{Stepped, stage_step};
 use event_listener::wakes::Wakes;
 use std::sync::Wait;
 
-/// What a call answers, and what it leaves to its operation. Own to this project.
+/// What a call answers, and what it leaves to its operation.
 #[derive(Drop)]
 pub struct Completed<T> {
     /// What it answers.
@@ -25,10 +26,10 @@ pub struct Completed<T> {
     pub kept: Returned<T>,
 }
 
-/// Makes the steps of a call up to its answer. With a call that has answered before it never returns. Own to this project.
+/// Makes the steps of a call up to its answer. With a call that has answered already it never returns.
 ///
-/// Whatever the cells hold: what was done to them, and whom the sink was given, are the deeds of the call's machine from here to
-/// this answer, each with the answer that it gave, and nothing else.
+/// Whatever the cells hold: what was done to them, and what the sink got, are the operations of the call's machine from here to this
+/// answer, each with the answer that it gave, and nothing else.
 pub fn complete<T: Drop, W: Drop, R: Wait, C: ChannelCells<T, W>, S: Wakes<W>>(
     rt: &R,
     call: ChannelCall<T, W>,
@@ -59,7 +60,7 @@ pub fn complete<T: Drop, W: Drop, R: Wait, C: ChannelCells<T, W>, S: Wakes<W>>(
     unreachable!()
 }
 
-/// Makes a call from its first turn up to its answer. Own to this project.
+/// Makes a call from its first step up to its answer.
 #[inline(always)]
 pub fn make<T: Drop, W: Drop, R: Wait, C: ChannelCells<T, W>, S: Wakes<W>>(
     rt: &R,

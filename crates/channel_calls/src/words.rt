@@ -1,14 +1,13 @@
-//! What the questions of a channel work on.
+//! What the questions of a channel work on: words alone, without locks and without the runtime, so a question never waits.
 
 use crate::stage::Side;
 use concurrent_queue::call::QueueReply;
 use concurrent_queue::queue_call::QueueCall;
 
-/// The words of a channel's cells: each method is one step that waits for nobody. Own to this project.
+/// The words of a channel's cells: each method is one step that never waits.
 ///
-/// As of [`ChannelCells`](crate::cells::ChannelCells), nothing is known of what they hold but the form of the queue, and nothing of
-/// what a deed does: who promises that deeds were done has called the methods that do them, in that order. Each asks, as there, that the
-/// deed may be done.
+/// As of [`ChannelCells`](crate::cells::ChannelCells), nothing is known of the contents but the form of the queue. The contract of a method
+/// says which operation it did, and requires that the operation may be done.
 pub trait ChannelWords<T, W> {
     ghost use Rattle.std.specs.Prelude.{ℕ, Option};
     ghost use Rattle.concurrent_queue.specs.Replies.{Follows};
@@ -23,16 +22,16 @@ pub trait ChannelWords<T, W> {
     /// Which form the queue is said to have; no step changes it.
     ghost has_form: { Self → QueueForm → Type 0 } = { λ _ _. ⊥ };
 
-    /// Whether this deed, with this answer, was done between these two.
+    /// Whether this operation, with this answer, was done between these two.
     ghost did: { Deed T W → Self → Self → Type 0 } = { λ _ _ _. Unit {0} };
 
-    /// Whether this deed may be done and be answered so.
+    /// Whether this operation may be done and be answered so.
     ghost may: { Deed T W → Self → Type 0 } = { λ _ _. Unit {0} };
 
-    /// Whether the call whose words these are stands at this stage of its machine.
+    /// Whether the call whose words these are is at this stage of its machine.
     ghost stands: { Stage (Call T) T W → Self → Type 0 } = { λ _ _. Unit {0} };
 
-    /// One step of a call of the queue that is a question but for the length.
+    /// One step of a call of the queue that is a question other than the length.
     fn step_words(&mut self, call: &mut QueueCall<T>) -> Option<QueueReply<T>>
         requires alone { IsWordsAlone call.old }
         requires may { (after : Call T) (o : Option (QueueAnswer T)) → may (stepped call.old after o) self.old }
@@ -46,12 +45,12 @@ pub trait ChannelWords<T, W> {
         ensures deed { did (counted side result) self.old self.new }
         ensures form { (f : QueueForm) → has_form self.old f → has_form self.new f };
 
-    /// Where a call stands, what its machine does next may be done, whatever it is answered.
+    /// A call may do the next operation of its machine, whatever it is answered.
     ghost ready: { MayGoOn stands may };
 
-    /// Such a deed leads the call to where its machine goes by the answer.
+    /// Such an operation leads the call to where its machine goes by the answer.
     ghost leads: { GoesOn stands did };
 
-    /// A step of the machine that does no deed leads it on over the same words.
+    /// A step of the machine that does no operation leads it on over the same words.
     ghost rests: { StaysOn stands };
 }

@@ -37,7 +37,7 @@ use Rattle.channel_cells.proofs.Calling.{HasReplied}
 -- ---- what a call is lent
 
 module _ {T W : Type 0} (channel : ChannelTable T W) (s : Standing T W) where
-  -- whoever rests with what the call is lent may ask it of a channel
+  -- a party that rests with what the call is lent may ask it of a channel
   pub may_ask_of : (a : ChannelAsk T W) → IsCall a → Rests (handles_lent a) (lent_by a) s → MayAsk (form_of channel) s a
   may_ask_of a asks rests = may_ask (form_of channel) (ap (λ (f : QueueForm). is_bounded f) channel.table.bounded) s a asks rests
 

@@ -18,7 +18,7 @@ module _ {T W : Type 0} where
   abbrev pub no_parts : Parts T W
   no_parts = record { cells = no_contents Unbounded; wait_lists = new_wait_lists }
 
-  -- a call's next deed is this notice, whomever it wakes; and it was made, and has woken those whom the sink got
+  -- a call's next deed is this notification, whichever tasks it wakes; and it was made, and has woken those that the sink got
   abbrev pub MayNotify : QueueForm → WaitList → Telling → Standing T W → Type 0
   MayNotify form line telling s = (names : List W) → May form (told line telling names) s
 

@@ -1,6 +1,6 @@
-//! How a call begins and ends on a channel's cells, and the calls that wait for no message and no place. Each is that of `channel_calls`, made
-//! by the party of a seat that has no call under way and nothing lent to it, and gives the seat back, whose view says what the party asked
-//! and what it was answered.
+//! How a call begins and ends on a channel's cells, and the calls that wait for no message and no place. Each is that of `channel_calls`,
+//! made by the party of a seat that has no call under way and nothing lent to it, and returns the seat. The seat's view says what the party
+//! asked and what it was answered.
 
 ghost use Rattle.std.specs.Prelude.{◌≡◌, ◌≤◌, ◌<◌, [], IfErr, MatchResult, Ok, Err};
 ghost use Rattle.std.specs.Vec.{vec_capacity, vec_ptr};
@@ -50,7 +50,7 @@ impl<T> Answers<T> for Brand {
 }
 
 impl<T: Drop, W: Drop> ChannelTable<T, W> {
-    /// The party of this seat begins a call. It costs a load.
+    /// Begins a call of the party of this seat. It costs one load.
     #[inline(always)]
     pub(crate) fn begin_on<'a, E: Asks<T, W>, R: Wait, X>(
         &'a self,
@@ -63,6 +63,7 @@ impl<T: Drop, W: Drop> ChannelTable<T, W> {
         ensures begun { HasBegun self.now (standing_of seat) E.ask (form_in result) (table_in result) (view_of result) }
     {
         let mut seat = self.table.go_on(seat);
+        // From this step on the history has the call, and the seat can't rest before the machine has answered.
         seat.turn::<Brand, X>(about);
         CallCells {
             channel: self,
@@ -73,7 +74,7 @@ impl<T: Drop, W: Drop> ChannelTable<T, W> {
 }
 
 impl<'a, T: Drop, W: Drop, R: Wait> CallCells<'a, T, W, R> {
-    /// The call is over, which its machine has answered. It costs a load.
+    /// Ends a call that its machine has answered. It costs one load.
     #[inline(always)]
     pub(crate) fn end<E: Answers<T>, X, Y>(self, about: &X, and: &Y) -> Seat<T, W>
         requires ended { HasEnded (form_in self) E.gave (view_of self) }
@@ -86,13 +87,14 @@ impl<'a, T: Drop, W: Drop, R: Wait> CallCells<'a, T, W, R> {
             queue: HistoryCells { seat },
         } = self;
         let mut seat = seat;
+        // From this step on the history has the answer. It touches no cell, so it is a load whose answer nobody needs.
         seat.turn_by::<Brand, X, Y>(about, and);
         seat.rest()
     }
 }
 
 impl<T: Drop, W: Drop> ChannelTable<T, W> {
-    /// Sends the message where there is a place for it.
+    /// Sends the message if there is a place for it.
     #[inline(always)]
     pub fn try_send<R: Wait, S: Wakes<W>>(
         &self,
@@ -113,7 +115,7 @@ impl<T: Drop, W: Drop> ChannelTable<T, W> {
         (sent, seat)
     }
 
-    /// Takes the oldest message.
+    /// Removes the oldest message.
     #[inline(always)]
     pub fn try_recv<R: Wait, S: Wakes<W>>(
         &self,
@@ -132,7 +134,7 @@ impl<T: Drop, W: Drop> ChannelTable<T, W> {
         (received, seat)
     }
 
-    /// Sends the message; where the channel is full, its oldest message leaves for it and is answered.
+    /// Sends the message; if the channel is full, its oldest message leaves for it and is returned.
     #[inline(always)]
     pub fn force_send<R: Wait, S: Wakes<W>>(
         &self,
@@ -153,7 +155,7 @@ impl<T: Drop, W: Drop> ChannelTable<T, W> {
         (sent, seat)
     }
 
-    /// Takes the oldest messages, at most `limit`, in order.
+    /// Removes the oldest messages, at most `limit`, in order.
     pub fn recv_many<R: Wait, S: Wakes<W>>(
         &self,
         rt: &R,
@@ -174,8 +176,8 @@ impl<T: Drop, W: Drop> ChannelTable<T, W> {
         (received, seat)
     }
 
-    /// Takes the oldest messages into the room that is there, behind what is in it, in order, until it is full or no further message is
-    /// there: how many. Refused where there is none; where there is no room, nothing is tried. It asks for no memory.
+    /// Moves the oldest messages into the room that is there, behind what is in it, in order, until it is full or no further message is
+    /// there, and answers how many. `Err` if there is none; if there is no room, nothing is tried. It takes no memory.
     pub fn recv_many_into<R: Wait, S: Wakes<W>>(
         &self,
         rt: &R,

@@ -1,5 +1,5 @@
-//! The cells of a call under way, over the table and the lists that threads share. Each operation is asked to be the next of the call's
-//! machine, and is one event of the one history.
+//! The cells of a call under way, over the table and the wait queues that threads share. Each operation is required to be the next of the
+//! call's machine, and is one event of the one history.
 
 pub(crate) mod sections;
 pub(crate) mod steps;
@@ -24,7 +24,7 @@ pub struct CallCells<'a, T: Drop, W: Drop, R: Wait> {
     ghost form: { queue.seat.seat.me.0.form ≡ channel.now.table.table.shared.key },
 }
 
-/// A section that has begun: the list, while nobody else has it, and the duty to give it back.
+/// A critical section that has begun: the list, which nobody else has meanwhile, and the obligation to return it.
 pub(crate) struct Section<'a, T: Drop, W: Drop> {
     pub(crate) list: Box<List<(), W>>,
     pub(crate) taken: Taken<'a, SeatedList<T, W>, Table<T, W>, LiesHere>,

@@ -1,4 +1,5 @@
-//! What the handles of one channel share.
+//! What the handles of one channel share. The table owns the messages and counts; each lock owns a wait queue together with the seat that
+//! says so in the channel's history.
 
 pub mod look;
 pub mod opening;
@@ -13,8 +14,8 @@ use concurrent_queue::history::seats::IdleSeat;
 use concurrent_queue::history::table::CallSeat;
 use keyed_lock::KeyedLocks;
 
-/// What the handles of a channel with a bound share: the table of its queue, and four lists of listeners behind a lock each. Words of the
-/// table are the two counts of handles, and for each list one that is 0 only where nobody waits on it.
+/// What the handles of a channel with a bound share: the table of its queue, and four wait queues behind a lock each. Words of the table
+/// are the two counts of handles, and for each wait queue one that is 0 only if nobody waits there.
 #[derive(Drop)]
 pub struct ChannelTable<T: Drop, W: Drop> {
     pub(crate) table: Table<T, W>,
@@ -24,7 +25,7 @@ pub struct ChannelTable<T: Drop, W: Drop> {
     ghost bounded: { (table.table.shared.key ≡ Bounded capacity) × (capacity ≤ 2 ^ 58) },
 }
 
-/// The seat of a party of a channel that has no call under way: that of a handle, of an operation, or of whoever keeps account of calls.
+/// The seat of a party of a channel that has no call under way: that of a handle, of an operation, or of a witness of calls.
 pub type Seat<T, W> = IdleSeat<T, Standing<T, W>>;
 
 /// The seat of a party's call.

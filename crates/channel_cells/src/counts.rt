@@ -1,5 +1,6 @@
-//! Strong handles: each is a party of its own, with whose seat the handle lies that its count has. A clone's and an upgrade's party is that of
-//! the handle that it made; the drop of a handle is a call of its party.
+//! Strong handles. Each is a party of its own, whose seat has the handle that its count has: the invariant is that a count equals the
+//! number of seats with a handle. A clone's and an upgrade's party is that of the handle that it made; the drop of a handle is a call of
+//! its party.
 
 ghost use Rattle.std.specs.Prelude.{◌≡◌, [], ◌∷◌, None, IfOk, IfErr, IfSome};
 ghost use Rattle.channel_calls.specs.Calls.{made_answer, upgraded_answer};
@@ -9,10 +10,11 @@ ghost use Rattle.channel_calls.specs.declared.reply.Reply.TheVariants as reply;
 ghost use Rattle.channel_calls.specs.declared.stage.Side.TheVariants.{Senders, Receivers};
 ghost use Rattle.channel_calls.specs.declared.stage.WaitList.TheVariants.{Streams};
 ghost use Rattle.channel_history.specs.InHand.{listed_on};
-ghost use Rattle.channel_history.specs.Machine.{both};
+ghost use Rattle.channel_history.specs.Machine.{both, left};
 ghost use Rattle.channel_cells.specs.Calls.{HasCalled};
 ghost use Rattle.channel_history.specs.CallEnds.{Rests};
 ghost use Rattle.channel_cells.specs.Channel.{id_of, seat_table, standing_of};
+ghost use Rattle.channel_cells.specs.Lists.{with_handles};
 
 use crate::channel::{ChannelTable, Seat};
 use channel_calls::error::HandleError;
@@ -25,8 +27,8 @@ use std::marker::Brand;
 use std::sync::Wait;
 
 impl<T: Drop, W: Drop> ChannelTable<T, W> {
-    /// Counts one more strong handle of this kind: the party of this seat is the handle's from then on. Refused where more than half of
-    /// `usize::MAX` live. It may wait for other clonings.
+    /// Counts one more strong handle of this kind: the party of this seat is the handle's from then on. `Err` if more than half of
+    /// `usize::MAX` live. It retries while other clones or upgrades come in between.
     pub fn clone_handle<K: Kind, R: Wait, S: Wakes<W>>(
         &self,
         rt: &R,
@@ -46,7 +48,7 @@ impl<T: Drop, W: Drop> ChannelTable<T, W> {
         (made, seat)
     }
 
-    /// The same where the channel is open and one lives; `None` elsewhere.
+    /// The same if the channel is open and one lives; otherwise `None`.
     pub fn upgrade<K: Kind, R: Wait, S: Wakes<W>>(
         &self,
         rt: &R,
@@ -66,7 +68,7 @@ impl<T: Drop, W: Drop> ChannelTable<T, W> {
         (made, seat)
     }
 
-    /// Drops a sender: its count is lowered, and the last one closes the channel. It may wait for the locks of those who wait.
+    /// Drops a sender: its count is lowered, and the last one closes the channel. It may wait for the locks of the wait queues.
     pub fn drop_sender<R: Wait, S: Wakes<W>>(
         &self,
         rt: &R,
@@ -84,8 +86,8 @@ impl<T: Drop, W: Drop> ChannelTable<T, W> {
         cells.end::<Brand, (), ()>(&(), &())
     }
 
-    /// Drops a receiver, with the listener that it may have as a stream: its count is lowered, and the last one closes the channel, before the
-    /// listener leaves. It may wait as above.
+    /// Drops a receiver, with the listener that it may have as a stream: its count is lowered, and the last one closes the channel, before
+    /// the listener leaves. It may wait for the locks of the wait queues.
     pub fn drop_receiver<R: Wait, S: Wakes<W>>(
         &self,
         rt: &R,
@@ -104,7 +106,21 @@ impl<T: Drop, W: Drop> ChannelTable<T, W> {
         cells.end::<Brand, (), ()>(&(), &())
     }
 
-    /// The seat of a receiver takes in that of its stream, with the listener that the stream may have. It costs a load.
+    /// The handle that lies with this seat goes to a new seat, of a party that has made no call. What this party asked and was answered stays
+    /// with it. It costs two loads.
+    pub fn part_handle<K: Kind>(&self, seat: Seat<T, W>) -> (Seat<T, W>, Seat<T, W>)
+        requires here { seat_table seat ≡ id_of self.now }
+        requires handle { Rests (K.side ∷ []) [] (standing_of seat) }
+        ensures stays { standing_of result.0 ≡ left (standing_of seat) }
+        ensures goes { standing_of result.1 ≡ with_handles (K.side ∷ []) }
+        ensures here { (seat_table result.0 ≡ id_of self.now) × (seat_table result.1 ≡ id_of self.now) }
+    {
+        let mut seat = self.table.go_on(seat);
+        let handle = seat.part::<Brand, Side>(&K::side());
+        (seat.rest(), self.table.name(handle))
+    }
+
+    /// The seat of a receiver takes in that of its stream, with the listener that the stream may have. It costs one load.
     pub fn gather(&self, seat: Seat<T, W>, stream: Seat<T, W>) -> Seat<T, W>
         requires here { (seat_table seat ≡ id_of self.now) × (seat_table stream ≡ id_of self.now) }
         requires idle { (standing_of seat).stage ≡ None }

@@ -1,4 +1,5 @@
-//! A list of listeners as it lies behind its lock.
+//! A wait queue as it lies behind its lock. The invariant of each lock: the list comes with the seat that says in the channel's history
+//! that this very list lies here. Nobody reaches a list without its lock.
 
 ghost use Rattle.std.specs.Prelude.{◌≡◌, ◌≢◌, ◌<◌, IfOk, OnErr, None, [], true, false};
 ghost use Rattle.event_listener.specs.Lists.{listened, kind_of, registration, removed, removed_wakes};
@@ -21,8 +22,8 @@ use keyed_lock::Keeps;
 /// The table of a channel.
 pub(crate) type Table<T, W> = RuledTable<T, Standing<T, W>, OfChannel>;
 
-/// A list, with the seat that says in the channel's history that it lies here. It has a block of its own, since a section moves it: moved
-/// by value, lists would be a large part of the cost of a try.
+/// A list, with the seat that says in the channel's history that it lies here. It has a block of its own, since a critical section moves
+/// it: moved by value, lists would be a large part of the cost of a try.
 #[derive(Drop)]
 pub struct SeatedList<T, W: Drop> {
     pub(crate) list: Box<List<(), W>>,
@@ -52,16 +53,17 @@ pub(crate) fn index_of(line: WaitList) -> usize
     }
 }
 
-/// Whether nobody waits on the list, told or not told others.
+/// Whether nobody waits on the list; told listeners don't count.
 #[inline(always)]
 pub(crate) fn nobody_waits<W: Drop>(list: &Box<List<(), W>>) -> bool
     ensures nobody { result ≡ true → list.now.value.lists.waiting ≡ [] }
     ensures somebody { result ≡ false → list.now.value.lists.waiting ≢ [] }
 {
+    // This is what the list's word says: 0 exactly if it is true, whenever the lock is free.
     list.total() == list.told()
 }
 
-/// A listener more, which waits behind all others: [`List::insert`].
+/// Adds a listener, which waits behind all others: [`List::insert`].
 #[inline(always)]
 pub(crate) fn insert<W: Drop>(list: &mut Box<List<(), W>>) -> Result<Key, ListenError>
     ensures lists { IfOk result (λ key. list.new.value.lists ≡ listened key list.old.value.lists) }
@@ -71,7 +73,7 @@ pub(crate) fn insert<W: Drop>(list: &mut Box<List<(), W>>) -> Result<Key, Listen
     list.insert()
 }
 
-/// The task of a listener: [`notices::register`].
+/// Gives a listener its task: [`notices::register`].
 #[inline(always)]
 pub(crate) fn register<W: Drop>(list: &mut Box<List<(), W>>, key: Key, task: W) -> Option<W>
     ensures answer { Registers list.old.value.lists key task result }
@@ -80,7 +82,7 @@ pub(crate) fn register<W: Drop>(list: &mut Box<List<(), W>>, key: Key, task: W) 
     notices::register(&mut **list, key, task)
 }
 
-/// A listener leaves, and passes its notice on: [`List::remove`].
+/// Removes a listener, which passes its notification on: [`List::remove`].
 #[inline(always)]
 pub(crate) fn remove<W: Drop, S: Wakes<W>>(list: &mut Box<List<(), W>>, key: Key, sink: &mut S)
     ensures lists { list.new.value.lists ≡ removed key true list.old.value.lists }
@@ -89,7 +91,7 @@ pub(crate) fn remove<W: Drop, S: Wakes<W>>(list: &mut Box<List<(), W>>, key: Key
     let _ = list.remove(key, true, sink);
 }
 
-/// These of those who wait are told: [`notices::tell`].
+/// Notifies these of the waiting listeners: [`notices::tell`].
 #[inline(always)]
 pub(crate) fn tell<W: Drop, S: Wakes<W>>(
     list: &mut Box<List<(), W>>,

@@ -1,10 +1,10 @@
-//! A channel's parties as a machine, of which the rule of a queue's table keeps the history. No value of these types is made.
+//! A channel's parties as a machine, whose history the rule of a queue's table keeps. No value of these types is made.
 
 use channel_history::party::Standing;
 use concurrent_queue::history::cells::QueueMachine;
 use concurrent_queue::history::rule::Machine;
 
-/// The machine of a channel's parties. It admits no call that may be no call of a channel, so there is always one history.
+/// The machine of a channel's parties. It admits only calls of the channel, so there is always one history.
 pub struct OfChannel;
 
 impl<T, W> Machine<T, Standing<T, W>> for OfChannel {

@@ -1,6 +1,9 @@
-//! Polled operations: each is a party of its own from its first poll on, with whose seat the listener lies that is listed for it. A receiver
-//! that is polled as a stream has a seat of this kind beside that of its handle. A poll is a call of this party, and so is the giving up,
-//! which the drop of an operation makes.
+//! Polled operations. Each is a party of its own from its first poll on, and its seat has the listener that is listed for it. A receiver
+//! that is polled as a stream has a seat of this kind beside that of its handle. A poll is a call of this party, and so is giving up, which
+//! the drop of an operation does.
+//!
+//! Without a task a poll tries nothing: the listener leaves, passing its notification on, and the poll is refused for memory. Every call
+//! here may wait for the locks of the wait queues.
 
 ghost use Rattle.std.specs.Prelude.{◌≡◌, [], None, is_some};
 ghost use Rattle.channel_calls.specs.Calls.{SendsOn, send_ask, recv_ask, closed_ask, next_ask};
@@ -26,7 +29,7 @@ use std::marker::Brand;
 use std::sync::Wait;
 
 impl<T: Drop, W: Drop> ChannelTable<T, W> {
-    /// The seat of a new party, which has made no call: that of an operation before its first poll. It costs a load.
+    /// The seat of a new party, which has made no call: that of an operation before its first poll. It costs one load.
     pub fn new_seat(&self) -> Seat<T, W>
         ensures here { seat_table result ≡ id_of self.now }
         ensures new { standing_of result ≡ fresh }
@@ -35,7 +38,7 @@ impl<T: Drop, W: Drop> ChannelTable<T, W> {
         self.table.enter::<Brand, ()>(&()).rest()
     }
 
-    /// A poll of a receive, which may hold this listener. Without a task nothing is tried, the listener leaves, and memory is what is wanted.
+    /// A poll of a receive, which may hold this listener.
     pub fn poll_recv<R: Wait, S: Wakes<W>>(
         &self,
         rt: &R,
@@ -62,8 +65,8 @@ impl<T: Drop, W: Drop> ChannelTable<T, W> {
         (polled, left, seat)
     }
 
-    /// A poll of a send with this message, or of a finished one without, which may hold this listener; a finished one holds none. The message
-    /// of a send that goes on waiting, or was refused memory or a serial, is left to the operation. Without a task it is as above.
+    /// A poll of a send with this message, or of a finished one without, which may hold this listener; a finished one holds none. The
+    /// message of a send that goes on waiting, or was refused memory or a serial, is left to the operation.
     pub fn poll_send<R: Wait, S: Wakes<W>>(
         &self,
         rt: &R,
@@ -97,7 +100,7 @@ impl<T: Drop, W: Drop> ChannelTable<T, W> {
         (polled, left, seat)
     }
 
-    /// A poll of a wait for the closing, which may hold this listener. Without a task it is as above.
+    /// A poll of a wait for the closing, which may hold this listener.
     pub fn poll_closed<R: Wait, S: Wakes<W>>(
         &self,
         rt: &R,
@@ -122,7 +125,7 @@ impl<T: Drop, W: Drop> ChannelTable<T, W> {
         (polled, left, seat)
     }
 
-    /// A poll of a receiver as a stream, which may hold this listener. Without a task it is as above.
+    /// A poll of a receiver as a stream, which may hold this listener.
     pub fn poll_next<R: Wait, S: Wakes<W>>(
         &self,
         rt: &R,
@@ -153,7 +156,7 @@ impl<T: Drop, W: Drop> ChannelTable<T, W> {
         (polled, left, seat)
     }
 
-    /// Gives an operation up: its listener leaves, passing its notice on, and the message of an unfinished send comes back.
+    /// Gives an operation up: its listener leaves, passing its notification on, and the message of an unfinished send is returned.
     pub fn give_up<R: Wait, S: Wakes<W>>(
         &self,
         rt: &R,

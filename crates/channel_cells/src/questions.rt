@@ -1,5 +1,5 @@
-//! Questions that wait for nobody: they are made on words of the table alone, without the runtime. The party of a seat asks each of them, and
-//! the seat is given back beside the answer.
+//! Questions that never wait: they are made on words of the table alone, without the runtime. The party of a seat asks each of them, and
+//! the seat is returned with the answer.
 
 ghost use Rattle.std.specs.Prelude.{◌≡◌, []};
 ghost use Rattle.concurrent_queue.specs.Replies.{MayCall, room_of};
@@ -61,6 +61,7 @@ impl<'a, T: Drop, W: Drop> ChannelWords<T, W> for CallWords<'a, T, W> {
 
     #[inline(always)]
     fn count(&mut self, side: Side) -> usize {
+        // One load, true at that moment only: other handles come and go.
         self.queue.seat.count(counter_of(side)) as usize
     }
 }
@@ -88,7 +89,7 @@ fn complete_question<T: Drop, C: Cells<T>>(call: QueueCall<T>, cells: &mut C) ->
 }
 
 impl<T: Drop, W: Drop> ChannelTable<T, W> {
-    /// The party of this seat asks a question. It costs a load.
+    /// Begins a question of the party of this seat. It costs one load.
     #[inline(always)]
     fn asks<E: Asks<T, W>, X>(&self, seat: Seat<T, W>, about: &X) -> CallWords<'_, T, W>
         requires same { seat_table seat ≡ id_of self.now }
@@ -96,6 +97,7 @@ impl<T: Drop, W: Drop> ChannelTable<T, W> {
         ensures begun { HasBegun self.now (standing_of seat) E.ask (words_form result) (words_table result) (words_view result) }
     {
         let mut seat = self.table.go_on(seat);
+        // From this step on the history has the question, and the seat can't rest before it is answered.
         seat.turn::<Brand, X>(about);
         CallWords {
             queue: HistoryCells { seat },
@@ -110,7 +112,7 @@ impl<T: Drop, W: Drop> ChannelTable<T, W> {
         Some(self.capacity)
     }
 
-    /// Whether the channel is closed. It waits for nobody.
+    /// Whether the channel is closed.
     #[inline(always)]
     pub fn is_closed(&self, seat: Seat<T, W>) -> (bool, Seat<T, W>)
         requires here { seat_table seat ≡ id_of self.now }
@@ -124,7 +126,7 @@ impl<T: Drop, W: Drop> ChannelTable<T, W> {
         (closed, seat)
     }
 
-    /// Whether the channel holds no message. It waits for nobody.
+    /// Whether the channel holds no message.
     #[inline(always)]
     pub fn is_empty(&self, seat: Seat<T, W>) -> (bool, Seat<T, W>)
         requires here { seat_table seat ≡ id_of self.now }
@@ -138,7 +140,7 @@ impl<T: Drop, W: Drop> ChannelTable<T, W> {
         (empty, seat)
     }
 
-    /// Whether the channel holds as many messages as its capacity. It waits for nobody.
+    /// Whether the channel holds as many messages as its capacity.
     #[inline(always)]
     pub fn is_full(&self, seat: Seat<T, W>) -> (bool, Seat<T, W>)
         requires here { seat_table seat ≡ id_of self.now }
@@ -152,7 +154,7 @@ impl<T: Drop, W: Drop> ChannelTable<T, W> {
         (full, seat)
     }
 
-    /// Whether no message will come any more: whether the channel is closed, and then whether it is empty. It waits for nobody.
+    /// Whether no message will come any more: whether the channel is closed, and then whether it is empty.
     #[inline(always)]
     pub fn is_terminated(&self, seat: Seat<T, W>) -> (bool, Seat<T, W>)
         requires here { seat_table seat ≡ id_of self.now }
@@ -166,7 +168,7 @@ impl<T: Drop, W: Drop> ChannelTable<T, W> {
         (terminated, seat)
     }
 
-    /// How many strong handles of this kind live. It waits for nobody.
+    /// How many strong handles of this kind live.
     #[inline(always)]
     pub fn handle_count(&self, seat: Seat<T, W>, side: Side) -> (usize, Seat<T, W>)
         requires here { seat_table seat ≡ id_of self.now }
@@ -182,7 +184,7 @@ impl<T: Drop, W: Drop> ChannelTable<T, W> {
 }
 
 impl<'a, T: Drop, W: Drop> CallWords<'a, T, W> {
-    /// The question is answered. It costs a load.
+    /// Ends a question that is answered. It costs one load.
     #[inline(always)]
     fn end<E: Answers<T>, X>(self, about: &X) -> Seat<T, W>
         requires ended { HasEnded (words_form self) E.gave (words_view self) }
@@ -193,6 +195,7 @@ impl<'a, T: Drop, W: Drop> CallWords<'a, T, W> {
             queue: HistoryCells { seat },
         } = self;
         let mut seat = seat;
+        // From this step on the history has the answer.
         seat.turn_by::<Brand, X, ()>(about, &());
         seat.rest()
     }

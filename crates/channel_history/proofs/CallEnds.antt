@@ -111,7 +111,7 @@ module _ {T W : Type 0} where
     -- ---- who may ask
 
     module _ (bounded : is_bounded form ≡ true) where
-      -- whoever rests with what the call is lent
+      -- a party that rests with what the call is lent
       pub may_ask : (s : Standing T W) (a : ChannelAsk T W) → IsCall a → Rests (handles_lent a) (lent_by a) s → MayAsk form s a
       may_ask s a asks (idle, own) = record {
         bounded = bounded;

@@ -81,7 +81,7 @@ module _ {T W : Type 0} where
           (k, inside_lists line k t v none_left so, holds),
         )
 
-    -- a notice to nobody, which is made without the list
+    -- a notification to nobody, which is made without the list
     pub finds_nobody : (telling : Telling) (s : Standing T W) → May form (told line telling []) s → (t : Standing T W) × FindsNobody form s t line × Did form (told line telling []) s t
     finds_nobody telling s may =
         let none : s.own.lists ≡ [] = may.2.2.0 in

@@ -150,7 +150,7 @@ module _ {W : Type 0} where
             → (times k (listeners y a) + listed_in y k own ≡ times k (listeners y a) + listed_in y k left) × (times k (listeners y a) ≤ 1)
         elsewhere y other = let less = mine y ∙ ap (λ (c : Bool). one_if (c && same_key k key) + listed_in y k left) other in (omega (arith, less), once y k)
 
-  -- whoever has a listener finds it on its list
+  -- each that has a listener finds it on its list
   found_there : (own : List ListenerRef) (a : WaitLists W) → ((x : WaitList) (k : Key) → listed_in x k own ≤ times k (listeners x a)) → (line : WaitList) (key : Key) (rest : List ListenerRef)
       → own ≡ record { line = line; key = key } ∷ rest → 1 ≤ times key (listeners line a)
   found_there own a fits line key rest e = let here = listed_at_head line key own rest e in let fit = fits line key in omega (arith, here, fit)

@@ -79,7 +79,7 @@ module _ {T : Type 0} where
     by false = tt
   few Unbounded a bounded = absurd cc
 
-  -- ---- a step that touches nothing answers for the capacity, or leaves the call where it is
+  -- ---- a step that touches nothing answers the capacity, or leaves the call where it is
 
   no_deed : (d : cell.Deed T) → None ≡ Some d → ⊥
   no_deed d e = cc

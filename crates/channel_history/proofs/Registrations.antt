@@ -1,4 +1,4 @@
--- Whoever has a listener was told, or waits.
+-- Each that has a listener was told, or waits.
 use Rattle.std.proofs.Common.{◌≡◌, ◌≤◌, ◌⊎◌, inl, inr, ⊎_elim, Bool, true, false, List, [], ◌∷◌, if◌then◌else◌, is_some, refl, sym, ap, arith}
 use Rattle.std.specs.Prelude.{Option, None, Some}
 use Rattle.event_listener.specs.Lists.{same_key, told_as, waits_as, kind_of}

@@ -171,7 +171,7 @@ module _ {T W : Type 0} where
   place v at next d m r (inl e) h = inl e
   place v at next d m r (inr rest) h = ⊎_elim (λ room. inr room) (λ ended. absurd (ended_still at next d m r h ended)) (rested v at rest)
 
-  -- who has its room does a deed next
+  -- a call that has its room does a deed next
   pub in_room_acts : (n : ℕ) (at next : Stage (QueueCall T) T W) → unmarked at ≡ in_room n → NoDeed at next → ⊥
   in_room_acts n (Trying call p) next e (m, r, (after, o, i, j, k)) = absurd cc
   in_room_acts n (Working w) next e h = absurd cc

@@ -106,7 +106,7 @@ module _ {W : Type 0} (key : Key) (l : Listeners W) where
   none_both false true e = absurd (cc)
   none_both false false e = (refl, refl)
 
-  -- who is not listed is not there
+  -- one that is not listed is not there
   pub unlisted : kind_of l key ≡ None → times key l ≡ 0
   unlisted e =
       let both = none_both (is_some (told_as l key)) (is_some (waits_as l key)) e in

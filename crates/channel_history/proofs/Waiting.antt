@@ -1,4 +1,4 @@
--- Of each list a word says whether somebody waits on it: what each step does to that, and that a notice to nobody changes nothing.
+-- Of each list a word says whether somebody waits on it: what each step does to that, and that a notification to nobody changes nothing.
 use Rattle.std.proofs.Common.{◌≡◌, ℕ, zero, suc, ◌+◌, ◌≤◌, Bool, true, false, List, [], ◌∷◌, ◌++◌, map, refl, sym, ap, ◌∙◌, subst, arith, append-nil}
 use Rattle.std.specs.Prelude.{slice_set}
 use Rattle.concurrent_queue.specs.Contents.{Contents}
@@ -49,7 +49,7 @@ same_line Closings Sends e = absurd cc
 same_line Closings Receives e = absurd cc
 same_line Closings Streams e = absurd cc
 
--- ---- a notice to nobody
+-- ---- a notification to nobody
 
 module _ {W : Type 0} where
   abbrev nobody : List (Key × Notice Unit) → Listeners W
@@ -179,7 +179,7 @@ module _ {T W : Type 0} where
         let empty : NobodyWaits (x.0).1 = x.3 (ap (λ (z : WaitList). table.count_of (waiters_of z) t) same ∙ none) in
         ap (λ (z : WaitList). (h.listening z).waiting) (sym same) ∙ (ap (λ (z : Listeners W). z.waiting) (sym x.2) ∙ empty)
 
-    -- a notice to nobody keeps the history
+    -- a notification to nobody keeps the history
     pub nobody_keeps : (p : ℕ) (v w : Standing T W) → IsAt views p v → (line : WaitList) → table.count_of (waiters_of line) t ≡ 0 → FindsNobody form v w line
         → IsChannelHistory form (slice_set views p w) c t.first t.second
     nobody_keeps p v w there line none (telling, (os, quiet, leads), own) =

@@ -29,7 +29,7 @@ module _ {T W : Type 0} where
   abbrev pub HasEnded : Stage (QueueCall T) T W → Type 0
   HasEnded at = (kept : Returned T) × (at ≡ Finished kept)
 
-  -- whoever shows this stage may stand here: there, but for the mark of the queue's call, by which no step goes; or one step on that did
+  -- a call that shows this stage may be here: there, but for the mark of the queue's call, by which no step goes; or one step on that did
   -- nothing to any cell, list or count
   abbrev pub MayStand : Stage (QueueCall T) T W → Stage (QueueCall T) T W → Type 0
   MayStand shown at = (unmarked at ≡ unmarked shown) ⊎ NoDeed shown at

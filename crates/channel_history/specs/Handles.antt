@@ -11,7 +11,7 @@ module _ {T W : Type 0} where
   pub record CountSays (views : List (Standing T W)) (side : Side) (n : ℕ) : Type 0 where
     -- it is the number of handles of its kind that lie with seats
     pub is : among handles_of (is_handle side) views ≡ n
-    -- so whoever has one may lower it
+    -- so a party that has one may lower it
     pub lowers : (p : ℕ) (v : Standing T W) (others : List Side) → IsAt views p v → v.own.handles ≡ side ∷ others → n ≢ 0
     -- and no raise was one too many for its word
     pub fits : n < 2 ^ 64

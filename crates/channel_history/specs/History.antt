@@ -17,7 +17,7 @@ use Rattle.channel_history.specs.Party.{fresh, standing_of, Leads}
 use Rattle.channel_history.specs.declared.party.Belongings.{Belongings}
 use Rattle.channel_history.specs.declared.party.Standing.{Standing}
 
--- the sink is the list of all who were woken, in order
+-- the sink is the list of all that were woken, in order
 abbrev pub appends : {W : Type 0} → List W → W → List W → Type 0
 appends before w now = now ≡ before ++ w ∷ []
 

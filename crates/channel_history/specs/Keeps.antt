@@ -42,13 +42,14 @@ module _ {T W : Type 0} where
       (parts : Parts T W) → parts.wait_lists.senders ≡ senders → parts.wait_lists.receivers ≡ receivers
       → Does d parts (with_wait_lists (record parts.wait_lists { senders = senders'; receivers = receivers' }) parts)
 
-  -- which handles a deed leaves with the seat of its party: a raise adds one, and only who has one may lower
+  -- which handles a deed leaves with the seat of its party: a raise adds one, and only a party that has one may lower
   abbrev pub LeavesHandles : Deed T W → List Side → List Side → Type 0
   LeavesHandles (raised side n true) has left = left ≡ side ∷ has
   LeavesHandles (lowered side n) has left = has ≡ side ∷ left
   LeavesHandles d has left = left ≡ has
 
-  -- and which listeners: an insertion adds one, and only who has it may take it off, or ask for it, which takes it off where it was told
+  -- and which listeners: an insertion adds one, and only the party that has it may remove it, or ask for it, which removes it if it was
+  -- told
   abbrev pub LeavesListeners : Deed T W → List ListenerRef → List ListenerRef → Type 0
   LeavesListeners (inserted line (Ok key)) has left = left ≡ record { line = line; key = key } ∷ has
   LeavesListeners (registered line key task None) has left = (left ≡ has) × (others : List ListenerRef) × (has ≡ record { line = line; key = key } ∷ others)

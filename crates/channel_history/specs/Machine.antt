@@ -72,7 +72,7 @@ module _ {T W : Type 0} where
   abbrev pub AreFlagged : Tally → List (Standing T W) → Type 0
   AreFlagged t views = AllAre lists_of (IsFlagged t) views
 
-  -- the channel's history, with the counts of handles; and wherever a list lies, its word isn't 0 where somebody waits on it
+  -- the channel's history, with the counts of handles; and wherever a list lies, its word isn't 0 if somebody waits on it
   abbrev pub history : HistoryOf T (Standing T W)
   history form views c t = IsChannelHistory form (states views) c t.first t.second × AreFlagged t (states views)
 
@@ -105,7 +105,7 @@ module _ {T W : Type 0} where
   abbrev pub SetsFlag : QueueForm → Standing T W → Standing T W → WaitList → ℕ → Type 0
   SetsFlag form s t line n = (l : ListView Unit W) × (k : ListView Unit W) × IsSection form line l k s t × (n ≡ 0 → NobodyWaits k)
 
-  -- a notice to those who wait on a list, of whom there is none
+  -- a notification of a list on which nobody waits
   abbrev pub FindsNobody : QueueForm → Standing T W → Standing T W → WaitList → Type 0
   FindsNobody form s t line = (telling : Telling) × Makes form s (on_wait_lists (told line telling [])) t × (t.own ≡ s.own)
 

@@ -23,7 +23,7 @@ module _ {T W : Type 0} where
     -- it lies with a seat as often as it is on the list, and this is once at most: no two seats have it
     pub is : among listeners_of (is_listener line key) views ≡ times key l
     pub once : times key l ≤ 1
-    -- so whoever has it was told, or waits
+    -- so the operation that has it was told, or waits
     pub live : (p : ℕ) (v : Standing T W) (others : List ListenerRef) → IsAt views p v → v.own.listeners ≡ record { line = line; key = key } ∷ others
         → (kind_of l key ≡ Some true) ⊎ IsIn key l.waiting
 
@@ -40,7 +40,7 @@ module _ {T W : Type 0} (form : QueueForm) (views : List (Standing T W)) (cells 
   IsMissing Streams = items_in cells ≡ []
   IsMissing Closings = Unit {0}
 
--- where no call is under way, whoever has a listener was told, or waits in an open channel for what is missing
+-- if no call is under way, each operation with a listener was told, or waits in an open channel for what is missing
 abbrev pub PendingWaitRightly : Type 0 → Type 0 → Type 0
 PendingWaitRightly T W =
     (form : QueueForm) (views : List (Standing T W)) (cells : Contents T) (senders receivers : ℕ) (h : IsChannelHistory form views cells senders receivers)

@@ -115,8 +115,8 @@ module _ {T W : Type 0} (form : QueueForm) (views : List (Standing T W)) (cells 
     pub fits : IsWithinBound (configuration_of says).now
     -- and so the cells say it
     pub words : WordsSay cells says.keeps.is.parties (configuration_of says)
-    -- beside one who is pending and was not told, whose listener no call has in hand, there is no message, no free place and no
-    -- closing but such as a told one or a call under way answers for
+    -- beside one that is pending and was not told, whose listener no call has in hand, there is no message, no free place and no
+    -- closing for which no told one and no call under way is responsible
     pub receives : PendingReceivesAreOwed (configuration_of says)
     pub sends : PendingSendsAreOwed (configuration_of says)
     pub streams : PendingStreamsAreOwed (configuration_of says)
@@ -135,13 +135,13 @@ module _ {T W : Type 0} (form : QueueForm) (views : List (Standing T W)) (cells 
     pub nobody : (configuration_of says).under_way ≡ []
     -- what was accepted is what was taken, followed by what the cells hold, in order
     pub account : (configuration_of says).came ≡ (configuration_of says).gone ++ items_in cells
-    -- where a receive waits, each message has a receive that was told
+    -- if a receive waits, each message has a receive that was told
     pub receives : (key : Key) → IsIn key (h.listening Receives).waiting → length (items_in cells) ≤ length (h.listening Receives).told
-    -- where a send waits there is a bound, and each place has a message or a send that was told
+    -- if a send waits there is a bound, and each place has a message or a send that was told
     pub sends : (key : Key) → IsIn key (h.listening Sends).waiting → HasPlaces (capacity_of form) (length (items_in cells) + length (h.listening Sends).told)
-    -- where a stream waits there is no message
+    -- if a stream waits there is no message
     pub streams : (key : Key) → IsIn key (h.listening Streams).waiting → items_in cells ≡ []
-    -- where anybody waits the channel is open
+    -- if anybody waits the channel is open
     pub closing : (line : WaitList) (key : Key) → IsIn key (h.listening line).waiting → closed_in cells ≡ false
 
 -- ---- the laws

@@ -28,7 +28,7 @@ use Rattle.channel_history.specs.Party.{Begins, Ends}
 use Rattle.channel_history.specs.Steps.{begun}
 use Rattle.channel_history.specs.declared.party.Standing.{Standing}
 
--- these handles, where it is answered that one was made
+-- these handles, if it is answered that one was made
 abbrev pub if_made : {T : Type 0} → Reply T → List Side → List Side
 if_made reply.Made sides = sides
 if_made r sides = []
@@ -40,7 +40,7 @@ module _ {T W : Type 0} where
   stage_of (Works w) = Working w
   stage_of (Answers r kept) = Finished kept
 
-  -- this may be asked by whoever has this seat: it has no call under way, and what lies with it is what the call is lent. The question for
+  -- the party of this seat may ask this: it has no call under way, and its seat has what the call is lent. The question for
   -- the capacity touches no cell, and is no call of a history
   pub record MayAsk (form : QueueForm) (s : Standing T W) (a : ChannelAsk T W) : Type 0 where
     pub bounded : is_bounded form ≡ true

@@ -1,6 +1,6 @@
 -- What a layer above may use: runs, one after another and by induction; what is known of the calls under way stays known over every
--- entry of a run; a step of the only call under way; how a step changes the number of messages; how few steps a call has left; who is at
--- work after a step; and that a listener which was just added waits.
+-- entry of a run; a step of the only call under way; how a step changes the number of messages; how few steps a call has left; one that is
+-- at work after a step; and that a listener which was just added waits.
 use Rattle.std.proofs.Common.{◌≡◌, ℕ, suc, ◌+◌, ◌^◌, ◌<◌, List, [], ◌∷◌, ◌++◌, map, length, Option, None, Some, refl, ap, sym, ◌∙◌, subst}
 use Rattle.channel_steps.proofs.Words.{Phase, Channel, Effect, Moves, Mark, Reply, Stage, counted, brought_in, taken_out, ActiveCall, Configuration, sees, does, unless_ended, Known, AllKnown, IsBalanced, Steps, EachStep, IsRun, end_of, Next, call_begun, Entry, Step}
 use Rattle.channel_steps.specs.declared.run.Step.TheVariants as step

@@ -85,7 +85,7 @@ module _ {T : Type 0} where
   unless_answered k None xs = xs
   unless_answered k (Some r) xs = remove xs k
 
-  -- those at work after a step of the k-th, who stands so then
+  -- those at work after a step of the k-th, which leaves it so
   abbrev pub after_step : {A : Type 0} → List A → ℕ → A → Option (Reply T) → List A
   after_step xs k x None = slice_set xs k x
   after_step xs k x (Some r) = remove xs k
@@ -231,7 +231,7 @@ module _ {T W : Type 0} where
   left_by p None = None
   left_by p (Some r) = Some (kept_by p.call.stage)
 
-  -- one step of the k-th call, from these cells and parties to those: where the others are quiet and it does not answer, it
+  -- one step of the k-th call, from these cells and parties to those: if the others are quiet and it does not answer, it
   -- has fewer steps left
   pub record StepsNearer (k : ℕ) (left left' : List ℕ) (s : Configuration T W) (p : ℕ) (e : Entry T) (names : List W) (t : Configuration T W) : Type 0 where
     pub step : Steps s p e names t

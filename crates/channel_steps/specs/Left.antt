@@ -1,4 +1,4 @@
--- How many more steps of its own a call under way makes at most, where the others are quiet.
+-- How many more steps of its own a call under way makes at most, if the others are quiet.
 use Rattle.std.specs.Prelude.{ℕ, ◌+◌, ◌*◌, if◌then◌else◌, List, map, slice_get, unwrap_or, None, Some}
 use Rattle.concurrent_queue.specs.Contents.{Contents}
 use Rattle.concurrent_queue.specs.Step.{rank}

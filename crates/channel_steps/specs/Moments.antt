@@ -144,7 +144,7 @@ module _ {T W : Type 0} where
   LeftLast side (d ∷ []) seen = (d.mark ≡ down side) × (count side d.before.wait_lists ≡ 1) × (newer : List (Channel T W)) × (seen ≡ newer ++ d.seen)
   LeftLast side _ seen = ⊥
 
-  -- one handle of this kind is gone; where it was the last one, the channel was closed next, or was closed then
+  -- one handle of this kind is gone; if it was the last one, the channel was closed next, or was closed then
   abbrev pub Dropped : Side → List (MarkedMoment T W) → List (Channel T W) → Type 0
   Dropped side (d ∷ []) seen = (d.mark ≡ down side) × ((count side d.before.wait_lists ≡ 1 → ⊥) ⊎ OnceBehind Shut d seen)
   Dropped side (d ∷ e ∷ []) seen = (d.mark ≡ down side) × (count side d.before.wait_lists ≡ 1) × (e.mark ≡ Close) × Open e.before

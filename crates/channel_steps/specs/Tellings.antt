@@ -1,4 +1,4 @@
--- Whom a call tells, and when.
+-- Which waiters a call tells, and when.
 use Rattle.std.specs.Prelude.{◌≡◌, ℕ, zero, suc, List, [], ◌∷◌, ◌++◌, Option, None, Some}
 use Rattle.concurrent_queue.specs.Queue.{Phase}
 use Rattle.event_listener.specs.Lists.{told_as, without, passed_wakes}
@@ -67,14 +67,14 @@ module _ {T W : Type 0} where
   dropping (Working (Leave x)) = x.held
   dropping _ = None
 
-  -- whom the removal of a listener wakes, which passes its notice on
+  -- the tasks that the removal of a listener wakes, which passes its notification on
   abbrev pub passed_on_by : ListenerRef → Channel T W → List W
   passed_on_by h c =
       let l : Listeners W = listeners h.line c.wait_lists in
       elim (told_as l h.key) [ Some notice ↦ passed_wakes notice (without h.key l) | None ↦ [] ]
 
-  -- whom a step wakes: those whom its telling finds waiting, in order, or him to whom the listener that it drops passes its
-  -- notice on; any other step wakes nobody
+  -- the tasks that a step wakes: those that its notification finds waiting, in order, or the one to which the listener that it drops passes
+  -- its notification on; any other step wakes nobody
   abbrev pub WokenBy : List Telling → Option ListenerRef → Channel T W → List W → Type 0
   WokenBy (more_of n line ∷ ts) h c names = names ≡ told_more_wakes n (listeners line c.wait_lists)
   WokenBy (all_of line ∷ ts) h c names = names ≡ told_all_wakes (listeners line c.wait_lists)

@@ -1,4 +1,5 @@
-//! A call of a channel that is stepped to its end.
+//! A call of a channel that is stepped to its end, with no other call under way. It owns the channel meanwhile, so nothing comes between
+//! its steps.
 
 ghost use Rattle.std.specs.Prelude.{◌≡◌, false};
 ghost use Rattle.channel_calls.specs.Plain.{parts_of};
@@ -14,14 +15,14 @@ use channel_calls::plain::PlainChannel;
 use channel_calls::whole::Completed;
 use event_listener::wakes::Wakes;
 
-/// Makes a call of a channel of one owner from its beginning to its end, with no other call under way, and never waits.
-/// Tasks that it wakes go to the sink in order. Want of memory is answered as the call's own refusal, with the message kept
-/// or handed back. Where it is told how many messages the channel holds, it says so of the channel after it.
+/// Makes a call of a channel of one owner from its beginning to its end, with no other call under way. It never waits. Tasks that it wakes
+/// go to the sink in order. Want of memory is answered as the call's own refusal, with the message kept or returned. Given the number of
+/// messages that the channel holds, it returns that number after the call.
 ///
-/// A poll that holds a listener wants no memory: where that one was told and there is still cause to wait, the node that it leaves
-/// serves the next listener. What can still be refused to it is a serial number, once all 2^64 - 1 of its list were given.
+/// A poll that holds a listener takes no memory: if that was told and there is still cause to wait, the node that it leaves serves the next
+/// listener. What can still be refused is a serial number, once all 2^64 - 1 of its list were given.
 ///
-/// Its steps lead from configuration to configuration, as those of one party where no other is at work. Own to this project.
+/// Its steps lead from configuration to configuration, as those of one party with no other under way.
 pub fn run_alone<T: Drop, W: Drop, S: Wakes<W>>(
     ask: ChannelAsk<T, W>,
     channel: &mut PlainChannel<T, W>,

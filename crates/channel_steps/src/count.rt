@@ -5,7 +5,7 @@ ghost use Rattle.channel_steps.specs.Count.{counted};
 
 use channel_calls::mark::Mark;
 
-/// How many messages there are after a step with this mark. Own to this project.
+/// How many messages there are after a step with this mark.
 pub fn counted(messages: u64, mark: Mark) -> u64
     ensures { result ≡ counted messages mark }
 {

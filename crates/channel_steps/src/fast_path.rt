@@ -1,5 +1,5 @@
-//! The steps of sends and receives that don't wait, made on end with nobody else at work. What is saved is the choice of the next
-//! step at each of them, so this is a matter of speed alone.
+//! The fast path of sends and receives that don't wait, with no other call under way. It makes the machine's operations in straight code,
+//! which saves choosing the next step after each one.
 
 ghost use Rattle.std.specs.Prelude.{◌≡◌, Ok, MatchOption, MatchResult};
 ghost use Rattle.concurrent_queue.specs.declared.call.QueueReply.TheVariants as queue;
@@ -35,7 +35,7 @@ fn counted(messages: u64, mark: QueueMark) -> u64
     }
 }
 
-/// A call answers this, and leaves nothing to an operation.
+/// The end of a call that answers this and leaves nothing to an operation.
 fn answers<T>(reply: Reply<T>) -> Completed<T>
     ensures { result ≡ record { reply = reply; kept = nothing_kept } }
 {
@@ -46,7 +46,7 @@ fn answers<T>(reply: Reply<T>) -> Completed<T>
     Completed { reply, kept }
 }
 
-/// What a send that doesn't wait answers whose push is not in. None where it is.
+/// What a send that doesn't wait answers if its push is not in; `None` if it is.
 fn unsent<T: Drop, W>(answer: QueueReply<T>) -> Option<Reply<T>>
     ensures { MatchOption result (answer ≡ queue.Push (Ok tt)) (λ r. sent_next {W = W} answer ≡ Ends r nothing_kept) }
 {
@@ -64,7 +64,7 @@ fn unsent<T: Drop, W>(answer: QueueReply<T>) -> Option<Reply<T>>
     Some(Reply::TrySend(Err(error)))
 }
 
-/// The message that a pop took, or what a receive that doesn't wait answers whose pop took none.
+/// The message that a pop took, or what a receive that doesn't wait answers if it took none.
 fn received<T: Drop, W>(answer: QueueReply<T>) -> Result<T, Reply<T>>
     ensures { MatchResult result (λ m. answer ≡ queue.Pop (Ok m)) (λ r. received_next {W = W} answer ≡ Ends r nothing_kept) }
 {

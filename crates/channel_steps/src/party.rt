@@ -1,4 +1,5 @@
-//! The parties of a channel: the beginning of a call, and one step of a call under way. [`Step`](crate::run::Step) names the two.
+//! The parties of a channel: the beginning of a call, and one step of a call under way. [`Step`](crate::run::Step) names the two. A party
+//! owns its call; it touches the channel only through the cells that a step is given.
 
 ghost use Rattle.std.specs.Prelude.{◌≡◌, ◌<◌, ◌++◌, ◌∷◌, [], Some, slice_get, vec_len, vec_capacity};
 ghost use Rattle.channel_steps.specs.Run.{HasBegun};
@@ -13,7 +14,7 @@ use channel_calls::reply::Reply;
 use channel_calls::stage::Returned;
 use event_listener::wakes::Wakes;
 
-/// A party with its call under way. Own to this project.
+/// A party with its call under way.
 #[derive(Drop)]
 pub struct Party<T, W> {
     pub(crate) id: u32,
@@ -26,7 +27,7 @@ impl<T: Drop, W: Drop> Party<T, W> {
     ghost use Rattle.channel_steps.specs.Run.{PartyBegins};
     ghost use Rattle.channel_steps.specs.Configuration.{PartySteps};
 
-    /// A party that begins a call. No cell is touched, and nobody is woken. Own to this project.
+    /// A party that begins a call. No cell is touched, and nobody is woken.
     pub fn new(party: u32, ask: ChannelAsk<T, W>) -> Party<T, W>
         ensures begins { PartyBegins party ask result }
         ensures id { result.id ≡ party }
@@ -35,14 +36,14 @@ impl<T: Drop, W: Drop> Party<T, W> {
         Party { id: party, call }
     }
 
-    /// Whose the call is. Own to this project.
+    /// The number of the party.
     pub fn id(&self) -> u32
         ensures { result ≡ self.now.id }
     {
         self.id
     }
 
-    /// One step of its call, which gives the reply if it is the last. Nothing waits. Own to this project.
+    /// One step of its call, which returns the reply if it is the last. It never waits.
     pub fn step<C: ChannelCells<T, W>, S: Wakes<W>>(
         &mut self,
         cells: &mut C,
@@ -55,14 +56,14 @@ impl<T: Drop, W: Drop> Party<T, W> {
         self.call.step(cells, sink)
     }
 
-    /// What the last step of its call did to the channel. Own to this project.
+    /// What the last step of its call did to the channel.
     pub fn last_mark(&self) -> Mark
         ensures { result ≡ self.now.call.mark }
     {
         self.call.last_mark()
     }
 
-    /// What its call, once it has answered, leaves to its operation. Own to this project.
+    /// What its call leaves to its operation once it has answered.
     pub fn into_kept(self) -> Returned<T>
         ensures { result ≡ kept_by self.call.stage }
     {
@@ -70,18 +71,18 @@ impl<T: Drop, W: Drop> Party<T, W> {
     }
 }
 
-/// What one step of a run did: its mark, and the reply where a call ended. Own to this project.
+/// What one step of a run did: its mark, and the reply if it ended a call.
 #[derive(Drop)]
 pub struct Entry<T> {
     /// What was done to the channel.
     pub mark: Mark,
-    /// What the call answers, where this was its last step.
+    /// What the call answers if this was its last step.
     pub reply: Option<Reply<T>>,
     /// What it leaves to its operation then: the listener of a pending one, the message of an unfinished send.
     pub kept: Option<Returned<T>>,
 }
 
-/// Begins a call, within the room that was taken for its party. No cell is touched, and nobody is woken. Own to this project.
+/// Begins a call, within the room that was reserved for its party. No cell is touched, and nobody is woken.
 pub fn begin<T: Drop, W: Drop>(
     parties: &mut Vec<Party<T, W>>,
     party: u32,
@@ -99,7 +100,7 @@ pub fn begin<T: Drop, W: Drop>(
     }
 }
 
-/// One step of the k-th call under way. A call that answers is under way no more. Nothing waits. Own to this project.
+/// One step of the k-th call under way. A call that answers is no longer under way. It never waits.
 pub fn step_at<T: Drop, W: Drop, C: ChannelCells<T, W>, S: Wakes<W>>(
     parties: &mut Vec<Party<T, W>>,
     k: usize,

@@ -3,7 +3,7 @@
 
 use channel_calls::ask::ChannelAsk;
 
-/// A step of a run: a party begins a call, or makes one step of the call that it has under way. Own to this project.
+/// A step of a run: a party begins a call, or makes one step of the call that it has under way.
 #[derive(Drop)]
 pub enum Step<T, W> {
     /// Begins a call. No cell is touched.

@@ -13,17 +13,17 @@ use channel_calls::plain::PlainChannel;
 use concurrent_queue::cells::QueueForm;
 use std::alloc::{AllocError, Global};
 
-/// A channel of one owner with the parties that have a call under way. Own to this project.
+/// A channel of one owner with the parties that have a call under way.
 #[derive(Drop)]
 pub struct Opened<T, W> {
     /// The channel's queue, lists and counts.
     pub cells: PlainChannel<T, W>,
-    /// Those at work on it.
+    /// The parties that have a call under way.
     pub parties: Vec<Party<T, W>>,
 }
 
-/// An open and empty channel over a queue of this form, with one sender, one receiver and nobody at work. `Err` where there
-/// is no memory for the queue. Own to this project.
+/// An open and empty channel over a queue of this form, with one sender, one receiver and no call under way. `Err` if there is no memory
+/// for the queue.
 pub fn open_channel<T: Drop, W: Drop>(
     form: QueueForm,
     alloc: Global,
@@ -37,7 +37,7 @@ pub fn open_channel<T: Drop, W: Drop>(
     })
 }
 
-/// Whether no call is under way. Own to this project.
+/// Whether no call is under way.
 pub fn is_quiet<T, W>(parties: &Vec<Party<T, W>>) -> bool
     ensures { EachConfigurationTellsQuiet parties.now.items result }
 {

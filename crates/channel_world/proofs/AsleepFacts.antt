@@ -1,4 +1,4 @@
--- What answers for who sleeps, in the numbers that a world tells.
+-- What is responsible for those that sleep, in the numbers that a world tells.
 use Rattle.std.proofs.Common.{arith, ◌≡◌, ◌⊎◌, ◌<◌, ◌==◌, ℕ, Bool, List, [], ◌∷◌, length, Option, None, Some, inl, inr, refl, sym, ap, subst, vec_len}
 use Rattle.std.proofs.lemmas.Bool.Decides.{nat_tests}
 use Rattle.channel_world_model.specs.Awake.{AwakeIn}

@@ -18,7 +18,7 @@ use Rattle.channel_world_model.proofs.Settle.{count_all, first_there, one_if}
 use Rattle.channel_world_model.proofs.WaiterLemmas.{decided}
 use Rattle.channel_world_runs.specs.Positions.{came_in}
 use Rattle.channel_world.specs.Settled.{most_in, most_accepted}
-use Rattle.channel_world.proofs.Short.{Comes, Does, Left, LeftOrStood, Stays, Takes, polled_on, polled_so}
+use Rattle.channel_world.proofs.Short.{Comes, Does, Left, LeftOrStood, Stays, Takes, polled_as}
 use Rattle.channel_world.proofs.Weights.{on, count_more, count_on}
 
 -- ---- numbers
@@ -32,7 +32,7 @@ fewer_in true cap h n m n' m' sends takers = omega arith
 fewer_in false None h n m n' m' sends takers = sends
 fewer_in false (Some c) h n m n' m' sends takers = omega (arith, sends, takers)
 
--- one is taken, and who takes it leaves
+-- one is taken, and one that takes it leaves
 one_taken : (b : Bool) (cap : Option ℕ) (h g n m n' m' : ℕ) → h ≡ suc g → n' ≤ n → suc m' ≤ m → bound b cap g n' m' ≤ bound b cap h n m
 one_taken true cap h g n m n' m' held sends takers = omega arith
 one_taken false None h g n m n' m' held sends takers = sends
@@ -183,12 +183,12 @@ module _ {T : Type 0} where
     does_so line own lors (inr (inl c)) = took_so line own c
     does_so line own lors (inr (inr c)) = stayed_so line lors c
 
-    -- what a poll of the first of those who are woken brings in, with what comes in after it, is no more than what came in from before it
+    -- what a poll of the first of those that are woken brings in, with what comes in after it, is no more than what came in from before it
     pub still_less : came_in a.reply + still_in a.after ≤ still_in s
     unfolding still_in of_line
     still_less =
-        let p = polled_on s awake w (first_there w s.waiting.woken front) in
-        let so = polled_so s awake w a p answers in
+        let p = polled_as s awake w a (first_there w s.waiting.woken front) answers in
+        let so = p.so in
         let most = does_so p.line p.own so.0 so.2 in
         let more : (line : WaitList) → of_line line a.after ≤ those line =
         λ line. count_more (on (line_at a.after.names) line) (on k line) (λ v e. so.1 line v e) a.after.waiting in

@@ -1,4 +1,4 @@
--- A walk over a list that counts those who pass.
+-- A walk over a list that counts those that pass.
 use Rattle.std.proofs.Common.{◌≡◌, ◌∙◌, ℕ, Bool, List, length, Bor, Iter, subst}
 use Rattle.std.specs.List.{count_by}
 use Rattle.std.specs.Slice.Iter.{iter_rest, iter_steps}

@@ -9,7 +9,6 @@ use Rattle.lru.proofs.Splits.{all_from}
 use Rattle.concurrent_queue.specs.declared.queue_call.QueueCall.{QueueCall}
 use Rattle.channel_calls.specs.declared.stage.ListenerRef.{ListenerRef}
 use Rattle.channel_calls.specs.declared.stage.WaitList.{WaitList}
-use Rattle.channel_calls.specs.declared.stage.WaitList.TheVariants.{Sends, Receives, Streams, Closings}
 use Rattle.channel_calls.specs.declared.stage.Stage.{Stage}
 use Rattle.channel_calls.specs.declared.stage.Stage.TheVariants.{Working}
 use Rattle.channel_calls.specs.declared.stage.ListStep.TheVariants.{Leave}
@@ -20,6 +19,7 @@ use Rattle.channel_world_model.specs.Lines.{same_waiter, is_among}
 use Rattle.channel_world_model.specs.Names.{Directory}
 use Rattle.channel_world_model.specs.declared.name.Waiter.{Waiter}
 use Rattle.channel_world_model.specs.declared.name.Waiter.TheVariants.{Op, Stream}
+use Rattle.channel_world_model.proofs.Awake.{line_refl}
 use Rattle.channel_world_model.proofs.Counting.{absent_counts}
 use Rattle.channel_world_model.proofs.Settle.{front_stays}
 use Rattle.channel_world_model.proofs.WaiterLemmas.{decided, or_true, same_sound}
@@ -86,12 +86,6 @@ module _ {T : Type 0} (test : NameStatus → Bool) (r : NameTable T) (apart : Ar
 
 -- ---- who is pending on a line has a name that was taken
 
-same_self : (line : WaitList) → same_line line line ≡ true
-same_self Sends = refl
-same_self Receives = refl
-same_self Streams = refl
-same_self Closings = refl
-
 module _ (name : ℕ → Waiter) (same : (m n : ℕ) → same_waiter (name m) (name n) ≡ nat_eq m n) where
   taken_there : {X : Type 0} (n : ℕ) (es : Directory X) → is_some (lookup (nat_eq n) es) ≡ true → is_among (name n) (map name (keys_of es)) ≡ true
   taken_there n [] e = cc e
@@ -100,7 +94,7 @@ module _ (name : ℕ → Waiter) (same : (m n : ℕ) → same_waiter (name m) (n
     | inr t ↦ rw (same n f.0 ∙ t) (taken_there n es (rw t at e))
   ]
 
--- a name that passes, and stands there, stands among those who pass
+-- a name that passes, and stands there, stands among those that pass
 passes_there : (p : Waiter → Bool) (w : Waiter) (ws : List Waiter) → p w ≡ true → is_among w ws ≡ true → 1 ≤ times w (filter p ws)
 passes_there p w [] t e = cc e
 passes_there p w (v ∷ ws) t e = elim (or_true (same_waiter w v) (is_among w ws) e) [
@@ -165,13 +159,13 @@ module _ {T : Type 0} where
       where
         by : (same_waiter w name ≡ true) ⊎ (is_among w mine ≡ true) → 1 ≤ times w (filter pends (all_names r))
         by (inl t) =
-            pending w (record { line = line; key = asleep.0 }) (ap (status r) (same_sound w name t) ∙ asleep.1) (same_self line)
+            pending w (record { line = line; key = asleep.0 }) (ap (status r) (same_sound w name t) ∙ asleep.1) (line_refl line)
         by (inr j) =
             let of = among_of_line (line_at (names_of r)) line w woken j in
             let h = k.pending w (among_is w woken of.0) in
             let own : Some h.0.line ≡ Some line = sym (line_of r w h.0 h.1) ∙ of.1 in
             let same : h.0.line ≡ line = ap (λ (o : Option WaitList). elim o [ None ↦ line | Some l ↦ l ]) own in
-            pending w h.0 h.1 (ap (same_line line) same ∙ same_self line)
+            pending w h.0 h.1 (ap (same_line line) same ∙ line_refl line)
 
     -- none of them twice
     once : (w : Waiter) → times w (name ∷ mine) ≤ 1

@@ -1,6 +1,6 @@
 -- What a run brought and took.
-use Rattle.std.proofs.Common.{arith, ◌≡◌, ℕ, ◌==◌, Bool, true, false, List, [], ◌∷◌, ◌++◌, refl, sym, ap, ◌∙◌, subst, append-nil}
-use Rattle.std.proofs.lemmas.Bool.Decides.{nat_tests}
+use Rattle.std.proofs.lemmas.Bool.{eq-eqb, ne_eqb}
+use Rattle.std.proofs.Common.{◌≡◌, ℕ, List, [], ◌∷◌, ◌++◌, refl, sym, ap, ◌∙◌, subst, append-nil}
 use Rattle.channel_calls.specs.Moves as moves
 use Rattle.channel_calls.specs.declared.mark.Mark.{Mark}
 use Rattle.channel_calls.specs.declared.mark.Mark.TheVariants.{Nothing}
@@ -19,22 +19,13 @@ use Rattle.channel_world_runs.specs.declared.step.Step.{Step}
 use Rattle.channel_world_runs.specs.declared.step.Step.TheVariants as step
 use Rattle.channel_world.specs.Marked.{message_brought, brought_at, all_brought, all_taken}
 
-same_number : (a b : ℕ) → a ≡ b → (a == b) ≡ true
-same_number a b e = grind (arith, nat_tests)
-
-other_number : (a b : ℕ) → (a ≡ b → ⊥) → (a == b) ≡ false
-other_number a b f = by (a == b) refl where
-  by : (t : Bool) → (a == b) ≡ t → t ≡ false
-  by true e = absurd (f (grind (arith, nat_tests)))
-  by false e = refl
-
 -- ---- a run
 
 module _ {T : Type 0} where
   message_is : (p : ℕ) (us : List (ActiveCall T Waiter)) (mine : ActiveCall T Waiter) (vs : List (ActiveCall T Waiter))
       → All (λ (u : ActiveCall T Waiter). u.party ≡ p → ⊥) us → mine.party ≡ p → message_brought p (us ++ (mine ∷ vs)) ≡ brought mine.ask
-  message_is p [] mine vs none his = rw (same_number mine.party p his) refl
-  message_is p (u ∷ us) mine vs none his = rw (other_number u.party p none.0) (message_is p us mine vs none.1 his)
+  message_is p [] mine vs none his = rw (eq-eqb mine.party p his) refl
+  message_is p (u ∷ us) mine vs none his = rw (ne_eqb u.party p none.0) (message_is p us mine vs none.1 his)
 
   -- the accounts of one step
   one_adds : (m : Moment T) (x : Step T) (e : Entry T) (n : Moment T) → WorldInvariant m.name_state m.configuration → LeadsBy m x e n

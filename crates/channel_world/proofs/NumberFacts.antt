@@ -1,6 +1,6 @@
 -- The numbers that a world tells, with no call under way, are those of its state.
 use Rattle.std.specs.Option.{option_map_or}
-use Rattle.std.proofs.Common.{arith, ◌≡◌, ◌⊎◌, ℕ, ◌+◌, ◌≤◌, nat_eq, Bool, true, false, List, [], ◌∷◌, ◌++◌, length, Option, None, Some, is_some, inl, inr, refl, sym, ap, ◌∙◌, length-append}
+use Rattle.std.proofs.Common.{arith, ◌≡◌, ◌⊎◌, ℕ, ◌+◌, ◌≤◌, Bool, true, false, List, [], ◌∷◌, ◌++◌, length, Option, None, Some, is_some, inl, inr, refl, sym, ap, ◌∙◌, length-append}
 use Rattle.event_listener.specs.declared.key.Key.{Key}
 use Rattle.channel_calls.specs.declared.stage.WaitList.{WaitList}
 use Rattle.channel_calls.specs.declared.stage.WaitList.TheVariants.{Sends, Receives, Streams, Closings}
@@ -111,7 +111,7 @@ module _ {T : Type 0} (test : PollState → Bool) (r : NameTable T) where
           absurd (omega (arith, none, there))
       by (inr k) = named_so (stream_stands test) stream_name (λ m n. refl) refl handle.0 r.handles apart.handles k
 
-  -- a list of just those who stand so, none of them twice, is as long as they are many
+  -- a list of just those that stand so, none of them twice, is as long as they are many
   counted_so : AreApart r → (ws : List Waiter) → ((w : Waiter) → times w ws ≤ 1)
       → ((w : Waiter) → is_among w ws ≡ true → stands_so w ≡ true) → ((w : Waiter) → stands_so w ≡ true → 1 ≤ times w ws)
       → how_many test r ≡ length ws
@@ -140,7 +140,7 @@ module _ {T : Type 0} (r : NameTable T) where
       by None = refl
       by (Some x) = refl
 
--- ---- those who stand in the lines
+-- ---- those that stand in the lines
 
 untold_hold : (held : Waiter → Option Key) (es : List (Key × Option Waiter)) (ws : List Waiter) (w : Waiter) → AreUntold held es ws
     → is_among w ws ≡ true → is_some (held w) ≡ true

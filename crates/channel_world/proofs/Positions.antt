@@ -36,7 +36,7 @@ module _ {T : Type 0} where
 
   module _ (f : WorldState T) (k : Stands f) (quiet : IsQuiet f) (awake : AwakeIn (at_rest f)) (w : Waiter)
       (front : slice_get (at_rest f).waiting.woken 0 ≡ Some w) where
-    -- however the poll of the first of those who are woken is answered, there is a position for what it brings in
+    -- however the poll of the first of those that are woken is answered, there is a position for what it brings in
     pub one_position : HasPositions (still_in (at_rest f)) f → (a : Answer T) → Answers (at_rest f) (poll_of w) a
         → HasPositions (accepted_by (brings f.name_table (poll_of w)) a.reply) f
     one_position left a says =

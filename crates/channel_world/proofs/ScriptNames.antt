@@ -13,7 +13,9 @@ use Rattle.channel_world_model.specs.declared.name.OpId.{OpId}
 use Rattle.channel_world_model.specs.declared.refusal.WorldRefusal.{WorldRefusal}
 use Rattle.channel_world_model.specs.declared.refusal.WorldRefusal.TheVariants as why
 use Rattle.channel_world_language.specs.Asked.{used, lives, is_known, is_given_before, handle_of, op_of, of_handle, of_op, of_either, new_handle, new_op, question_call, call_of}
-use Rattle.channel_world_language.specs.Command.{Command, Question, try_send, force_send, try_recv, recv_many, send, recv, closed, poll, next, drop, close, clone, downgrade, upgrade, same_channel, is_terminated, ask, settle, is_closed, is_empty, is_full, len, capacity, sender_count, receiver_count}
+use Rattle.channel_world_language.specs.Command.{Command, try_send, force_send, try_recv, recv_many, send, recv, closed, poll, next, drop, close, clone, downgrade, upgrade, same_channel, is_terminated, ask, settle}
+use Rattle.channel_world_language.specs.declared.command.Question.{Question}
+use Rattle.channel_world_language.specs.declared.command.Question.TheVariants as question
 use Rattle.channel_world_language.specs.Table.{Table, named_in}
 use Rattle.channel_world_language.specs.Words.{Name}
 use Rattle.channel_world_language.specs.declared.table.Named.{Named}
@@ -73,13 +75,13 @@ module _ (names : Names ℕ) where
       by (Some (named.Op op)) e off = let is : c ≡ g op = cc e in rw is (also op (gone (at op.0 names.operations) off))
 
   asked_by_handle : (q : Question) → ByHandle (question_call q)
-  asked_by_handle is_closed h e = rw e refl
-  asked_by_handle is_empty h e = rw e refl
-  asked_by_handle is_full h e = rw e refl
-  asked_by_handle len h e = rw e refl
-  asked_by_handle capacity h e = rw e refl
-  asked_by_handle sender_count h e = rw e refl
-  asked_by_handle receiver_count h e = rw e refl
+  asked_by_handle question.IsClosed h e = rw e refl
+  asked_by_handle question.IsEmpty h e = rw e refl
+  asked_by_handle question.IsFull h e = rw e refl
+  asked_by_handle question.Len h e = rw e refl
+  asked_by_handle question.Capacity h e = rw e refl
+  asked_by_handle question.SenderCount h e = rw e refl
+  asked_by_handle question.ReceiverCount h e = rw e refl
 
   by_both : (t : Table) (a b : Name) (c : Call ℕ) → Some c ≡ call_of t (same_channel a b) → list_all (is_known names t) (a ∷ b ∷ []) ≡ false → IsUnknown c
   by_both t a b c e = by (named_in t a) (named_in t b) e where

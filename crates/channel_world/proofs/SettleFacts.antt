@@ -60,7 +60,7 @@ module _ {T : Type 0} where
 
   -- ---- the loop
 
-  -- the polls so far have led from s to t; the names are those that were polled, and after them those who are woken
+  -- the polls so far have led from s to t; the names are those that were polled, and after them those that are woken
   pub record Goes (s t : State T) (polls : List (Waiter × Reply T)) (names : List Waiter) : Type 0 where
     pub led : SettlesTo s polls t
     pub named : names ≡ map (λ p. p.0) polls ++ t.waiting.woken
@@ -82,7 +82,7 @@ module _ {T : Type 0} where
       ap (λ (ws : List Waiter). length ws) h.named
       ∙ (length-append (map (λ p. p.0) polls) t.waiting.woken ∙ ap (λ n. n + length t.waiting.woken) (polled_all polls))
 
-  -- who is polled next is the first of those who are woken
+  -- the name that is polled next is the first of those that are woken
   goes_next : (s t : State T) (polls : List (Waiter × Reply T)) (names : List Waiter) (w : Waiter) → Goes s t polls names
       → slice_get names (length polls) ≡ Some w → slice_get t.waiting.woken 0 ≡ Some w
   goes_next s t polls names w h e =
@@ -95,7 +95,7 @@ module _ {T : Type 0} where
     rest_of : length t.waiting.woken ≡ suc (length (drop 1 t.waiting.woken))
     rest_of = ap (λ (ws : List Waiter). length ws) (first_of w t.waiting.woken front)
 
-    -- however it answers, there is room for those whom it wakes, and more polls are to come
+    -- however it answers, there is room for those that it wakes, and more polls are to come
     one_more : (a : Answer T) → Answers t (poll_of w) a → length names + length a.woken ≤ most_polls s
     one_more a says =
         let left = h.left in
@@ -138,7 +138,7 @@ module _ {T : Type 0} where
   pub polls_count : (polls : List (Settled T)) → length (polls_in polls) ≡ length polls
   polls_count polls = length-map polls as_poll
 
-  -- who is polled next: there is room for whom that wakes, and for what it answers
+  -- one that is polled next: there is room for those that it wakes, and for what it answers
   pub record NextPoll (s t : State T) (polls : List (Settled T)) (names : List Waiter) (w : Waiter) : Type 0 where
     pub front : slice_get t.waiting.woken 0 ≡ Some w
     pub woken : is_among w t.waiting.woken ≡ true

@@ -1,20 +1,22 @@
--- How few polls a settling makes: each brings the end nearer by one, where whoever is pending counts for those whom it wakes as it
+-- How few polls a settling makes: each brings the end nearer by one, where each that is pending counts for those that it wakes as it
 -- leaves. Only a send whose message is accepted wakes streams.
-use Rattle.std.proofs.Common.{arith, ◌≡◌, ◌⊎◌, ◌≤◌, ◌+◌, ℕ, suc, nat_eq, List, [], ◌∷◌, length, take, drop, Bool, true, false, if◌then◌else◌, Option, None, Some, IsSome, is_none, Ok, Err, inl, inr, refl, sym, ap, subst, ◌∙◌, length-append}
+use Rattle.std.proofs.Common.{arith, ◌≡◌, ◌⊎◌, ◌≤◌, ◌+◌, ℕ, suc, nat_eq, List, [], ◌∷◌, length, take, drop, Bool, true, false, Option, None, Some, Ok, inl, inr, refl, sym, ap, subst, ◌∙◌, length-append}
 use Rattle.std.specs.Prelude.{slice_get}
 use Rattle.channel_calls.specs.declared.reply.Reply.{Reply}
 use Rattle.channel_calls.specs.declared.reply.Reply.TheVariants as reply
 use Rattle.channel_calls.specs.declared.stage.WaitList.{WaitList}
 use Rattle.channel_calls.specs.declared.stage.WaitList.TheVariants.{Sends, Receives, Streams, Closings}
-use Rattle.channel_world_model.specs.Answer.{Answer, answer, replying, after_leaving, pending, space_of, Found, first, none_yet, none_ever, found, send_poll_answer, recv_poll_answer, next_answer, closed_poll_answer, poll_answer}
+use Rattle.channel_world_model.specs.Answer.{Answer, space_of, first, found}
 use Rattle.channel_world_model.specs.Awake.{AwakeIn, Kind, Placed}
 use Rattle.channel_calls.specs.Model.{appended, with_messages}
 use Rattle.channel_world_model.specs.Laws.{is_line, line_at, line_of_operation}
 use Rattle.channel_world_model.specs.Lines.{Waiting, is_among, untold, told_by, after_news, gone, passed_on, left_after, told_after, standing}
 use Rattle.channel_world_model.specs.Names.{Names, at, with_operation_changed}
-use Rattle.channel_world_model.specs.Refused.{Lack, memory, serials, refused, not_listening, not_standing, not_held, send_not_polled, recv_not_polled, not_polled, next_not_polled, answer_without, Answers}
+use Rattle.channel_world_model.specs.Refused.{Answers}
 use Rattle.channel_world_model.specs.Settling.{poll_of, SettlesTo}
-use Rattle.channel_world_model.specs.State.{State, with_waiting}
+use Rattle.channel_world_model.specs.State.{State}
+use Rattle.channel_world_model.specs.declared.call.Call.{Call}
+use Rattle.channel_world_model.specs.declared.call.Call.TheVariants as call
 use Rattle.channel_world_model.specs.declared.name.HandleId.{HandleId}
 use Rattle.channel_world_model.specs.declared.name.OpId.{OpId}
 use Rattle.channel_world_model.specs.declared.name.Operation.{Operation}
@@ -23,13 +25,14 @@ use Rattle.channel_world_model.specs.declared.name.Waiter.{Waiter}
 use Rattle.channel_world_model.specs.declared.name.Waiter.TheVariants.{Op, Stream}
 use Rattle.channel_world_model.specs.declared.news.News.{News}
 use Rattle.channel_world_model.specs.declared.news.News.TheVariants.{Nothing, Message, Room}
-use Rattle.channel_world_model.specs.declared.space.Space.{Space}
-use Rattle.channel_world_model.specs.declared.space.Space.TheVariants.{Open, Filled, Shut}
-use Rattle.channel_world_model.proofs.LawSteps.{found_name, poll_awake, set_elsewhere, set_here}
+use Rattle.channel_world_model.specs.declared.space.Space.TheVariants.{Open}
+use Rattle.channel_world_model.proofs.LawSteps.{found_name, no_line, poll_awake, set_elsewhere, set_here}
+use Rattle.channel_world_model.proofs.Shapes.{Shape, brings, shape_of}
+use Rattle.channel_world_model.proofs.Shapes as shape
 use Rattle.channel_world_model.proofs.Settle.{count_all, count_news, count_gone, count_gone_one, count_end, few_passed, first_one, first_there, front_stays, not_untold, one_if, woken_next}
 use Rattle.channel_world_model.proofs.WaiterLemmas.{decided, none_left}
 use Rattle.channel_world_runs.specs.Positions.{came_in}
-use Rattle.futures.specs.declared.task.Poll.TheVariants.{Ready, Pending}
+use Rattle.futures.specs.declared.task.Poll.TheVariants.{Ready}
 use Rattle.channel_world.specs.Settled.{SettlingIsShort, most_polls, pending_on}
 use Rattle.channel_world.proofs.Weights.{on, weight, no_more, by_one, by_send, by_receive, by_stream, count_on, all_streams, fewer_kinds}
 
@@ -162,10 +165,6 @@ one_fewer w (v ∷ ws) e = omega arith
 -- ---- the answers of a poll
 
 module _ {T : Type 0} where
-  either_way : (P : Answer T → Type 0) (b : Bool) (x y : Answer T) → P x → P y → P (if b then x else y)
-  either_way P true x y f g = f
-  either_way P false x y f g = g
-
   module _ (s : State T) where
     -- who belongs to a line after it belonged to it before
     abbrev pub KeepsLines : Names T → Type 0
@@ -198,7 +197,7 @@ module _ {T : Type 0} where
     abbrev pub Does : WaitList → Waiter → Answer T → Type 0
     Does line w a = Comes line w a ⊎ Takes line w a ⊎ Stays a
 
-    -- so a poll of one of this line leaves those who wait, the names, and the channel
+    -- so a poll of one of this line leaves those that wait, the names, and the channel
     abbrev pub Polled : WaitList → Waiter → Answer T → Type 0
     Polled line w a = LeftOrStood w line s.waiting a.after.waiting a.woken × KeepsLines a.after.names × Does line w a
 
@@ -223,150 +222,93 @@ module _ {T : Type 0} where
               (set_elsewhere op.0 other.0 (Some (live.Send handle None)) s.names.operations named t)) ∙ e
         ]
 
-    pub AllPolled : WaitList → Waiter → Option (Answer T) → Type 0
-    AllPolled line w o = (a : Answer T) → o ≡ Some a → Polled line w a
+    -- one of a line was polled
+    pub record PolledAs (w : Waiter) (a : Answer T) : Type 0 where
+      pub line : WaitList
+      pub own : line_at s.names w ≡ Some line
+      pub so : Polled line w a
 
-    none_polled : (line : WaitList) (w : Waiter) → AllPolled line w None
-    unfolding AllPolled
-    none_polled line w a e = cc e
+    -- a reply that says nothing of it brought nothing in
+    none_came : (r : Reply T) → brings r ≡ false → came_in r ≡ 0
+    none_came (reply.TrySend (Ok u)) e = cc e
+    none_came (reply.ForceSend (Ok d)) e = cc e
+    none_came (reply.SendPoll (Ready (Ok u))) e = cc e
+    none_came r e = refl
 
-    one_polled : (line : WaitList) (w : Waiter) (x : Answer T) → Polled line w x → AllPolled line w (Some x)
-    unfolding AllPolled
-    one_polled line w x h a e = let same : x ≡ a = cc e in subst (λ (y : Answer T). Polled line w y) same h
+    abbrev AsPolled : Call T → Answer T → Type 0
+    AsPolled (call.Poll op) a = is_among (Op op) s.waiting.woken ≡ true → PolledAs (Op op) a
+    AsPolled (call.PollNext receiver) a = is_among (Stream receiver) s.waiting.woken ≡ true → PolledAs (Stream receiver) a
+    AsPolled c a = Unit {0}
 
-    either_polled : (line : WaitList) (w : Waiter) (b : Bool) (x y : Option (Answer T)) → AllPolled line w x → AllPolled line w y
-        → AllPolled line w (if b then x else y)
-    either_polled line w true x y f g = f
-    either_polled line w false x y f g = g
-
-    module _ (awake : AwakeIn s) (w : Waiter) (e : is_among w s.waiting.woken ≡ true) where
+    module _ (awake : AwakeIn s) where
       abbrev k : Kind
       k = line_at s.names
 
-      out_of_line : (line : WaitList) (r : Reply T) → came_in r ≡ 0 → AllPolled line w (not_standing line w s r)
-      out_of_line line r none =
-          either_polled line w (is_among w (untold line s.waiting)) None (Some (replying (with_waiting (gone w s.waiting) s) r)) (none_polled line w)
-          (one_polled line w _ (is_gone k w s.waiting awake.placed e line, kept, stays line w _ none refl))
-
-      unheld : (line : WaitList) (lack : Lack) (x : Space) (a : Answer T) → Polled line w a → AllPolled line w (not_held lack s.channel x a)
-      unheld line memory Open a h = either_polled line w (is_none s.channel.capacity) (Some a) None (one_polled line w a h) (none_polled line w)
-      unheld line memory Filled a h = none_polled line w
-      unheld line memory Shut a h = none_polled line w
-      unheld line serials x a h = none_polled line w
-
-    module _ (awake : AwakeIn s) (op : OpId) (e : is_among (Op op) s.waiting.woken ≡ true) where
-      send_so : (handle : HandleId) (m : T) (x : Space) → space_of s.channel ≡ x → at op.0 s.names.operations ≡ Some (live.Send handle (Some m))
-          → Polled Sends (Op op) (send_poll_answer s op handle m x)
-      send_so handle m Open fits there =
-          let left = accepted (line_at s.names) (Op op) s.waiting awake.placed e in (
-            inl left,
-            finishes op handle _ there,
-            inl (record { line_is = refl; left = left; came = refl; fits = fits; message = m; channel = refl }),
-          )
-      send_so handle m Filled fits there =
-          (stood (line_at s.names) (Op op) s.waiting awake.placed e Sends Sends, kept, stays Sends (Op op) _ refl refl)
-      send_so handle m Shut fits there =
-          (leaves (line_at s.names) (Op op) s.waiting awake.placed e Sends, finishes op handle _ there, stays Sends (Op op) _ refl refl)
-
-      recv_so : (x : Found T) → found s.channel ≡ x → Polled Receives (Op op) (recv_poll_answer s op x)
-      recv_so (first m ms) there =
-          let left = takes (line_at s.names) (Op op) s.waiting awake.placed e in (
-            inl left,
-            kept,
-            inr (inl (record { line_is = inl refl; left = left; came = refl; message = m; rest = ms; there = there; channel = refl })),
-          )
-      recv_so none_yet there =
-          (stood (line_at s.names) (Op op) s.waiting awake.placed e Receives Receives, kept, stays Receives (Op op) _ refl refl)
-      recv_so none_ever there = (leaves (line_at s.names) (Op op) s.waiting awake.placed e Receives, kept, stays Receives (Op op) _ refl refl)
-
-      closed_so : Polled Closings (Op op) (closed_poll_answer s op)
-      closed_so =
-          either_way (Polled Closings (Op op)) s.channel.closed (after_leaving Nothing Closings (Op op) s (reply.ClosedPoll (Ready (Ok tt))))
-          (pending Closings (Op op) s (reply.ClosedPoll Pending))
-          (leaves (line_at s.names) (Op op) s.waiting awake.placed e Closings, kept, stays Closings (Op op) _ refl refl)
-          (stood (line_at s.names) (Op op) s.waiting awake.placed e Closings Closings, kept, stays Closings (Op op) _ refl refl)
-
-      send_lacks : (lack : Lack) (x : Space) → AllPolled Sends (Op op) (send_not_polled lack s op x)
-      send_lacks lack Open =
-          unheld awake (Op op) e Sends lack Open (after_leaving Nothing Sends (Op op) s (reply.SendPoll (Ready (Err (refused lack)))))
-          (leaves (line_at s.names) (Op op) s.waiting awake.placed e Sends, kept, stays Sends (Op op) _ refl refl)
-      send_lacks lack Filled = out_of_line awake (Op op) e Sends (reply.SendPoll (Ready (Err (refused lack)))) refl
-      send_lacks lack Shut = none_polled Sends (Op op)
-
-      recv_lacks : (lack : Lack) (x : Found T) → AllPolled Receives (Op op) (recv_not_polled lack s op x)
-      recv_lacks lack (first m ms) = none_polled Receives (Op op)
-      recv_lacks lack none_yet = out_of_line awake (Op op) e Receives (reply.RecvPoll (Ready (Err (refused lack)))) refl
-      recv_lacks lack none_ever = none_polled Receives (Op op)
-
-      closed_lacks : (lack : Lack)
-          → AllPolled Closings (Op op) (if s.channel.closed then None else not_standing Closings (Op op) s (reply.ClosedPoll (Ready (Err (not_listening lack)))))
-      closed_lacks lack =
-          either_polled Closings (Op op) s.channel.closed None (not_standing Closings (Op op) s (reply.ClosedPoll (Ready (Err (not_listening lack)))))
-          (none_polled Closings (Op op)) (out_of_line awake (Op op) e Closings (reply.ClosedPoll (Ready (Err (not_listening lack)))) refl)
-
-    -- of one that belongs to this line
-    pub record PolledOn (w : Waiter) : Type 0 where
-      pub line : WaitList
-      pub own : line_at s.names w ≡ Some line
-      pub ample : Polled line w (answer s (poll_of w))
-      pub lacking : (lack : Lack) → AllPolled line w (answer_without lack s (poll_of w))
-
-    module _ (awake : AwakeIn s) where
-      operation_on : (op : OpId) (o : Option (Operation T)) → at op.0 s.names.operations ≡ o → IsSome (line_of_operation o)
-          → is_among (Op op) s.waiting.woken ≡ true → PolledOn (Op op)
-      operation_on op (Some (live.Send handle (Some m))) there some e = record {
+      as_polled : {c : Call T} {a : Answer T} → Shape s c a → AsPolled c a
+      as_polled (shape.says (call.Poll op) r rests h) = λ e. no_line (k (Op op)) (awake.placed.wakes (Op op) e) rests
+      as_polled (shape.says (call.PollNext receiver) r rests h) =
+          λ e. let off = not_untold k Streams (Stream receiver) s.waiting awake.placed e in cc (rests, off)
+      as_polled (shape.sends op handle m there fits) = λ e.
+          let left = accepted k (Op op) s.waiting awake.placed e in
+          record {
+            line = Sends;
+            own = ap line_of_operation there;
+            so = (inl left, finishes op handle _ there, inl (record { line_is = refl; left = left; came = refl; fits = fits; message = m; channel = refl }));
+          }
+      as_polled (shape.fails op handle m there) = λ e. record {
         line = Sends;
-        own = ap (λ (o : Option (Operation T)). line_of_operation o) there;
-        ample = subst (λ (o : Option (Operation T)). Polled Sends (Op op) (poll_answer s op o)) (sym there) (send_so awake op e handle m (space_of s.channel) refl there);
-        lacking = λ lack. subst (λ (o : Option (Operation T)). AllPolled Sends (Op op) (not_polled lack s op o)) (sym there) (send_lacks awake op e lack (space_of s.channel));
+        own = ap line_of_operation there;
+        so = (leaves k (Op op) s.waiting awake.placed e Sends, finishes op handle _ there, stays Sends (Op op) _ refl refl);
       }
-      operation_on op (Some (live.Send handle None)) there some e = cc some
-      operation_on op (Some (live.Receive handle)) there some e = record {
-        line = Receives;
-        own = ap (λ (o : Option (Operation T)). line_of_operation o) there;
-        ample = subst (λ (o : Option (Operation T)). Polled Receives (Op op) (poll_answer s op o)) (sym there) (recv_so awake op e (found s.channel) refl);
-        lacking = λ lack. subst (λ (o : Option (Operation T)). AllPolled Receives (Op op) (not_polled lack s op o)) (sym there) (recv_lacks awake op e lack (found s.channel));
+      as_polled (shape.receives op m rest own there) = λ e.
+          let left = takes k (Op op) s.waiting awake.placed e in
+          record {
+            line = Receives;
+            own = own;
+            so = (inl left, kept, inr (inl (record { line_is = inl refl; left = left; came = refl; message = m; rest = rest; there = there; channel = refl })));
+          }
+      as_polled (shape.streams receiver m rest there) = λ e.
+          let left = gives k (Stream receiver) s.waiting awake.placed e in
+          record {
+            line = Streams;
+            own = refl;
+            so = (inl left, kept, inr (inl (record { line_is = inr refl; left = left; came = refl; message = m; rest = rest; there = there; channel = refl })));
+          }
+      as_polled (shape.stands op line r own o i h) = λ e. record {
+        line = line;
+        own = own;
+        so = (stood k (Op op) s.waiting awake.placed e line line, kept, stays line (Op op) _ (none_came r h.2) refl);
       }
-      operation_on op (Some (live.Closing handle)) there some e = record {
-        line = Closings;
-        own = ap (λ (o : Option (Operation T)). line_of_operation o) there;
-        ample = subst (λ (o : Option (Operation T)). Polled Closings (Op op) (poll_answer s op o)) (sym there) (closed_so awake op e);
-        lacking = λ lack. subst (λ (o : Option (Operation T)). AllPolled Closings (Op op) (not_polled lack s op o)) (sym there) (closed_lacks awake op e lack);
-      }
-      operation_on op None there some e = cc some
-
-      next_so : (r : HandleId) → is_among (Stream r) s.waiting.woken ≡ true → (x : Found T) → found s.channel ≡ x
-          → Polled Streams (Stream r) (next_answer (with_waiting (gone (Stream r) s.waiting) s) r x)
-      next_so r e (first m ms) there =
-          let left = gives (line_at s.names) (Stream r) s.waiting awake.placed e in (
-            inl left,
-            kept,
-            inr (inl (record { line_is = inr refl; left = left; came = refl; message = m; rest = ms; there = there; channel = refl })),
-          )
-      next_so r e none_yet there = (stood_again (line_at s.names) (Stream r) s.waiting awake.placed e, kept, stays Streams (Stream r) _ refl refl)
-      next_so r e none_ever there =
-          (is_gone (line_at s.names) (Stream r) s.waiting awake.placed e Streams, kept, stays Streams (Stream r) _ refl refl)
-
-      next_lacks : (r : HandleId) → is_among (Stream r) s.waiting.woken ≡ true → (lack : Lack) (x : Found T)
-          → AllPolled Streams (Stream r) (next_not_polled lack s (Stream r) x)
-      next_lacks r e lack (first m ms) = none_polled Streams (Stream r)
-      next_lacks r e lack none_yet = out_of_line awake (Stream r) e Streams (reply.Next (Ready (Some (Err (not_listening lack))))) refl
-      next_lacks r e lack none_ever = none_polled Streams (Stream r)
-
-      pub polled_on : (w : Waiter) → is_among w s.waiting.woken ≡ true → PolledOn w
-      polled_on (Op op) e = operation_on op (at op.0 s.names.operations) refl (awake.placed.wakes (Op op) e) e
-      polled_on (Stream r) e = record {
+      as_polled (shape.restands receiver none o) = λ e. record {
         line = Streams;
         own = refl;
-        ample = rw (not_untold (line_at s.names) Streams (Stream r) s.waiting awake.placed e) (next_so r e (found s.channel) refl);
-        lacking = λ lack. next_lacks r e lack (found s.channel);
+        so = (stood_again k (Stream receiver) s.waiting awake.placed e, kept, stays Streams (Stream receiver) _ refl refl);
       }
+      as_polled (shape.leaves op line r own h) = λ e. record {
+        line = line;
+        own = own;
+        so = (leaves k (Op op) s.waiting awake.placed e line, kept, stays line (Op op) _ (none_came r h.2) refl);
+      }
+      as_polled (shape.goes (Op op) line r own i h) = λ e. record {
+        line = line;
+        own = own;
+        so = (is_gone k (Op op) s.waiting awake.placed e line, kept, stays line (Op op) _ (none_came r h.2) refl);
+      }
+      as_polled (shape.goes (Stream receiver) line r own i h) = λ e. record {
+        line = line;
+        own = own;
+        so = (is_gone k (Stream receiver) s.waiting awake.placed e line, kept, stays line (Stream receiver) _ (none_came r h.2) refl);
+      }
+      as_polled (shape.makes (call.Poll op) new kind mint h) = absurd mint
+      as_polled (shape.makes (call.PollNext receiver) new kind mint h) = absurd mint
+      as_polled (shape.spends (call.Poll op) new r mint h) = absurd mint
+      as_polled (shape.spends (call.PollNext receiver) new r mint h) = absurd mint
+      as_polled x = tt
 
-      -- however it is answered
-      pub polled_so : (w : Waiter) (a : Answer T) (p : PolledOn w) → Answers s (poll_of w) a → Polled p.line w a
-      unfolding AllPolled
-      polled_so w a p (inl same) = subst (λ (x : Answer T). Polled p.line w x) (sym same) p.ample
-      polled_so w a p (inr (lack, is)) = p.lacking lack a is
+      -- however the poll of one that is woken is answered
+      pub polled_as : (w : Waiter) (a : Answer T) → is_among w s.waiting.woken ≡ true → Answers s (poll_of w) a → PolledAs w a
+      polled_as (Op op) a e answers = as_polled (shape_of s (call.Poll op) a answers) e
+      polled_as (Stream receiver) a e answers = as_polled (shape_of s (call.PollNext receiver) a answers) e
 
   -- ---- settling
 
@@ -374,23 +316,22 @@ module _ {T : Type 0} where
   pub weight_of : State T → ℕ
   weight_of s = weight (line_at s.names) s.waiting
 
-  -- one of each who is woken
+  -- one of each that is woken
   pub woken_within : (s : State T) → length s.waiting.woken ≤ weight_of s
   unfolding weight_of
   woken_within s = omega arith
 
-  -- each poll of the first of those who are woken brings the end nearer by one
+  -- each poll of the first of those that are woken brings the end nearer by one
   pub shorter : (s : State T) → AwakeIn s → (w : Waiter) (a : Answer T) → slice_get s.waiting.woken 0 ≡ Some w → Answers s (poll_of w) a
       → suc (weight_of a.after) ≤ weight_of s
   unfolding weight_of
   shorter s awake w a front answers =
       let k = line_at s.names in
-      let p = polled_on s awake w (first_there w s.waiting.woken front) in
-      let so = polled_so s awake w a p answers in
+      let p = polled_as s awake w a (first_there w s.waiting.woken front) answers in
       let next = ap (λ (ws : List Waiter). length ws) (woken_next s awake w a front answers) ∙ length-append (drop 1 s.waiting.woken) a.woken in
       let one = one_fewer w s.waiting.woken front in
-      let near = nearer k w s.waiting a.after.waiting a.woken (all_streams k s.waiting awake.placed) (omega (arith, next, one)) p.line p.own so.0 in
-      let fewer = fewer_kinds k (line_at a.after.names) a.after.waiting so.1 in
+      let near = nearer k w s.waiting a.after.waiting a.woken (all_streams k s.waiting awake.placed) (omega (arith, next, one)) p.line p.own p.so.0 in
+      let fewer = fewer_kinds k (line_at a.after.names) a.after.waiting p.so.1 in
       omega (arith, near, fewer)
 
   pub within : (s : State T) → AwakeIn s → weight_of s ≤ most_polls s

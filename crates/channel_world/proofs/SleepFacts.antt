@@ -1,5 +1,5 @@
--- What answers for who sleeps, in the numbers that a world tells, calls under way or not.
-use Rattle.std.proofs.Common.{arith, ◌≡◌, ◌≤◌, ◌+◌, ℕ, suc, Bool, true, false, List, [], ◌∷◌, ◌++◌, length, Option, None, Some, ◌⊎◌, inl, inr, refl, ap, ◌∙◌}
+-- What is responsible for those that sleep, in the numbers that a world tells, calls under way or not.
+use Rattle.std.proofs.Common.{arith, ◌≡◌, ◌≤◌, ◌+◌, ℕ, suc, Bool, true, List, [], ◌∷◌, ◌++◌, length, Option, None, Some, ◌⊎◌, inl, inr, refl, ap, ◌∙◌}
 use Rattle.std.specs.List.{count_by}
 use Rattle.std.proofs.lemmas.List.Sums.{count_by-le-length}
 use Rattle.channel_calls.specs.declared.stage.ListenerRef.{ListenerRef}
@@ -73,11 +73,11 @@ none_fits (Some c) m n le fits places = omega (arith, le, fits, places)
 -- ---- the names, and all that a world shows
 
 module _ {T : Type 0} where
-  -- those of a line who are woken are no more than all who are
+  -- those of a line who are woken are no more than all that are
   few_woken : (line : WaitList) (r : NameTable T) (woken : List Waiter) → woken_on line r woken ≤ length woken
   few_woken line r woken = count_by-le-length (λ w. is_line line (line_at (names_of r) w)) woken
 
-  -- one that sleeps, before those who were woken: each of them is pending, and none stands there twice
+  -- one that sleeps, before those that were woken: each of them is pending, and none stands there twice
   module _ (b : NameState T) (s : Configuration T Waiter) (k : WokenSound b s) (line : WaitList) (name : Waiter)
       (asleep : IsUnwoken line name b.name_table b.order.woken) where
     pub all_wait : (w : Waiter) → is_among w (name ∷ b.order.woken) ≡ true → (h : ListenerRef) × (status b.name_table w ≡ waits h)

@@ -1,6 +1,6 @@
 -- How soon a call ends where the others are quiet.
+use Rattle.std.proofs.lemmas.Bool.{eqb-true}
 use Rattle.std.proofs.Common.{arith, ◌≡◌, ℕ, suc, ◌≤◌, ◌<◌, ◌==◌, ◌&&◌, Bool, true, false, if◌then◌else◌, is_none, List, [], ◌∷◌, ◌++◌, Option, None, Some, refl, sym, ap, ◌∙◌, subst}
-use Rattle.std.proofs.lemmas.Bool.Decides.{nat_tests}
 use Rattle.channel_calls.specs.declared.reply.Reply.{Reply}
 use Rattle.channel_world_model.specs.declared.name.Waiter.{Waiter}
 use Rattle.channel_steps.specs.Run.{EachStep}
@@ -12,9 +12,6 @@ use Rattle.channel_world_runs.specs.declared.step.Entry.{Entry}
 use Rattle.channel_world_runs.specs.declared.step.Step.{Step}
 use Rattle.channel_world_runs.specs.declared.step.Step.TheVariants as step
 use Rattle.channel_world.specs.StepsLeft.{in_a_row, OthersQuietOf, EndInARow, EndInFront}
-
-same_number : (a b : ℕ) → (a == b) ≡ true → a ≡ b
-same_number a b e = grind (arith, nat_tests)
 
 module _ {T : Type 0} where
   -- there are no more in a row than are left
@@ -30,7 +27,7 @@ module _ {T : Type 0} where
       by more false same r goes_on = omega arith
       by more true same (Some x) goes_on = omega arith
       by more true same None goes_on =
-          let his : q.0 ≡ p = same_number q.0 p same in
+          let his : q.0 ≡ p = eqb-true q.0 p same in
           let his_free : OthersQuietOf q.0 m.configuration = subst (λ (j : ℕ). OthersQuietOf j m.configuration) (sym his) free in
           let less : n.left p < m.left p = subst (λ (j : ℕ). n.left j < m.left j) his (h.0.nearer goes_on his_free) in
           let still : OthersQuietOf p n.configuration = subst (λ (j : ℕ). OthersQuietOf j n.configuration) his (nobody_still m q e n k h.0 goes_on his_free) in

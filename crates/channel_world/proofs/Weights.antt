@@ -9,6 +9,7 @@ use Rattle.channel_world_model.specs.Awake.{Kind, Placed}
 use Rattle.channel_world_model.specs.Laws.{count_of, is_line}
 use Rattle.channel_world_model.specs.Lines.{Waiting, same_waiter, is_among, untold}
 use Rattle.channel_world_model.specs.declared.name.Waiter.{Waiter}
+use Rattle.channel_world_model.proofs.Awake.{line_refl}
 use Rattle.channel_world_model.proofs.Counting.{among_self, or_right}
 use Rattle.channel_world_model.proofs.Settle.{count_all}
 use Rattle.channel_world_model.proofs.WaiterLemmas.{decided}
@@ -59,16 +60,10 @@ by_stream a b s t r q n m names woken few sends receives streams =
 
 -- ---- the names of a line
 
-same_self : (line : WaitList) → is_line line (Some line) ≡ true
-same_self Sends = refl
-same_self Receives = refl
-same_self Streams = refl
-same_self Closings = refl
-
 all_on : (k : Kind) (line : WaitList) (ws : List Waiter) → ((w : Waiter) → is_among w ws ≡ true → k w ≡ Some line) → length ws ≤ length (filter (on k line) ws)
 all_on k line [] h = omega arith
 all_on k line (v ∷ ws) h =
-    let own : is_line line (k v) ≡ true = ap (λ (o : Option WaitList). is_line line o) (h v (among_self v ws)) ∙ same_self line in
+    let own : is_line line (k v) ≡ true = ap (λ (o : Option WaitList). is_line line o) (h v (among_self v ws)) ∙ line_refl line in
     let rest = all_on k line ws (λ w e. h w (or_right (same_waiter w v) (is_among w ws) e)) in
     rw own (omega (arith, rest))
 

@@ -5,7 +5,7 @@ use Rattle.channel_world.specs.Output.{text_of_lines, text_of_script}
 use Rattle.channel_world.specs.declared.script.end.ScriptEnd.{ScriptEnd}
 use Rattle.channel_world.specs.declared.script.end.ScriptEnd.TheVariants.{Memory, Fault}
 
--- its text; where memory was refused, some of its reply lines
+-- its text; if memory was refused, some of its reply lines
 abbrev pub Adds : Script → ScriptEnd → List ℕ → Type 0
 Adds script Memory text = (k : ℕ) × (text ≡ text_of_lines (take k script.replies))
 Adds script Fault text = ⊥

@@ -1,4 +1,4 @@
--- Who sleeps in a world, pending and not woken since the last poll, and what answers for it: calls under way or not.
+-- Which names sleep in a world, pending and not woken since the last poll, and what is responsible for them: calls under way or not.
 use Rattle.std.specs.Prelude.{◌≡◌, ℕ, ◌+◌, ◌<◌, ◌≤◌, true, false, [], length, Option, None, Some}
 use Rattle.channel_calls.specs.declared.stage.WaitList.{WaitList}
 use Rattle.channel_calls.specs.declared.stage.WaitList.TheVariants.{Sends, Receives, Streams}
@@ -11,7 +11,7 @@ use Rattle.channel_world_runs.specs.Pending.{stands_pending, how_many}
 use Rattle.channel_world.specs.Kinds.{pending_on_line}
 use Rattle.channel_world.specs.View.{names_in, woken_in, messages_in, capacity_in, is_closed, calls_in, taken_in, at_rest, observation_of, IsQuiet, WorldView}
 
--- one more message fits: always, where there is no bound
+-- one more message fits: always, if there is no bound
 abbrev pub HasAPlace : Option ℕ → ℕ → Type 0
 HasAPlace None held = Unit {0}
 HasAPlace (Some capacity) held = held < capacity
@@ -28,24 +28,24 @@ module _ {T : Type 0} where
   pub record NobodySleeps (line : WaitList) (w : WorldView T) : Type 0 where
     pub none : (name : Waiter) → IsUnwoken line name (names_in w) (woken_in w) → ⊥
 
-  -- ---- what answers for who sleeps, in the numbers that a world tells
+  -- ---- what is responsible for those that sleep, in the numbers that a world tells
 
-  -- where a receive sleeps there are no more messages than woken ones and calls under way
+  -- if a receive sleeps there are no more messages than woken ones and calls under way
   abbrev pub ReceivesAreAnswered : WorldView T → Type 0
   ReceivesAreAnswered w = (name : Waiter) → IsUnwoken Receives name (names_in w) (woken_in w) → messages_in w ≤ woken_among w + calls_in w
 
-  -- where a send sleeps on an open channel it has a bound, and no more places than messages, woken ones, calls under way, and places
+  -- if a send sleeps on an open channel it has a bound, and no more places than messages, woken ones, calls under way, and places
   -- that such calls have freed and not announced yet
   abbrev pub SendsAreAnswered : WorldView T → Type 0
   SendsAreAnswered w =
       (name : Waiter) → IsUnwoken Sends name (names_in w) (woken_in w) → is_closed w ≡ false
       → HasPlaces (capacity_in w) (messages_in w + (woken_among w + (calls_in w + (observation_of w).freed)))
 
-  -- where a stream sleeps beside a message a call is under way
+  -- if a stream sleeps beside a message a call is under way
   abbrev pub StreamsAreAnswered : WorldView T → Type 0
   StreamsAreAnswered w = (name : Waiter) → IsUnwoken Streams name (names_in w) (woken_in w) → 0 < messages_in w → 0 < calls_in w
 
-  -- and where anybody sleeps on a closed channel
+  -- and if anybody sleeps on a closed channel
   abbrev pub ClosingIsAnswered : WorldView T → Type 0
   ClosingIsAnswered w =
       (line : WaitList) (name : Waiter) → IsUnwoken line name (names_in w) (woken_in w) → is_closed w ≡ true → 0 < calls_in w
@@ -64,11 +64,11 @@ module _ {T : Type 0} where
       → HasAPlace (capacity_in w) (messages_in w + (woken_on Sends (names_in w) (woken_in w) + ((observation_of w).sending + taken_in w)))
       → NobodySleeps Sends w
 
-  -- no stream beside a message where no call is sending,
+  -- no stream beside a message if no call is sending,
   abbrev pub NoStreamSleeps : WorldView T → Type 0
   NoStreamSleeps w = (observation_of w).sending ≡ 0 → 0 < messages_in w → NobodySleeps Streams w
 
-  -- nobody on a closed channel where no call has closed it,
+  -- nobody on a closed channel if no call has closed it,
   abbrev pub NobodySleepsWhereClosed : WorldView T → Type 0
   NobodySleepsWhereClosed w = (observation_of w).closers ≡ 0 → is_closed w ≡ true → (line : WaitList) → NobodySleeps line w
 
@@ -78,7 +78,7 @@ module _ {T : Type 0} where
 
   -- ---- with no call under way
 
-  -- where nobody is woken no receive sleeps beside a message,
+  -- if nobody is woken no receive sleeps beside a message,
   abbrev pub NoReceiveSleepsBesideAMessage : WorldView T → Type 0
   NoReceiveSleepsBesideAMessage w = calls_in w ≡ 0 → woken_among w ≡ 0 → 0 < messages_in w → NobodySleeps Receives w
 
@@ -96,13 +96,13 @@ module _ {T : Type 0} where
   abbrev pub NobodySleepsOnAClosed : WorldView T → Type 0
   NobodySleepsOnAClosed w = calls_in w ≡ 0 → is_closed w ≡ true → (line : WaitList) → NobodySleeps line w
 
-  -- where as many are woken as are pending, nobody sleeps
+  -- if as many are woken as are pending, nobody sleeps
   abbrev pub AllAreAwake : WorldView T → Type 0
   AllAreAwake w = pending_in w ≡ woken_among w → (line : WaitList) → NobodySleeps line w
 
-  -- ---- the state that it is then: whom a message, a free place or a closing lets go on
+  -- ---- the state that it is then: the names that a message, a free place or a closing lets go on
 
-  -- where it holds a message no receive is pending
+  -- if it holds a message no receive is pending
   abbrev pub NoReceivePendsBesideAMessage : WorldView T → Type 0
   NoReceivePendsBesideAMessage w = 0 < messages_in w → (at_rest w).waiting.receives ≡ []
 
@@ -110,20 +110,20 @@ module _ {T : Type 0} where
   abbrev pub NoStreamPendsBesideAMessage : WorldView T → Type 0
   NoStreamPendsBesideAMessage w = 0 < messages_in w → (at_rest w).waiting.streams ≡ []
 
-  -- where it is open and one more message fits, no send is pending
+  -- if it is open and one more message fits, no send is pending
   abbrev pub NoSendPendsBesideAPlace : WorldView T → Type 0
   NoSendPendsBesideAPlace w =
       (at_rest w).channel.closed ≡ false → HasAPlace (at_rest w).channel.capacity (messages_in w) → (at_rest w).waiting.sends ≡ []
 
-  -- where it is closed nobody is pending
+  -- if it is closed nobody is pending
   abbrev pub NobodyPendsOnAClosed : WorldView T → Type 0
   NobodyPendsOnAClosed w = (at_rest w).channel.closed ≡ true → (line : WaitList) → untold line (at_rest w).waiting ≡ []
 
-  -- beside one who was not woken no message, free place or closing but such as the woken ones answer for
+  -- beside one that was not woken no message, free place or closing for which no woken one is responsible
   abbrev pub NobodyIsLeftAtRest : WorldView T → Type 0
   NobodyIsLeftAtRest w = IsQuiet w → NobodyIsLeft (at_rest w)
 
-  -- so where nobody is woken no receive, no stream and no send is pending that could go on
+  -- so if nobody is woken no receive, no stream and no send is pending that could go on
   abbrev pub NoReceiveIsLeft : WorldView T → Type 0
   NoReceiveIsLeft w = IsQuiet w → woken_among w ≡ 0 → NoReceivePendsBesideAMessage w
 

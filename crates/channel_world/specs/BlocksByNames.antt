@@ -29,7 +29,7 @@ module _ {T : Type 0} where
     pub handle : HandleId
     pub lives : at op.0 r.operations ≡ Some (record { operation = operation_for b handle; poll_state = poll_state })
 
--- Where the operation isn't pending its poll is the call's first poll. Where it is pending, its poll is the one that the
+-- If the operation isn't pending its poll is the call's first poll. If it is pending, its poll is the one that the
 -- call makes when it has woken, but that this asks the listener first; and so is the poll that is refused its task.
 pub record PollsByName (T : Type 0) : Type 0 where
   pub first : (b : Blocked T) (op : OpId) (r : NameTable T) → StandsFor b Rests op r → asks r (Poll op) ≡ first_poll b (Op op)

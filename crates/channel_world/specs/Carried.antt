@@ -26,7 +26,7 @@ module _ {T : Type 0} where
   pub record LeadsTo (old : WorldView T) (replies : List (Reply T)) (new : WorldView T) : Type 0 where
     pub on : LeadsOn old replies new
 
--- where nothing is done, each world leads to itself
+-- if nothing is done, each world leads to itself
 abbrev pub StaysWhereItIs : Type 0 → Type 0
 StaysWhereItIs T = (a : WorldView T) → LeadsTo a [] a
 

@@ -17,8 +17,8 @@ use Rattle.channel_world.specs.View.{name_state_of, moment_of, StandsIn, WorldVi
 
 module _ {T : Type 0} where
   -- The world `old`, standing in the configuration `from`, was given the steps `steps`; `left` were left, and it became `new`. A
-  -- configuration is a plain channel with its calls under way, each with the moments and the marks since its begin. That a world stands in
-  -- a configuration is its invariant: whoever uses this record hands it on and need not open it.
+  -- configuration is a plain channel with its calls under way, each with the moments and the marks since its begin. A world's invariant is
+  -- that it stands in a configuration: a proof that uses this record passes it on and need not open it.
   pub record Headline (steps left : List (Step T)) (old : WorldView T) (trace : List (Entry T)) (stopped : Option Stopped)
       (new : WorldView T) (from : Configuration T Waiter) : Type 0 where
     -- the steps that were made, and the configuration at the end
@@ -35,7 +35,7 @@ module _ {T : Type 0} where
     -- once a receive answered closed, or a stream ended, in these steps or before them, no call that begins later gives a message
     pub after_the_end : NothingComesAfter steps trace
     pub ended_before : Spent from.now → GiveNothing [] steps trace
-    -- where the others are quiet (no other call under way has a mark but Nothing, and an unbounded channel has had its first taking or
+    -- if the others are quiet (no other call under way has a mark but Nothing, and an unbounded channel has had its first taking or
     -- there is no other call), a call makes no more steps than it has left at most before the one that ends it, if its are the next:
     -- from each moment on, so in front of the list too
     pub ends_soon : EndInARow from made trace run.moments

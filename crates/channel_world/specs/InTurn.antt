@@ -35,7 +35,7 @@ module _ {T : Type 0} where
   let_out s (step.Step p) e names t n = gone_by e.mark s.now.queue.items
 
   -- A call that asks this and refuses its message with this reply, or goes on waiting with it, has made no mark, so it let nothing
-  -- in; and the message is handed back, or left to its operation.
+  -- in; and the message is returned, or left to its operation.
   abbrev pub KeepsItOut : ChannelAsk T Waiter → List (MarkedMoment T Waiter) → Reply T → Returned T → Type 0
   KeepsItOut (ask.TrySend m) ds (reply.TrySend (Err e)) k = (ds ≡ []) × (try_handed_back e ≡ m)
   KeepsItOut (ask.ForceSend m) ds (reply.ForceSend (Err e)) k = (ds ≡ []) × (handed_back e ≡ m)

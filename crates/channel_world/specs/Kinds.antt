@@ -1,4 +1,4 @@
--- Who is pending on which line, and how many messages calls under way have taken: numbers that a world tells.
+-- How many are pending on which line, and how many messages calls under way have taken: numbers that a world tells.
 use Rattle.std.specs.Prelude.{ℕ, ◌+◌, Bool, false, List, [], ◌∷◌, ◌++◌, map, Option, Some}
 use Rattle.std.specs.List.{count_by}
 use Rattle.std.specs.Map.{keys_of}

@@ -1,5 +1,5 @@
 -- A merge whose calls are calls by names. What the headline says of names holds of it too: no step is refused, the name state and
--- the order of waking are as the bookkeeping has them, and nobody is left asleep under his name.
+-- the order of waking are as the bookkeeping has them, and nobody is left asleep under its name.
 use Rattle.std.specs.Prelude.{◌≡◌, ℕ, List, [], ◌∷◌, map, None}
 use Rattle.concurrent_queue.specs.Capacity.{capacity_of}
 use Rattle.concurrent_queue.specs.declared.cells.QueueForm.{QueueForm}
@@ -66,11 +66,11 @@ module _ {T S : Type 0} (wakes : S → Waiter → S → Type 0) where
     pub names : List Waiter
     pub next : Next m.merge.configuration x.of_channel e names n.merge.configuration
     pub woken : Woken wakes m.merge.sink names n.merge.sink
-    -- A call that begins has its names, and its party is at work. Who is woken comes last in the order of waking. And a call that
+    -- A call that begins has its names, and its party is at work. A name that is woken comes last in the order of waking. And a call that
     -- answers has written back to its names what it left to them.
     pub name_state : IsNameStateOf x.by_name e.reply e.kept names m.name_state n.name_state
-    -- beside one who is pending and was not woken, there is no message, free place or closing but such as a woken one or a call
-    -- under way answers for
+    -- beside one that is pending and was not woken, there is no message, free place or closing for which no woken one and no call under way
+    -- is responsible
     pub owed : Owed (observation_at n.name_state n.merge.configuration)
 
   -- the run that a merge is, as its headline tells it, is one by names from the opening of a channel

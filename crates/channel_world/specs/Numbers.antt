@@ -9,7 +9,7 @@ module _ {T : Type 0} where
   abbrev pub MessagesAtRest : WorldView T → Type 0
   MessagesAtRest w = IsQuiet w → messages_in w ≡ length (at_rest w).channel.messages
 
-  -- those who are pending are as many as stand untold in its four lines and in the order of its woken ones
+  -- those that are pending are as many as stand untold in its four lines and in the order of its woken ones
   abbrev pub PendingAtRest : WorldView T → Type 0
   PendingAtRest w = IsQuiet w → how_many stands_pending (names_in w) ≡ pending_count (at_rest w).waiting
 

@@ -22,7 +22,7 @@ last_lines Fault = codes "read fault" ∷ []
 abbrev pub text_of_script : Script → List ℕ
 text_of_script s = text_of_lines (s.replies ++ last_lines s.end)
 
--- The text for this input and this end: that of the script; where memory was refused, some of its reply lines, and
+-- The text for this input and this end: that of the script; if memory was refused, some of its reply lines, and
 -- nothing past them but the last line; where the reading failed, the last line alone.
 abbrev pub IsText : List ℕ → ScriptEnd → List ℕ → Type 0
 IsText input Memory text = (k : ℕ) × (text ≡ text_of_lines (take k (script input).replies ++ last_lines Memory))

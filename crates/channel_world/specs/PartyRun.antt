@@ -33,7 +33,7 @@ module _ {T : Type 0} where
 
   -- ---- one step, within the run
 
-  -- one more step of this party was made; where it does not answer, nothing but want of room refuses the next one
+  -- one more step of this party was made; if it does not answer, nothing but want of room refuses the next one
   pub record StepsOnce (p : PartyId) (old : WorldView T) (before : List (Entry T)) (answered : Bool) (after : List (Entry T))
       (new : WorldView T) : Type 0 where
     pub entry : Entry T

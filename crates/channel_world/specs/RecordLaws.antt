@@ -22,7 +22,7 @@ module _ {T : Type 0} where
 abbrev pub RecordLosesNothing : Type 0 → Type 0
 RecordLosesNothing T = (capacity : Option ℕ) (rs : List (Receipt T)) (h : IsHistory capacity rs) → removed_in_record rs ++ h.last.channel.messages ≡ accepted_in_record rs
 
--- At the end no unwoken pending one stands beside a message, a free place or a closing that no woken one answers for.
+-- At the end no unwoken pending one stands beside a message, a free place or a closing for which no woken one is responsible.
 abbrev pub RecordLeavesNobody : Type 0 → Type 0
 RecordLeavesNobody T = (capacity : Option ℕ) (rs : List (Receipt T)) (h : IsHistory capacity rs) → NobodyIsLeft h.last
 

@@ -9,7 +9,9 @@ use Rattle.channel_world_model.specs.Settling.{poll_of}
 use Rattle.channel_world_model.specs.declared.call.Call.{Call}
 use Rattle.channel_calls.specs.declared.reply.Reply.{Reply}
 use Rattle.channel_world_language.specs.Words.{lines_of}
-use Rattle.channel_world_language.specs.Command.{Command, settle, Opening, bounded, unbounded, parse, openings}
+use Rattle.channel_world_language.specs.Command.{Command, settle, parse, openings}
+use Rattle.channel_world_language.specs.declared.command.Opening.{Opening}
+use Rattle.channel_world_language.specs.declared.command.Opening.TheVariants as opening
 use Rattle.channel_world_language.specs.Language.{Language, today}
 use Rattle.channel_world_language.specs.Table.{Table}
 use Rattle.channel_world_language.specs.Asked.{used, is_known, is_given_before, with_given, call_of}
@@ -119,12 +121,12 @@ opened language size lines =
     if option_map_or (nat_lt (2 ^ 58)) size false then ending Memory else replying_first (codes "ok") (followed language (first_scene size) 2 lines)
 
 abbrev pub opened_by : Language → Opening → List (List ℕ) → Script
-opened_by language unbounded lines = opened language None lines
-opened_by language (bounded capacity) lines = if capacity == 0 then ending Capacity else opened language (Some capacity) lines
+opened_by language opening.Unbounded lines = opened language None lines
+opened_by language (opening.Bounded capacity) lines = if capacity == 0 then ending Capacity else opened language (Some capacity) lines
 
 abbrev pub script_of_lines : Language → List (List ℕ) → Script
 script_of_lines language [] = ending Done
-script_of_lines language (line ∷ lines) = option_map_or (λ opening. opened_by language opening lines) (parse openings line) (ending (Unreadable 1))
+script_of_lines language (line ∷ lines) = option_map_or (λ first. opened_by language first lines) (parse openings line) (ending (Unreadable 1))
 
 -- a script of more bytes is not read to its end
 abbrev pub script_in : Language → List ℕ → Script

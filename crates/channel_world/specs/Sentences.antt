@@ -45,13 +45,13 @@ module _ {T : Type 0} where
     pub stands : StandsIn world m.configuration
     -- of each call under way, the marks are the first of those that a call which asks this makes
     pub begun : Each (λ u. BeginsItsMarks u) m.configuration.under_way
-    -- beside one who is pending and was not woken, there is no message, free place or closing but such as a woken one or a call
-    -- under way answers for
+    -- beside one that is pending and was not woken, there is no message, free place or closing for which no woken one and no call under way
+    -- is responsible
     pub owed : Owed (observation_at m.name_state m.configuration)
     -- the channel is closed or not and holds so many messages as its queue's words say; and each message lies in the slot that
     -- they name for it alone, without a bound by the blocks that the queue has used, or is with the call that is yet to put it there
     pub words : WordsSay m.parts.cells (active_calls world) m.configuration
-    -- no call has more steps left than these, by how many messages a receive of several may take, where the others are quiet
+    -- no call has more steps left than these, by how many messages a receive of several may take, if the others are quiet
     pub few : (party : ℕ) → m.left party ≤ most_left (wanted_of party m.configuration.under_way)
 
   -- ---- the beginning of a call
@@ -77,8 +77,8 @@ module _ {T : Type 0} where
     -- to the plain channel it does what its mark says, by touching one cell, one list or one count at most
     pub effect : plain n.configuration.now ≡ marked e.mark (brought call.ask) (plain m.configuration.now)
     pub touches : OnePlace m.parts n.parts
-    -- it wakes those whom its one telling finds waiting, in order, or him to whom a listener of its own that it drops passes its
-    -- notice on, and nobody else
+    -- it wakes those that its one notification finds waiting, in order, or the one to which a listener of its own that it drops passes its
+    -- notification on, and nobody else
     pub wakes : WokenBy (telling call.at) (dropping call.at) m.configuration.now e.woken.items
 
   pub record WorkSays (m : Moment T) (p : PartyId) (e : Entry T) (n : Moment T) : Type 0 where
@@ -95,13 +95,13 @@ module _ {T : Type 0} where
     pub is : after ≡ does call at_now e.mark m.configuration.now n.configuration.now
     pub goes_on : n.configuration.under_way ≡ map (sees n.configuration.now) before ++ (unless_ended after e.reply ++ map (sees n.configuration.now) behind)
     pub work : WorkDoes m call e n
-    -- where it ends its call; what the call leaves is what the names get back
+    -- if it ends its call; what the call leaves is what the names get back
     pub left : Option (Returned T)
     pub ends : IfSome e.reply (λ r. EndSays after r left)
     pub name_state : IsNameStateAfter (step.Step p) e left m.name_state n.name_state
     -- a short call ends within eight steps of its own, whatever others do
     pub in_time : IsQuick call.ask → EndsInTime call.made e.reply
-    -- where the others are quiet, a step that does not end its call leaves it fewer steps
+    -- if the others are quiet, a step that does not end its call leaves it fewer steps
     pub nearer : e.reply ≡ None → OthersQuietOf p.0 m.configuration → n.left p.0 < m.left p.0
     -- a call that began when the end was said gives no message
     pub late : AllSpent call.seen → Replies GivesMessage e.reply → ⊥

@@ -31,7 +31,7 @@ module _ {T : Type 0} where
 
   -- ---- room
 
-  -- one was polled, and those whom the poll woke stand after the names before
+  -- one was polled, and those that the poll woke stand after the names before
   pub record Polls (w : Waiter) (s : State T) (before : List Waiter) (x : Reply T) (after : List Waiter) (t : State T) : Type 0 where
     pub woken : List Waiter
     pub names : after ≡ before ++ woken
@@ -42,14 +42,14 @@ module _ {T : Type 0} where
   abbrev pub pending_on : WaitList → State T → ℕ
   pending_on line s = length (untold line s.waiting) + woken_of_line line s
 
-  -- Settling makes no more polls: one for each who is woken, and for each who is pending as many as it may wake when it leaves: a send
+  -- Settling makes no more polls: one for each that is woken, and for each that is pending as many as it may wake when it leaves: a send
   -- all streams and two more, a receive two, a stream one, and a wait for the closing nobody.
   abbrev pub most_polls : State T → ℕ
   most_polls s =
       length s.waiting.woken + (pending_on Sends s * (pending_on Streams s + 2) + 2 * pending_on Receives s + pending_on Streams s)
 
 module _ {T : Type 0} where
-  -- How many messages come in at most, where so many sends are pending, and so many who take a message each: none into a closed
+  -- How many messages come in at most, if so many sends are pending, and so many who take a message each: none into a closed
   -- channel; with a bound no more than places are free, and than are freed.
   abbrev pub most_in : ModelChannel T → ℕ → ℕ → ℕ
   most_in c sends takers =
@@ -59,7 +59,7 @@ module _ {T : Type 0} where
   abbrev pub most_accepted : State T → ℕ
   most_accepted s = most_in s.channel (pending_on Sends s) (pending_on Receives s + pending_on Streams s)
 
-  -- Where somebody is woken the queue has positions for the messages that come in. Where nobody is, nobody is polled.
+  -- If somebody is woken the queue has positions for the messages that come in. If nobody is, nobody is polled.
   abbrev pub HasPositionsToSettle : WorldView T → Type 0
   HasPositionsToSettle w = (name : Waiter) → is_among name (at_rest w).waiting.woken ≡ true → HasPositions (most_accepted (at_rest w)) w
 

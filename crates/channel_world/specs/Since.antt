@@ -56,7 +56,7 @@ module _ {T : Type 0} (world : WorldView T) where
   abbrev pub ClosesOnceToHere : Type 0
   ClosesOnceToHere = (a : WorldView T) (replies : List (Reply T)) → LeadsTo a replies world → ClosesOnceWith a replies
 
-  -- From whatever configuration no more say so than may yet: one at most, where no call under way has closed it, and none, where it is
+  -- From whatever configuration no more say so than may yet: one at most, if no call under way has closed it, and none, where it is
   -- closed too.
   abbrev pub ClosesWhatIsLeft : Type 0
   ClosesWhatIsLeft = (s : Configuration T Waiter) (replies : List (Reply T)) → Led s replies world → closings_among replies ≤ closings_left s
@@ -66,7 +66,7 @@ module _ {T : Type 0} (world : WorldView T) where
   ClosesOnceFromRest =
       (a : WorldView T) (replies : List (Reply T)) → Stands a → IsQuiet a → LeadsTo a replies world → closings_among replies ≤ 1
 
-  -- and none, where it is closed.
+  -- and none, if it is closed.
   abbrev pub NoneClosesAgain : Type 0
   NoneClosesAgain =
       (a : WorldView T) (replies : List (Reply T)) → Stands a → IsQuiet a → (at_rest a).channel.closed ≡ true → LeadsTo a replies world

@@ -1,4 +1,4 @@
--- How soon a call ends where the others are quiet: the number of steps of its own that are left to it at each moment of a run.
+-- How soon a call ends if the others are quiet: the number of steps of its own that are left to it at each moment of a run.
 use Rattle.std.specs.Prelude.{ℕ, suc, ◌≤◌, ◌==◌, ◌&&◌, if◌then◌else◌, is_none, List, [], ◌∷◌}
 use Rattle.channel_world_model.specs.declared.name.Waiter.{Waiter}
 use Rattle.channel_steps.specs.Left.{most_left}
@@ -21,7 +21,7 @@ module _ {T : Type 0} where
   abbrev pub OthersQuietOf : ℕ → Configuration T Waiter → Type 0
   OthersQuietOf p s = OthersQuiet s.now (calls_of_others p s.under_way)
 
-  -- where the others of a party's call are quiet in this configuration, it makes no more steps than these before it ends, if its are the
+  -- if the others of a party's call are quiet in this configuration, it makes no more steps than these before it ends, if its are the
   -- next: those in front of a list, also where not all of them are made
   abbrev pub EndInFront : Configuration T Waiter → List (Step T) → List (Entry T) → Type 0
   EndInFront s steps trace = (party : ℕ) → OthersQuietOf party s → in_a_row party steps trace ≤ most_left (wanted_of party s.under_way)

@@ -46,7 +46,7 @@ module _ {T : Type 0} where
   abbrev pub names_in : WorldView T → NameTable T
   names_in w = (observation_of w).name_table
 
-  -- those who were woken, in the order of their waking
+  -- those that were woken, in the order of their waking
   abbrev pub woken_in : WorldView T → List Waiter
   woken_in w = (observation_of w).woken
 
@@ -117,7 +117,7 @@ module _ {T : Type 0} where
 
   -- ---- what the sentences of a run and the laws look at
 
-  -- names, with who may be woken and who is at work
+  -- names, with those that may be woken and the parties at work
   abbrev pub name_state_of : WorldView T → NameState T
   name_state_of w = record { name_table = w.inside.name_table; order = w.inside.order; agents = world_state.agents_of w.inside }
 

@@ -14,7 +14,7 @@ use Rattle.channel_world_runs.specs.WorldState.{parts_in}
 use Rattle.channel_world_runs.specs.NameTable.{names_of}
 use Rattle.channel_world_runs.specs.declared.world_state.WorldState.{WorldState}
 
--- those who wait in each list, and the woken
+-- those that wait in each list, and the woken
 abbrev pub waiting_in : WaitLists Waiter → List Waiter → Waiting
 waiting_in r woken = record {
   sends = tasks_of r.sends.waiting;

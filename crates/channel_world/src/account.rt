@@ -1,4 +1,4 @@
-//! Accounts: what is done to a world, one thing after another, as proofs see it.
+//! Accounts: what is done to a world, one thing after another, as proofs see it. An account owns snapshots alone, and touches no world.
 
 ghost use Rattle.std.specs.Prelude.{◌≡◌, [], ◌++◌};
 ghost use Rattle.channel_world_runs.specs.Reaches.{replies_in};
@@ -21,7 +21,7 @@ enum Deed<T> {
     Steps(Snapshot<Run<T>>),
     /// Calls, one at a time.
     Calls(Snapshot<CallRun<T>>),
-    /// The polls of a settling.
+    /// The polls of a `settle`.
     Polls(Snapshot<Vec<Settled<T>>>),
 }
 
@@ -34,12 +34,12 @@ enum Past<T> {
     Then(Snapshot<Past<T>>, Deed<T>),
 }
 
-/// An account of what is done to a world from a moment on. Whoever runs steps, makes calls and settles in turn notes each here, and has
-/// at every moment one promise of all of it: it led from the world that was (`since`) to the world that is (`until`), and just
-/// these replies were given, in order.
+/// An account of what is done to a world from a moment on. A caller that runs steps, makes calls and settles in turn notes each here, and
+/// has at every moment one promise of all of it: it led from the world that was (`since`) to the world that is (`until`), and just these
+/// replies were given, in order.
 ///
-/// It is for proofs, and takes no memory and no time: a world's own promises are of one call each, and this puts them together. A
-/// clause sees its two worlds and the replies between them. Own to this project.
+/// It is for proofs, and takes no memory and no time: each call of a world has a contract of its own, and this puts them together. A clause
+/// sees its two worlds and the replies between them.
 ///
 /// ```rust
 /// let mut account = Account::of(world);
@@ -55,7 +55,7 @@ pub struct Account<T> {
     past: Snapshot<Past<T>>,
 }
 
-/// By hand, so that a crate above proves nothing of what is noted when it lets an account go.
+/// Written by hand, so that crates above prove nothing of what is noted when they drop an account.
 impl<T> Drop for Account<T> {
     fn drop(self) {
         let Account { since, until, past } = self;
@@ -136,9 +136,9 @@ impl<T: Drop> Account<T> {
         self.add(world, Deed::Polls(Snapshot::of(polls)));
     }
 
-    /// Says what is so of all that was noted, and does nothing: it led from the first world to the last with just these replies; of
-    /// all replies since the opening of the channel, with these, at most one says that it closed it; and of all since one without a
-    /// bound none says that it is full.
+    /// States what holds of all that was noted, and does nothing: it led from the first world to the last with just these replies; of all
+    /// replies since the opening of the channel, with these, at most one says that it closed it; and of all since one without a bound none
+    /// says that it is full.
     pub fn says(&self)
         ensures leads { LeadsTo self.now.since self.now.replies self.now.until }
         ensures closes_once { ClosesOnceWith self.now.since self.now.replies }

@@ -1,13 +1,16 @@
-//! A channel whose handles and operations are called by names: one call at a time, with every reply and every waking said
-//! exactly, or any interleaving of the steps of several parties.
+//! A channel whose handles and operations are called by names: one call at a time, with every reply and every wake-up stated exactly, or
+//! any interleaving of the steps of several parties.
 //!
-//! A [`World`] is such a channel. [`World::run_calls`] takes a list of [`Call`]s and gives the [`Reply`] of each with the names
-//! that it woke; [`World::run_steps`] takes a list of [`Step`]s of parties. A call or a step that is refused stays in front of
-//! its list, for a reason that [`WorldRefusal`] names. [`script::run_script`] runs a script over a world, from bytes to bytes.
+//! A [`World`] is such a channel. [`World::run_calls`] takes a list of [`Call`]s and returns the [`Reply`] of each with the names that it
+//! woke; [`World::run_steps`] takes a list of [`Step`]s of parties. A call or a step that is refused stays in front of its list, for a
+//! reason that [`WorldRefusal`] names. [`script::run_script`] runs a script over a world, from bytes to bytes.
 //!
-//! What is said of calls made one at a time stands in `channel_world_model`. What is said of runs of steps is one record, in
-//! `specs/Headline`; what it says of each moment and of each step is in `specs/Sentences`, in the words of `channel_steps` and
-//! `channel_world_runs`.
+//! `channel_world_model` says what calls made one at a time do. One record, in `specs/Headline`, says what runs of steps do;
+//! `specs/Sentences` has what it says of each moment and of each step, in the words of `channel_steps` and `channel_world_runs`.
+//!
+//! # Extensions
+//!
+//! All of this crate; what the calls answer is as in `async-channel` 2.5.0.
 #![tactic(auto)]
 
 pub mod account;

@@ -18,7 +18,7 @@ fn stopped<T: Drop>(trace: Vec<Entry<T>>, why: WorldRefusal) -> Run<T>
     Run { trace, stopped }
 }
 
-/// Takes room for one more step and for its entry, if there is any.
+/// Reserves room for one more step and for its entry, if there is any.
 fn have_room<T: Drop>(steps: &mut VecDeque<Step<T>>, trace: &mut Vec<Entry<T>>) -> bool
     ensures steps { steps.new.items ≡ steps.old.items }
     ensures trace { trace.new.items ≡ trace.old.items }
@@ -42,7 +42,7 @@ impl<T: Drop> World<T> {
     ghost use Rattle.channel_world.specs.TheEnd.{NothingComesAfter};
     ghost use Rattle.channel_world.specs.View.{messages_in, StandsIn, Stands};
 
-    /// Makes one step of this party in the room that was taken, and says whether its call answered; or why the step is refused.
+    /// Makes one step of this party in the room that was reserved, and says whether its call answered; or why the step is refused.
     fn step_party(
         &mut self,
         party: PartyId,
@@ -70,19 +70,18 @@ impl<T: Drop> World<T> {
         Ok(answered)
     }
 
-    /// Runs steps of one party, so many at most, up to the one in which its call answers; for whoever doesn't want to count the
-    /// steps of a call. A call that begins is one step of [`World::run_steps`], and is not made here.
+    /// Runs steps of one party, at most `most`, up to the one in which its call answers, for a caller that doesn't want to count the steps
+    /// of a call. A call that begins is one step of [`World::run_steps`], and is not made here.
     ///
-    /// It is `run_steps` of a list of so many steps of this party, with the same trace, an entry for each step, and all that is
-    /// promised of that. No step is asked for after the one that answers, which is the last entry then. There are fewer than
-    /// `most` only where the call answered, or where a step was refused: `stopped` says after how many and why. So after `most`
-    /// steps without a reply its call is still under way, and a further run goes on with it.
+    /// It is `run_steps` of a list of so many steps of this party, with the same trace, an entry for each step, and all that is promised of
+    /// that. It makes no step after the one that answers, which is then the last entry. There are fewer than `most` only if the call
+    /// answered, or if a step was refused: `stopped` says after how many and why. So after `most` steps without a reply its call is still
+    /// under way, and a further run goes on with it.
     ///
-    /// A party with no call under way is refused as `Idle`, also one whose name is not known; nothing is done then. Else a step is
-    /// refused only for want of memory, `NoMemory`, with nothing of it done: its call is under way still. The positions of messages
-    /// can't be used up here, since a send is refused for them as it begins. Room for the first step is taken before anything else;
-    /// where that is refused it is `Err(NoMemory)`, whether the party has a call under way or not, and nothing is changed. Nothing
-    /// waits. Own to this project.
+    /// `Idle` refuses a party with no call under way, also one whose name is not known; nothing is done then. Otherwise a step is refused
+    /// only for want of memory, `NoMemory`, with nothing of it done: its call is still under way. The positions of messages can't be used
+    /// up here, since a send is refused for them when it begins. Room for the first step is reserved before anything else; if that is
+    /// refused it is `Err(NoMemory)`, whether the party has a call under way or not, and nothing is changed. It never waits.
     pub fn run_party(&mut self, party: PartyId, most: usize) -> Result<Run<T>, NoMemory>
         ensures headline { IfOk result (λ run. (s : Configuration T Waiter) → StandsIn self.old s → Headline
             (replicate (steps_asked run.trace.items run.stopped) (Step.Step party)) (refused_of party run.stopped)

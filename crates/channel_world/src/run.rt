@@ -1,4 +1,4 @@
-//! Whole lists of calls.
+//! Whole lists of calls, made one at a time: each call ends before the next begins, so nothing comes between its steps.
 use super::call::{Call, CallRun, Done, Stopped, WorldRefusal};
 use super::world::World;
 use std::collections::VecDeque;
@@ -10,7 +10,7 @@ impl<T: Drop> World<T> {
     ghost use Rattle.channel_world.specs.Carried.{replied_in, LeadsTo};
     ghost use Rattle.channel_world.specs.View.{at_rest, IsQuiet, Stands};
 
-    /// Why the list of calls stops at this one, if it does; where it doesn't, there is room for what it answers.
+    /// Why the list of calls stops at this one, if it does; if not, there is room for what it answers.
     fn stop(&self, call: &Call<T>, done: &mut Vec<Done<T>>) -> Option<WorldRefusal>
         requires quiet { IsQuiet self.now }
         ensures why { MayStop (at_rest self.now) call.now result }
@@ -24,16 +24,16 @@ impl<T: Drop> World<T> {
         why
     }
 
-    /// Makes calls from the front, each from its begin to its end, up to the first that is refused.
+    /// Makes calls from the front, each from its beginning to its end, up to the first that is refused.
     ///
-    /// A refused call stays in front, with nothing of it done; `stopped` says at which place of the list, counted from
-    /// 0, and why. The room for a call's answer is taken before it begins, and where that is refused the call is too. So is a send
-    /// that might bring the 2^61st message, where the channel has more than one place.
+    /// A refused call stays in front, with nothing of it done; `stopped` says at which place of the list, counted from 0, and why. The room
+    /// for a call's answer is reserved before it begins, and if that is refused the call is too. So is a send that might bring the 2^61st
+    /// message, if the channel has more than one place.
     ///
-    /// No call is under way when this begins, and none when it ends; however the world came about, by calls or by steps of
-    /// any parties. From each configuration in which the world stood steps lead to one in which it stands, on which just those replies were
-    /// given, in order, that are answered here; and what left the channel, followed by what it holds, is what it held followed by
-    /// what came, in order. Nothing here waits. Own to this project.
+    /// No call is under way when this begins, and none when it ends; however the world came about, by calls or by steps of any parties.
+    /// From each configuration in which the world stood steps lead to one in which it stands, on which just those replies were given, in
+    /// order, that are answered here; and what left the channel, followed by what it holds, is what it held followed by what came, in
+    /// order. It never waits.
     pub fn run_calls(&mut self, calls: &mut VecDeque<Call<T>>) -> CallRun<T>
         requires quiet { IsQuiet self.old }
         ensures run { Runs (at_rest self.old) calls.old.items result.done.items (option_map (λ s. s.why) result.stopped) calls.new.items (at_rest self.new) }

@@ -1,4 +1,5 @@
-//! Settling: those who are pending and were woken are polled, the one whose wake is oldest first, until nobody is woken.
+//! Settling: the operations and streams that are pending and were woken are polled, the one whose wake is oldest first, until nobody is
+//! woken.
 
 ghost use Rattle.std.specs.Prelude.{◌≡◌, ◌≤◌, [], vec_capacity, IfSome};
 
@@ -13,16 +14,16 @@ use channel_world_runs::settle::Polled;
 use event_listener::error::NoMemory;
 use std::alloc::{AllocError, Global};
 
-/// One poll of a settling. Own to this project.
+/// One poll of a settling.
 #[derive(Drop)]
 pub struct Settled<T> {
-    /// Who was polled.
+    /// The name that was polled.
     pub name: Waiter,
     /// What the poll answered.
     pub reply: Reply<T>,
 }
 
-/// These names with room for so many more, and room for as many answers. None where it was refused.
+/// These names with room for so many more, and room for as many answers. `None` if it was refused.
 fn take_room<T: Drop>(
     mut names: Vec<Waiter>,
     most: usize,
@@ -49,7 +50,7 @@ impl<T: Drop> World<T> {
     ghost use Rattle.channel_world.specs.Settled.{Polls, PollHasPosition, HasPositionsToSettle, most_accepted, most_polls, pending_on};
     ghost use Rattle.channel_world.specs.View.{names_in, at_rest, has_one_place, accepted_by_now, IsQuiet, LeadsOn};
 
-    /// How many are pending on this line, where these are woken. None where there is no such number.
+    /// How many are pending on this wait queue, given those that are woken. `None` if the number doesn't fit.
     fn pending_on(&self, line: WaitList, woken: &Vec<Waiter>) -> Option<usize>
         requires quiet { IsQuiet self.now }
         requires woken { woken.now.items ≡ (at_rest self.now).waiting.woken }
@@ -62,7 +63,7 @@ impl<T: Drop> World<T> {
         self.world_state.channel.waiting(line).checked_add(told)
     }
 
-    /// How many polls settling makes at most, where these are woken. None where there is no such number.
+    /// How many polls settling makes at most, given those that are woken. `None` if the number doesn't fit.
     fn most_polls(&self, woken: &Vec<Waiter>) -> Option<usize>
         requires quiet { IsQuiet self.now }
         requires woken { woken.now.items ≡ (at_rest self.now).waiting.woken }
@@ -76,9 +77,9 @@ impl<T: Drop> World<T> {
         by_sends.checked_add(others)?.checked_add(woken.len())
     }
 
-    /// How many messages settling accepts at most, where these are woken. None where there is no such number.
+    /// How many messages settling accepts at most, given those that are woken. `None` if the number doesn't fit.
     ///
-    /// Into a closed channel none comes. With a bound no more come than places are free and, by who takes a message, are freed.
+    /// Into a closed channel none comes. With a bound no more come than places are free and are freed by those that take a message.
     fn most_accepted(&self, woken: &Vec<Waiter>) -> Option<usize>
         requires quiet { IsQuiet self.now }
         requires woken { woken.now.items ≡ (at_rest self.now).waiting.woken }
@@ -99,8 +100,8 @@ impl<T: Drop> World<T> {
         Some(sends.min(places))
     }
 
-    /// Whether the queue has positions for the messages that a settling accepts, where these are woken. Where nobody is woken nobody is
-    /// polled, so there it needs none.
+    /// Whether the queue has positions for the messages that a settling accepts, given those that are woken. If nobody is woken nobody is
+    /// polled, so it needs none.
     fn has_positions_to_settle(&self, woken: &Vec<Waiter>) -> bool
         requires quiet { IsQuiet self.now }
         requires woken { woken.now.items ≡ (at_rest self.now).waiting.woken }
@@ -111,7 +112,7 @@ impl<T: Drop> World<T> {
         woken.is_empty() || matches!(most, Some(count) if self.has_positions(count))
     }
 
-    /// Those who are pending and were woken, in the order of their waking. A walk over all names that are polled or pending.
+    /// Those that are pending and were woken, in the order of their waking. It walks over all names that are polled or pending.
     fn woken_names(&self) -> Result<Vec<Waiter>, AllocError>
         ensures { IfOk result (λ names. names.items ≡ (at_rest self.now).waiting.woken) }
     {
@@ -119,8 +120,8 @@ impl<T: Drop> World<T> {
         state.order.woken(state.alloc)
     }
 
-    /// Those who are woken, and room for all that settling answers. None where it was refused, or where somebody is woken and the queue has
-    /// no positions for the messages that come in.
+    /// Those that are woken, and room for all that settling answers. `None` if it was refused, or if somebody is woken and the queue has no
+    /// positions for the messages that come in.
     fn room_to_settle(&self) -> Option<(Vec<Waiter>, Vec<Settled<T>>)>
         requires quiet { IsQuiet self.now }
         ensures names { IfSome result (λ r. r.0.items ≡ (at_rest self.now).waiting.woken) }
@@ -138,7 +139,7 @@ impl<T: Drop> World<T> {
         }
     }
 
-    /// Polls one that is pending and was woken. Those whom the poll wakes go after the names, where there is room for them.
+    /// Polls one that is pending and was woken. Those that the poll wakes go after the names, as far as there is room for them.
     fn poll_woken(&mut self, name: Waiter, names: Vec<Waiter>) -> Polled<T>
         requires quiet { IsQuiet self.old }
         requires woken { is_among name (at_rest self.old).waiting.woken ≡ true }
@@ -168,26 +169,26 @@ impl<T: Drop> World<T> {
     ghost use Rattle.channel_world.specs.View.{names_in, at_rest, IsQuiet, Stands};
 
     /// Polls those who are pending and were woken, the one whose wake is oldest first, again and again until nobody is woken;
-    /// and says whom it polled, in order, and what each poll answered.
+    /// and answers which names it polled, in order, and what each poll answered.
     ///
-    /// Whom a poll wakes is polled in its turn; who was not woken is not polled. A stream is polled even while a live operation
-    /// borrows its receiver. Where w operations and streams are pending, there are w(w+1)/2 polls at most. Where k of them are woken,
-    /// s are sends, r receives and n streams, there are k + s(n + 2) + 2r + n at most: only a send whose message is accepted wakes
-    /// streams. After them nobody is woken, and nobody is pending whom a message, a free place or a closing lets go on. So where
-    /// `pending()` was 1 there is one poll at most. Where `messages()` is above 0 after it no receive and no stream is pending, and no send
-    /// where the channel is open and one more message fits.
+    /// One that a poll wakes is polled in its turn; one that was not woken is not polled. A stream is polled even while a live operation
+    /// borrows its receiver. If w operations and streams are pending, there are at most w(w+1)/2 polls. If k of them are woken, s are
+    /// sends, r receives and n streams, there are at most k + s(n + 2) + 2r + n: only a send whose message is accepted wakes streams. After
+    /// them nobody is woken, and nobody is pending that a message, a free place or a closing lets go on. So if `pending()` was 1 there is
+    /// one poll at most. If `messages()` is above 0 after it no receive and no stream is pending, and no send if the channel is open and
+    /// one more message fits.
     ///
-    /// Room for just that many answers, and for as many names, is taken before the first poll. Where it is refused, it is `NoMemory`, and
-    /// nothing is changed. So it is, where somebody is woken and the channel has more than one place, if the messages that were accepted
-    /// and those that may come in come to 2^61. These are none where the channel is closed. Else they are as many as sends are pending, or
-    /// as places are free and receives and streams are pending, which is less. No poll is refused memory: where it goes on waiting, the
-    /// node of the listener that was told serves the next one. So a settling is refused its room, or it settles. Only once all 2^64 - 1
-    /// serial numbers of a list of listeners were given, the reply of a poll that would go on waiting there says that none was left, and it
-    /// is pending no more; all the rest holds as before.
+    /// Room for just that many answers, and for as many names, is reserved before the first poll. If it is refused, the answer is
+    /// `NoMemory`, and nothing is changed. The same if somebody is woken, the channel has more than one place, and the messages that were
+    /// accepted and those that may come in come to 2^61. If the channel is closed none may come in. Otherwise they are as many as sends are
+    /// pending, or as places are free and receives and streams are pending, which is less. No poll is refused memory: if it goes on
+    /// waiting, the node of the listener that was told serves the next one. So a settling is refused its room, or it settles. Only once all
+    /// 2^64 - 1 serial numbers of a wait queue were given, the reply of a poll that would go on waiting there says that none was left, and
+    /// it is pending no more; all the rest holds as before.
     ///
-    /// No call is to be under way, and none is after it. From each configuration in which the world stood steps lead to one in which it
+    /// No call may be under way, and none is after it. From each configuration in which the world stood steps lead to one in which it
     /// stands, on which just the replies of these polls were given, in order. What left the channel, followed by what it holds, is what it
-    /// held followed by what came, in order. Nothing waits. Own to this project.
+    /// held followed by what came, in order. It never waits.
     pub fn settle(&mut self) -> Result<Vec<Settled<T>>, NoMemory>
         requires quiet { IsQuiet self.old }
         ensures polls { IfOk result (λ polls. Settles (at_rest self.old) (polls_in polls.items) (at_rest self.new)) }

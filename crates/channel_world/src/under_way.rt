@@ -1,4 +1,4 @@
-//! The calls under way on a world, by what they are to those who wait.
+//! The calls under way on a world, by what they are to waiting operations.
 
 ghost use Rattle.std.specs.Prelude.{◌≡◌};
 ghost use Rattle.channel_world_runs.specs.Owed.{is_sending, is_receiving};
@@ -7,13 +7,13 @@ use super::world::World;
 use channel_world_runs::activity::Role;
 use channel_world_runs::calls::CallUnderWay;
 
-/// How many calls are under way, by what they are to those who wait. One that has closed the channel is neither sending nor receiving,
-/// and so are questions, clones and drops. Own to this project.
+/// How many calls are under way, by what they are to waiting operations. One that has closed the channel is neither sending nor receiving,
+/// and so are questions, clones and drops.
 #[derive(Clone, Copy, Debug, PartialEq, Eq)]
 pub struct UnderWay {
-    /// Sends, displacing sends, and polls and the giving up of a send.
+    /// Sends, displacing sends, and polls of a send and giving it up.
     pub sending: usize,
-    /// Receives of one message or of several, polls of a stream, and polls and the giving up of a receive.
+    /// Receives of one message or of several, polls of a stream, and polls of a receive and giving it up.
     pub receiving: usize,
     /// Those that have closed the channel.
     pub closers: usize,
@@ -37,7 +37,7 @@ impl<T: Drop> World<T> {
     ghost use Rattle.std.specs.Prelude.{◌≡◌};
     ghost use Rattle.channel_world.specs.View.{observation_of};
 
-    /// How many calls are under way of each kind. A walk over the calls under way. Own to this project.
+    /// How many calls are under way of each kind. It walks over the calls under way.
     pub fn calls_by_kind(&self) -> UnderWay
         ensures sending { result.sending ≡ (observation_of self.now).sending }
         ensures receiving { result.receiving ≡ (observation_of self.now).receiving }

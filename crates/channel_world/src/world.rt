@@ -1,4 +1,5 @@
-//! A channel, its handles and operations by their names: calls made one at a time, and steps of any interleaving.
+//! A channel, its handles and operations by their names: calls made one at a time, and steps of any interleaving. The world owns the
+//! channel, so nothing else makes a step on it; the invariant is that it stands for a channel with just the calls that it has under way.
 use super::call::{Call, Done, WorldRefusal};
 use super::step::{Run, Step};
 use channel_calls::error::OpenError;
@@ -11,12 +12,14 @@ use std::alloc::Global;
 use std::collections::VecDeque;
 use std::marker::Model;
 
-/// A channel, its handles and operations by their names, who waits, and the calls that several parties have under way.
+/// A channel, its handles and operations by their names, which of them wait, and the calls that several parties have under way.
 ///
-/// Handle 0 is the first sender, handle 1 the first receiver. Calls are made one at a time by `run_calls`, each from its begin
-/// to its end, or by steps of several parties in any order by `run_steps`; the one may follow the other wherever no call is
-/// under way. However a world came about, its cells, lists and counts stand for a channel with just these calls under way. Own to
-/// this project; what the calls answer is as in `async-channel` 2.5.0.
+/// Handle 0 is the first sender, handle 1 the first receiver. Calls are made one at a time by `run_calls`, each from its beginning to its
+/// end, or by steps of several parties in any order by `run_steps`; the one may follow the other whenever no call is under way. However a
+/// world came about, its cells, wait queues and counts stand for a channel with just these calls under way. What the calls answer is as in
+/// `async-channel` 2.5.0.
+///
+/// No method waits, and the questions cost constant time except where they say that they walk.
 #[derive(Drop)]
 pub struct World<T> {
     pub(crate) world_state: WorldState<T>,
@@ -63,11 +66,10 @@ impl<T: Drop> World<T> {
         Ok(World { world_state })
     }
 
-    /// An open channel of this capacity, without a message, and nobody at work.
+    /// An open channel of this capacity, without a message and with no call under way.
     ///
-    /// Memory is taken first, and then four identities together or none. A capacity above 2^58 is want of memory,
-    /// without asking for any. As `bounded` of `async-channel` 2.5.0, which takes no source of
-    /// identities.
+    /// Memory is taken first, and then four identities together or none. A capacity above 2^58 is want of memory, without asking for any.
+    /// As `bounded` of `async-channel` 2.5.0, which takes no source of identities.
     pub fn bounded(
         alloc: Global,
         capacity: usize,
@@ -88,10 +90,10 @@ impl<T: Drop> World<T> {
         World::open(alloc, QueueForm::Bounded(capacity), ids)
     }
 
-    /// An open channel for any number of messages, without a message, and nobody at work.
+    /// An open channel for any number of messages, without a message and with no call under way.
     ///
-    /// Memory is taken first, and then four identities together or none. As `unbounded` of `async-channel` 2.5.0,
-    /// which takes no source of identities.
+    /// Memory is taken first, and then four identities together or none. As `unbounded` of `async-channel` 2.5.0, which takes no source of
+    /// identities.
     pub fn unbounded(alloc: Global, ids: &mut EventIds) -> Result<World<T>, OpenError>
         ensures open { IfOk result (λ world. at_rest world ≡ start None) }
         ensures shown { IfOk result (λ world. IsJustOpened None world) }
@@ -119,27 +121,26 @@ impl<T: Drop> World<T> {
     ghost use Rattle.channel_world.specs.TheEnd.{NothingComesAfter};
     ghost use Rattle.channel_world.specs.View.{names_in, woken_in, messages_in, capacity_in, is_closed, calls_in, at_rest, name_state_of, TellsQuiet, HasPositions, StandsIn, Stands, RanTo};
 
-    /// Runs steps of any parties, from the front. The first one that is refused stays in front, with nothing of it done;
-    /// `stopped` says at which place of the list, counted from 0, and why.
+    /// Runs steps of any parties, from the front. The first one that is refused stays in front, with nothing of it done; `stopped` says at
+    /// which place of the list, counted from 0, and why.
     ///
-    /// A step is one step of one call; a call that begins touches nothing. For every list of steps, from any world, calls under
-    /// way or not, and wherever the list ends: what left the channel, followed by what it holds, is what it held followed by
-    /// what it accepted, in order; each reply is a plain closable list's at moments of its call; and at no moment does a
-    /// pending operation stay unwoken beside a message, free place or closing that no woken operation or call under way answers
-    /// for. `specs/Headline` has this sentence by sentence, of the run; `specs/Sentences` of each moment and of each step.
+    /// A step is one step of one call; a call that begins touches nothing. For every list of steps, from any world, calls under way or not,
+    /// and wherever the list ends: what left the channel, followed by what it holds, is what it held followed by what it accepted, in
+    /// order; each reply is a plain closable list's at moments of its call; and at no moment does a pending operation stay unwoken beside a
+    /// message, free place or closing unless a woken operation or a call under way is responsible. `specs/Headline` has this sentence by
+    /// sentence, of the run; `specs/Sentences` of each moment and of each step.
     ///
     /// The promise is of every configuration in which the world stood: a plain channel with the calls under way on it, each with its
-    /// moments and marks so far. Some such configuration there always is, and a run or a list of calls that comes after leads on from
-    /// the one to which this one came: the replies that were given since a configuration, and the accounts of all that was done since, are
-    /// carried through each of them. The numbers of messages before and after it need none, nor do those of the steps: those that
-    /// were made, of which the trace has an entry each, and those that are left are all; and where it didn't stop none is left.
+    /// moments and marks so far. Some such configuration there always is, and a run or a list of calls that comes after leads on from the
+    /// one to which this one came: the replies that were given since a configuration, and the accounts of all that was done since, are
+    /// carried through each of them. The numbers of messages before and after it need none, nor do those of the steps: those that were
+    /// made, of which the trace has an entry each, and those that are left are all; and if it didn't stop none is left.
     ///
-    /// A step is refused for the first of these reasons that there is: the party that begins is at work; the one that steps
-    /// isn't; a used name doesn't live; what lives there is of another kind; its operation or its receiver's stream is being
-    /// polled; it drops, or polls as a stream, a handle in use; a new name was taken. Else it may be refused for want of
-    /// memory. So is the begin of a send that might bring the 2^61st message, where the channel has more than one place; one place
-    /// counts no positions, so there no send is refused for them. Nothing is refused for the number of steps or calls. Nothing
-    /// waits. Own to this project.
+    /// A step is refused for the first of these reasons that holds: the party that begins is at work; the one that steps isn't; a used name
+    /// doesn't live; what lives there is of another kind; its operation or its receiver's stream is being polled; it drops, or polls as a
+    /// stream, a handle in use; a new name was taken. Otherwise it may be refused for want of memory. So is the begin of a send that might
+    /// bring the 2^61st message, if the channel has more than one place; one place counts no positions, so there no send is refused for
+    /// them. Nothing is refused for the number of steps or calls.
     pub fn run_steps(&mut self, steps: &mut VecDeque<Step<T>>) -> Run<T>
         ensures headline { (s : Configuration T Waiter) → StandsIn self.old s
             → Headline steps.old.items steps.new.items self.old result.trace.items result.stopped self.new s }
@@ -165,14 +166,14 @@ impl<T: Drop> World<T> {
         self.world_state.run_steps(steps)
     }
 
-    /// Says that every world stands in a configuration, and does nothing. Own to this project.
+    /// States that every world stands in a configuration, and does nothing.
     pub fn keeps(&self)
         ensures { Stands self.now }
     {
         self.keeps_names();
     }
 
-    /// Says that it stands in a configuration, and that no name stands twice; and does nothing.
+    /// States that it stands in a configuration, and that no name stands twice; and does nothing.
     pub(crate) fn keeps_names(&self)
         ensures stands { Stands self.now }
         ensures apart { AreApart (names_in self.now) }
@@ -181,22 +182,21 @@ impl<T: Drop> World<T> {
         let _operations = self.world_state.name_table.operations.iter();
     }
 
-    /// Whether no call is under way. Own to this project.
+    /// Whether no call is under way.
     pub fn is_quiet(&self) -> bool
         ensures { TellsQuiet self.now result }
     {
         self.world_state.calls.is_empty()
     }
 
-    /// How many calls are under way. Own to this project.
+    /// How many calls are under way.
     pub fn under_way(&self) -> usize
         ensures { result ≡ calls_in self.now }
     {
         self.world_state.calls.len()
     }
 
-    /// Whether the queue has positions for so many more messages. One place alone needs none, so there it is always so. Own to
-    /// this project.
+    /// Whether the queue has positions for so many more messages. With one place it needs none, so there this is always true.
     pub fn has_positions(&self, count: usize) -> bool
         ensures enough { IsTrue result → HasPositions count self.now }
         ensures all { HasPositions count self.now → IsTrue result }
@@ -205,37 +205,36 @@ impl<T: Drop> World<T> {
         self.world_state.has_positions(count)
     }
 
-    /// How many messages the channel can hold; none where there is no bound. Own to this project.
+    /// How many messages the channel can hold; `None` without a bound.
     pub fn capacity(&self) -> Option<usize>
         ensures { result ≡ capacity_in self.now }
     {
         self.world_state.channel.capacity()
     }
 
-    /// Whether the channel is closed, by its cells as they are: a call that is to close it may be under way. Own to this project.
+    /// Whether the channel is closed, by its cells as they are: a call that is to close it may be under way.
     pub fn is_closed(&self) -> bool
         ensures { result ≡ is_closed self.now }
     {
         self.world_state.channel.is_closed()
     }
 
-    /// How many messages the channel holds. Own to this project.
+    /// How many messages the channel holds.
     pub fn messages(&self) -> u64
         ensures { result ≡ messages_in self.now }
     {
         self.world_state.messages
     }
 
-    /// How many operations and streams are pending: they live, their last poll ended so, and no poll of them is under way.
-    /// A walk over all names. Own to this project.
+    /// How many operations and streams are pending: they live, their last poll ended so, and no poll of them is under way. It walks over
+    /// all names.
     pub fn pending(&self) -> usize
         ensures { result ≡ how_many stands_pending (names_in self.now) }
     {
         self.world_state.name_table.count_pending()
     }
 
-    /// How many of those that are pending were woken since their last poll. A walk over all names that are polled or pending. Own to
-    /// this project.
+    /// How many of those that are pending were woken since their last poll. It walks over all names that are polled or pending.
     pub fn woken(&self) -> usize
         ensures { result ≡ length (woken_in self.now) }
     {
@@ -251,7 +250,7 @@ impl<T: Drop> World<T> {
     ghost use Rattle.channel_world.specs.View.{at_rest, IsQuiet, LeadsOn};
     ghost use Rattle.channel_world.specs.World.{most_woken};
 
-    /// How many names the call may wake, at most; None where there is no such number.
+    /// How many names the call may wake, at most; `None` if the number doesn't fit.
     pub(crate) fn room_for(&self, call: &Call<T>) -> Option<usize>
         ensures { IfSome result (λ n. most_woken call.now (at_rest self.now).waiting ≤ n) }
     {
@@ -269,7 +268,7 @@ impl<T: Drop> World<T> {
         }
     }
 
-    /// Makes a call that is not refused, alone; or hands it back where its answer got no room, with nothing changed.
+    /// Makes a call that is not refused, with no other under way; or returns it if its answer got no room, with nothing changed.
     pub(crate) fn answer(&mut self, call: Call<T>) -> Result<Done<T>, Call<T>>
         requires quiet { IsQuiet self.old }
         requires accepted { refusal (at_rest self.old) call ≡ None }

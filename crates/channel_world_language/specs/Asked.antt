@@ -5,7 +5,9 @@ use Rattle.channel_world_model.specs.Names.{Names, at}
 use Rattle.channel_world_model.specs.declared.call.Call.{Call}
 use Rattle.channel_world_model.specs.declared.call.Call.TheVariants as call
 use Rattle.channel_world_language.specs.Words.{Name}
-use Rattle.channel_world_language.specs.Command.{Command, Question, try_send, force_send, try_recv, recv_many, send, recv, closed, poll, next, drop, close, clone, downgrade, upgrade, same_channel, is_terminated, ask, settle, is_closed, is_empty, is_full, len, capacity, sender_count, receiver_count}
+use Rattle.channel_world_language.specs.Command.{Command, try_send, force_send, try_recv, recv_many, send, recv, closed, poll, next, drop, close, clone, downgrade, upgrade, same_channel, is_terminated, ask, settle}
+use Rattle.channel_world_language.specs.declared.command.Question.{Question}
+use Rattle.channel_world_language.specs.declared.command.Question.TheVariants as question
 use Rattle.channel_world_language.specs.Table.{Table, named_in, number_in}
 use Rattle.channel_world_language.specs.declared.table.Sort.{Sort}
 use Rattle.channel_world_language.specs.declared.table.Sort.TheVariants as sort
@@ -89,13 +91,13 @@ of_either (Some (named.Handle handle)) by_handle by_op = Some (by_handle handle)
 of_either (Some (named.Op op)) by_handle by_op = Some (by_op op)
 
 abbrev pub question_call : Question → HandleId → Call ℕ
-question_call is_closed h = call.IsClosed h
-question_call is_empty h = call.IsEmpty h
-question_call is_full h = call.IsFull h
-question_call len h = call.Len h
-question_call capacity h = call.Capacity h
-question_call sender_count h = call.SenderCount h
-question_call receiver_count h = call.ReceiverCount h
+question_call question.IsClosed h = call.IsClosed h
+question_call question.IsEmpty h = call.IsEmpty h
+question_call question.IsFull h = call.IsFull h
+question_call question.Len h = call.Len h
+question_call question.Capacity h = call.Capacity h
+question_call question.SenderCount h = call.SenderCount h
+question_call question.ReceiverCount h = call.ReceiverCount h
 
 -- the handle, and the operation, that a command makes: their number is the next one
 abbrev pub new_handle : Table → HandleId

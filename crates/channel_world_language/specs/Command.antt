@@ -2,16 +2,10 @@
 use Rattle.std.specs.Prelude.{ℕ, ◌==◌, List, [], ◌∷◌, ◌++◌, length, nat_lt, Option, None, Some, codes, option_and_then, if◌then◌else◌}
 use Rattle.std.specs.Str.{bytes_eq}
 use Rattle.channel_world_language.specs.Words.{Name, words_of, first_name, first_number}
-
--- a question to a strong handle
-pub data Question : Type 0 where
-  is_closed : Question
-  is_empty : Question
-  is_full : Question
-  len : Question
-  capacity : Question
-  sender_count : Question
-  receiver_count : Question
+use Rattle.channel_world_language.specs.declared.command.Opening.{Opening}
+use Rattle.channel_world_language.specs.declared.command.Opening.TheVariants as opening
+use Rattle.channel_world_language.specs.declared.command.Question.{Question}
+use Rattle.channel_world_language.specs.declared.command.Question.TheVariants as question
 
 -- a command of the language; a new name stands first
 pub data Command : Type 0 where
@@ -98,13 +92,13 @@ handle_commands =
 -- questions
 abbrev pub question_commands : List (List ℕ × Form Command)
 question_commands =
-    (codes "is_closed", a_name (λ h. that_is (ask is_closed h)))
-    ∷ (codes "is_empty", a_name (λ h. that_is (ask is_empty h)))
-    ∷ (codes "is_full", a_name (λ h. that_is (ask is_full h)))
-    ∷ (codes "len", a_name (λ h. that_is (ask len h)))
-    ∷ (codes "capacity", a_name (λ h. that_is (ask capacity h)))
-    ∷ (codes "sender_count", a_name (λ h. that_is (ask sender_count h)))
-    ∷ (codes "receiver_count", a_name (λ h. that_is (ask receiver_count h)))
+    (codes "is_closed", a_name (λ h. that_is (ask question.IsClosed h)))
+    ∷ (codes "is_empty", a_name (λ h. that_is (ask question.IsEmpty h)))
+    ∷ (codes "is_full", a_name (λ h. that_is (ask question.IsFull h)))
+    ∷ (codes "len", a_name (λ h. that_is (ask question.Len h)))
+    ∷ (codes "capacity", a_name (λ h. that_is (ask question.Capacity h)))
+    ∷ (codes "sender_count", a_name (λ h. that_is (ask question.SenderCount h)))
+    ∷ (codes "receiver_count", a_name (λ h. that_is (ask question.ReceiverCount h)))
     ∷ []
 
 -- all that make one call
@@ -116,9 +110,5 @@ abbrev pub all_commands : List (List ℕ × Form Command)
 all_commands = call_commands ++ (codes "settle", that_is settle) ∷ []
 
 -- the first line: a channel of a capacity, or of any number of messages
-pub data Opening : Type 0 where
-  bounded : ℕ → Opening
-  unbounded : Opening
-
 abbrev pub openings : List (List ℕ × Form Opening)
-openings = (codes "bounded", a_number (λ n. that_is (bounded n))) ∷ (codes "unbounded", that_is unbounded) ∷ []
+openings = (codes "bounded", a_number (λ n. that_is (opening.Bounded n))) ∷ (codes "unbounded", that_is opening.Unbounded) ∷ []

@@ -2,7 +2,7 @@
 use Rattle.std.specs.Prelude.{ℕ, Option, None, Some}
 use Rattle.channel_world_language.specs.Asked.{question_call}
 use Rattle.channel_world_language.specs.Command as say
-use Rattle.channel_world_language.specs.Command.{Command, Form, a_name, a_number, that_is, Opening, bounded, unbounded}
+use Rattle.channel_world_language.specs.Command.{Command, Form, a_name, a_number, that_is}
 use Rattle.channel_world_language.specs.Words.{Name}
 use Rattle.channel_world_language.specs.declared.command.Command.{Command as Parsed}
 use Rattle.channel_world_language.specs.declared.command.Command.TheVariants as parsed
@@ -12,10 +12,6 @@ use Rattle.channel_world_language.specs.declared.command.Line.{Line}
 use Rattle.channel_world_language.specs.declared.command.Line.TheVariants as line
 use Rattle.channel_world_language.specs.declared.command.Making.{Making}
 use Rattle.channel_world_language.specs.declared.command.Making.TheVariants as making
-use Rattle.channel_world_language.specs.declared.command.Opening.{Opening as ParsedOpening}
-use Rattle.channel_world_language.specs.declared.command.Opening.TheVariants as opening
-use Rattle.channel_world_language.specs.declared.command.Question.{Question}
-use Rattle.channel_world_language.specs.declared.command.Question.TheVariants as question
 use Rattle.channel_world_language.specs.declared.command.Sending.{Sending}
 use Rattle.channel_world_language.specs.declared.command.Sending.TheVariants as sending
 use Rattle.channel_world_language.specs.declared.command.Verb.{Verb}
@@ -29,15 +25,6 @@ use Rattle.channel_world_model.specs.declared.call.Call.TheVariants as call
 use Rattle.channel_world_model.specs.declared.name.HandleId.{HandleId}
 use Rattle.channel_world_model.specs.declared.name.OpId.{OpId}
 
-abbrev pub asked_as : Question → say.Question
-asked_as question.IsClosed = say.is_closed
-asked_as question.IsEmpty = say.is_empty
-asked_as question.IsFull = say.is_full
-asked_as question.Len = say.len
-asked_as question.Capacity = say.capacity
-asked_as question.SenderCount = say.sender_count
-asked_as question.ReceiverCount = say.receiver_count
-
 abbrev pub sent_by : Sending → Name → ℕ → Command
 sent_by sending.Try s m = say.try_send s m
 sent_by sending.Force s m = say.force_send s m
@@ -49,7 +36,7 @@ done_to doing.Poll o = say.poll o
 done_to doing.Drop x = say.drop x
 done_to doing.Close h = say.close h
 done_to doing.IsTerminated x = say.is_terminated x
-done_to (doing.Ask q) h = say.ask (asked_as q) h
+done_to (doing.Ask q) h = say.ask q h
 
 abbrev pub made_by : Making → Name → Name → Command
 made_by making.Recv o r = say.recv o r
@@ -69,10 +56,6 @@ said (parsed.SameChannel a b) = say.same_channel a.now b.now
 abbrev pub said_line : Line → Command
 said_line (line.Call command) = said command
 said_line line.Settle = say.settle
-
-abbrev pub said_first : ParsedOpening → Opening
-said_first (opening.Bounded capacity) = bounded capacity
-said_first opening.Unbounded = unbounded
 
 -- how the words after a command's first word are read
 abbrev pub form_of : Verb → Form Command
@@ -109,7 +92,7 @@ handle_call doing.Poll h = None
 handle_call doing.Drop h = Some (call.Drop h)
 handle_call doing.Close h = Some (call.Close h)
 handle_call doing.IsTerminated h = Some (call.StreamIsTerminated h)
-handle_call (doing.Ask q) h = Some (question_call (asked_as q) h)
+handle_call (doing.Ask q) h = Some (question_call q h)
 
 abbrev pub op_call : Doing → OpId → Option (Call ℕ)
 op_call doing.Poll op = Some (call.Poll op)

@@ -29,11 +29,11 @@ numbered sort.Op n = named.Op (record { 0 = n })
 abbrev pub named_in : Table → Name → Option Named
 named_in table name = option_and_then (λ n. option_map (λ e. numbered e.1 n) (slice_get table n)) (number_in table name)
 
--- the number of one who is woken
+-- the number of one that is woken
 abbrev pub waiter_number : Waiter → ℕ
 waiter_number (Op op) = op.0
 waiter_number (Stream receiver) = receiver.0
 
--- the name of one who is woken; a stream has its receiver's name
+-- the name of one that is woken; a stream has its receiver's name
 abbrev pub waiter_name : Table → Waiter → Name
 waiter_name table w = option_map_or (λ e. e.0) (slice_get table (waiter_number w)) []

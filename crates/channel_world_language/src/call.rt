@@ -3,7 +3,7 @@ ghost use Rattle.std.specs.Prelude.{◌≡◌, ◌<◌, ◌^◌, ◌∷◌, leng
 ghost use Rattle.std.specs.Option.{option_map, option_to_list};
 ghost use Rattle.channel_world_language.specs.Table.{named_in};
 ghost use Rattle.channel_world_language.specs.Asked.{used, given, handle_of, question_call, call_of};
-ghost use Rattle.channel_world_language.specs.Said.{said, asked_as, sort_of, sending_call, making_call, doing_call};
+ghost use Rattle.channel_world_language.specs.Said.{said, sort_of, sending_call, making_call, doing_call};
 
 use crate::command::{Command, Doing, Making, Question, Sending};
 use crate::table::{Named, Sort, Table};
@@ -84,7 +84,7 @@ fn making_call(making: Making, number: u32, handle: HandleId) -> Call<u64>
 
 /// A question to a handle.
 fn question_call(question: Question, handle: HandleId) -> Call<u64>
-    ensures { result ≡ question_call (asked_as question) handle }
+    ensures { result ≡ question_call question handle }
 {
     match question {
         Question::IsClosed => Call::IsClosed { handle },
@@ -97,7 +97,7 @@ fn question_call(question: Question, handle: HandleId) -> Call<u64>
     }
 }
 
-/// What is done to a handle or an operation; None where it is done to the others alone.
+/// What is done to a handle or an operation; `None` if it can only be done to the other sort.
 fn doing_call(doing: Doing, named: Named) -> Option<Call<u64>>
     ensures { result ≡ doing_call doing named }
 {
@@ -115,7 +115,7 @@ fn doing_call(doing: Doing, named: Named) -> Option<Call<u64>>
     })
 }
 
-/// The call of a command; None where a name is of the wrong sort.
+/// The call of a command; `None` if a name is of the wrong sort.
 pub fn call_of(table: &Table<'_>, command: &Command<'_>) -> Option<Call<u64>>
     requires { length table.now < 2 ^ 32 }
     ensures { result ≡ call_of table.now (said command.now) }

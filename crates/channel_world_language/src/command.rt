@@ -4,7 +4,7 @@ ghost use Rattle.std.specs.Option.{option_map};
 ghost use Rattle.channel_world_language.specs.Words.{words_after};
 ghost use Rattle.channel_world_language.specs.Command.{openings, parse, read, that_is, for_word, call_commands};
 ghost use Rattle.channel_world_language.specs.Language.{today};
-ghost use Rattle.channel_world_language.specs.Said.{said, said_line, said_first, form_of};
+ghost use Rattle.channel_world_language.specs.Said.{said, said_line, form_of};
 
 use crate::words::{first_word, next_name, next_number};
 
@@ -23,7 +23,7 @@ pub enum Opening {
 /// A send that doesn't wait.
 #[derive(Clone, Copy)]
 pub enum Sending {
-    /// It is refused where the channel is full.
+    /// It is refused if the channel is full.
     Try,
     /// It displaces the oldest message of a full channel.
     Force,
@@ -180,14 +180,14 @@ fn verb_spelled(word: &[u8]) -> Option<Verb>
     VERBS.iter().find(|row| word == row.0).map(|row| row.1)
 }
 
-/// The value, where the line has no more words.
+/// The value, if the line has no more words.
 fn whole<T: Copy>(value: T, rest: Option<&[u8]>) -> Option<T>
     ensures { result ≡ read (that_is value) (words_after (option_copied rest.entry)) }
 {
     rest.is_none().then_some(value)
 }
 
-/// The command of a verb and what stands after it on its line.
+/// The command of a verb and what comes after it on its line.
 fn complete<'a>(verb: Verb, rest: Option<&'a [u8]>) -> Option<Command<'a>>
     ensures { option_map said result ≡ read (form_of verb) (words_after (option_copied rest.entry)) }
 {
@@ -231,7 +231,7 @@ fn complete<'a>(verb: Verb, rest: Option<&'a [u8]>) -> Option<Command<'a>>
     whole(command, rest)
 }
 
-/// What a line says; None where it can't be read.
+/// What a line says; `None` if it can't be read.
 pub fn parse_line(line: &[u8]) -> Option<Line<'_>>
     ensures { option_map said_line result ≡ parse today line.entry.now }
 {
@@ -246,9 +246,9 @@ pub fn parse_line(line: &[u8]) -> Option<Line<'_>>
     }
 }
 
-/// The channel that the first line of a script says; None where it can't be read.
+/// The channel that the first line of a script says; `None` if it can't be read.
 pub fn parse_opening(line: &[u8]) -> Option<Opening>
-    ensures { option_map said_first result ≡ parse openings line.now }
+    ensures { result ≡ parse openings line.now }
 {
     if line.len() > LINE_LIMIT {
         return None;

@@ -1,4 +1,4 @@
-//! The names of a script.
+//! The names of a script. The invariant: a look-up by name finds what a walk over all entries would find.
 
 use channel_world_model::name::{HandleId, OpId, Waiter};
 use std::alloc::{AllocError, Global};
@@ -65,7 +65,7 @@ impl<'a> Table<'a> {
         }
     }
 
-    /// What a name names; None where it was not given.
+    /// What a name names; `None` if it was not given.
     pub fn get(&self, name: &[u8]) -> Option<Named>
         ensures { result ≡ named_in self.now name.now }
     {
@@ -92,7 +92,7 @@ impl<'a> Table<'a> {
         self.entries.len() as u32
     }
 
-    /// Gives a new name. Where memory is refused nothing is known of the table.
+    /// Gives a new name. If memory is refused nothing is known of the table.
     pub fn give(&mut self, name: &'a [u8], sort: Sort) -> Result<(), AllocError>
         requires new { number_in self.old name.now ≡ None }
         requires few { length self.old < 2 ^ 32 }
@@ -105,7 +105,7 @@ impl<'a> Table<'a> {
         Ok(())
     }
 
-    /// The name of one who is woken.
+    /// The name of a task that is woken.
     pub fn waiter_name(&self, waiter: Waiter) -> &[u8]
         ensures { result.now ≡ waiter_name self.now waiter }
     {

@@ -63,7 +63,7 @@ fn fixed_text(reply: &Reply<u64>) -> Option<&'static [u8]>
     }
 }
 
-/// Adds the text of a reply; not where the call was refused memory or serials.
+/// Adds the text of a reply; nothing if the call was refused memory or serials.
 fn add_reply(reply: &Reply<u64>, line: &mut Vec<u8>) -> Result<(), AllocError>
     ensures text { OnOk result (line.new.items ≡ line.old.items ++ reply_text reply.now) }
     ensures whole { OnOk result (wants_growth reply.now ≡ false) }
@@ -103,7 +103,7 @@ fn add_wakes(table: &Table<'_>, woken: &[Waiter], line: &mut Vec<u8>) -> Result<
     Ok(())
 }
 
-/// Adds the line for what a call answered; not where it was refused memory or serials.
+/// Adds the line for what a call answered; nothing if it was refused memory or serials.
 pub fn add_answer(table: &Table<'_>, done: &Done<u64>, line: &mut Vec<u8>) -> Result<(), AllocError>
     ensures text { OnOk result (line.new.items ≡ line.old.items ++ reply_text done.now.reply ++ wakes_text table.now done.now.woken.items) }
     ensures whole { OnOk result (wants_growth done.now.reply ≡ false) }
@@ -112,7 +112,7 @@ pub fn add_answer(table: &Table<'_>, done: &Done<u64>, line: &mut Vec<u8>) -> Re
     add_wakes(table, done.woken.as_slice(), line)
 }
 
-/// Adds one poll of a settling: its name and its reply. Not where it was refused memory or serials.
+/// Adds one poll of a settling: its name and its reply; nothing if it was refused memory or serials.
 pub fn add_poll(
     table: &Table<'_>,
     name: Waiter,
@@ -127,7 +127,7 @@ pub fn add_poll(
     add_reply(reply, line)
 }
 
-/// What stands before the k-th poll of a settling.
+/// What comes before the k-th poll of a settling.
 pub fn part_before(k: usize) -> &'static [u8]
     ensures { result.now ≡ part_before k }
 {

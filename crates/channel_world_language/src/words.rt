@@ -12,7 +12,7 @@ fn place_of(byte: u8, text: &[u8]) -> Option<usize>
     text.iter().position(|b| *b == byte)
 }
 
-/// The first line without its end, and the text after it; None where there is no text.
+/// The first line without its end, and the text after it; `None` if there is no text.
 pub fn first_line(text: &[u8]) -> Option<(&[u8], &[u8])>
     ensures lines { MatchOption result (lines_of text.now ≡ []) (λ p. lines_of text.now ≡ p.0.now ∷ lines_of p.1.now) }
     ensures shorter { MatchOption result (length text.now ≡ 0) (λ p. length p.1.now < length text.now) }
@@ -54,7 +54,7 @@ fn is_name(bytes: &[u8]) -> bool
     }
 }
 
-/// The name that stands first in the rest of a line, and what stands after it; None where no name does.
+/// The name at the front of the rest of a line, and what comes after it; `None` if there is no name.
 pub fn next_name(rest: Option<&[u8]>) -> Option<(&[u8], Option<&[u8]>)>
     ensures { option_map (λ p. (p.0.now, words_after (option_copied p.1))) result ≡ first_name (words_after (option_copied rest.entry)) }
 {
@@ -92,7 +92,7 @@ pub fn number(digits: &[u8]) -> Option<u64>
     Some(value)
 }
 
-/// The number that stands first in the rest of a line, and what stands after it; None where no number does.
+/// The number at the front of the rest of a line, and what comes after it; `None` if there is no number.
 pub fn next_number(rest: Option<&[u8]>) -> Option<(u64, Option<&[u8]>)>
     ensures { option_map (λ p. (p.0, words_after (option_copied p.1))) result ≡ first_number (words_after (option_copied rest.entry)) }
 {

@@ -132,7 +132,7 @@ gain_next k line n m l p le (inr h) = elim (first_counts k line (untold line l) 
   | inr one ↦ inr (omega (arith, le, h, one, count_append (λ (w : Waiter). is_line line (k w)) l.woken (take 1 (untold line l))))
 ]
 
--- ---- one who is gone
+-- ---- one that is gone
 
 pub empty_gone : (line : WaitList) (w : Waiter) (l : Waiting) → untold line l ≡ [] → untold line (gone w l) ≡ []
 empty_gone line w l e = untold_gone line w l ∙ ap (λ (xs : List Waiter). without_waiter w xs) e
@@ -155,7 +155,7 @@ gone_other : (k : Kind) (line : WaitList) (w : Waiter) (n : ℕ) (l : Waiting) �
 gone_other k line w n l off (inl e) = inl (empty_gone line w l e)
 gone_other k line w n l off (inr h) = inr (omega (arith, h, count_without_other (λ (v : Waiter). is_line line (k v)) w off l.woken))
 
--- one who isn't woken
+-- one that isn't woken
 gone_unwoken : (k : Kind) (line : WaitList) (w : Waiter) (n : ℕ) (l : Waiting) → is_among w l.woken ≡ false → Enough k line n l → Enough k line n (gone w l)
 gone_unwoken k line w n l off (inl e) = inl (empty_gone line w l e)
 gone_unwoken k line w n l off (inr h) = inr (omega (arith, h, count_without (λ (v : Waiter). is_line line (k v)) w l.woken, absent_counts w l.woken off))
@@ -165,7 +165,7 @@ gone_one : (k : Kind) (line : WaitList) (w : Waiter) (n : ℕ) (l : Waiting) →
 gone_one k line w n l p (inl e) = inl (empty_gone line w l e)
 gone_one k line w n l p (inr h) = inr (omega (arith, h, count_without (λ (v : Waiter). is_line line (k v)) w l.woken, p.once w))
 
--- ---- one who leaves and passes on what it was told
+-- ---- one that leaves and passes on what it was told
 
 abbrev pub leave : WaitList → Waiter → Waiting → Waiting
 leave line w l = after_news (passed_on line w l) (gone w l)
@@ -198,7 +198,7 @@ keep_streams : (n : ℕ) (before after : List Waiter) → (before ≡ [] → aft
 keep_streams n before after h (inl e) = inl (h e)
 keep_streams n before after h (inr e) = inr e
 
--- ---- one who stands at the end of its line
+-- ---- one that stands at the end of its line
 
 untold_end : (own line : WaitList) (w : Waiter) (l : Waiting) → ((line ≡ own) × (untold line (at_end own w l) ≡ untold own (gone w l) ++ w ∷ [])) ⊎ (untold line (at_end own w l) ≡ untold line (gone w l))
 untold_end Sends Sends w l = inl (refl, refl)
@@ -338,7 +338,7 @@ module _ (k : Kind) (capacity : Option ℕ) where
     opened = λ o line. all_empty line l;
   }
 
-  -- when one of this line may stand, or be out of it, without a notice being passed on
+  -- when one of this line may stand, or be out of it, without a notification being passed on
   abbrev pub Idle : WaitList → ℕ → Type 0
   Idle Sends n = (free_places capacity n ≡ 0) × (capacity ≡ None → ⊥)
   Idle Receives n = n ≡ 0
@@ -374,7 +374,7 @@ module _ (k : Kind) (capacity : Option ℕ) where
     opened = λ o line. empty_gone line w l (a.opened o line);
   }
 
-  -- one who stands at the end of its line, of an open channel
+  -- one that stands at the end of its line, of an open channel
   end_receives : (own : WaitList) (w : Waiter) (n : ℕ) (l : Waiting) → k w ≡ Some own → Idle own n → Enough k Receives n l → Enough k Receives n (at_end own w l)
   end_receives Receives w n l e i h = inr (omega (arith, i))
   end_receives own w n l e i h = gone_receives own w n l e i h
@@ -465,6 +465,6 @@ awake_renamed k k' capacity closed n l same a = record {
   opened = a.opened;
 }
 
--- one who left stands nowhere
+-- one that left stands nowhere
 pub left_nowhere : (own : WaitList) (w : Waiter) (l : Waiting) → times_in w (leave own w l) ≡ 0
 left_nowhere own w l = times_news (passed_on own w l) w (gone w l) ∙ times_gone_self w l

@@ -6,7 +6,7 @@ use Rattle.channel_world_model.proofs.Deeds.{Deed, stays, grows, holds, shuts, a
 use Rattle.channel_world_model.proofs.Live.{gone_less}
 use Rattle.channel_world_model.proofs.WaiterLemmas.{decided}
 
-more_than_one : (n : ℕ) → (n == 1) ≡ false → 1 ≤ n → 1 ≤ n - 1
+pub more_than_one : (n : ℕ) → (n == 1) ≡ false → 1 ≤ n → 1 ≤ n - 1
 more_than_one zero t h = absurd (omega (arith, h))
 more_than_one (suc zero) t h = cc t
 more_than_one (suc (suc n)) t h = omega arith

@@ -4,6 +4,7 @@ pub mod RunLemmas
 pub mod Counting
 pub mod Awake
 pub mod Lacking
+pub mod Shapes
 pub mod LawSteps
 pub mod Settle
 pub mod Interface

@@ -1,15 +1,14 @@
 -- Settling ends: each poll of the oldest woken one brings it nearer, and with w pending it makes no more than w(w+1)/2 polls.
-use Rattle.channel_world_model.proofs.Words.{cond_both, false_from_ne_true, arith, ◌≡◌, ◌⊎◌, ◌≤◌, ◌+◌, ◌*◌, ℕ, zero, suc, List, [], ◌∷◌, ◌++◌, length, take, drop, Bool, true, false, if◌then◌else◌, not, Option, Some, IsSome, Ok, refl, sym, ap, subst, ◌∙◌, ◌&&◌, inl, inr, append-nil, append_assoc, filter, list_any, filter-append, slice_get, Answer, after_leaving, pending, space_of, Found, first, none_yet, none_ever, found, send_poll_answer, recv_poll_answer, next_answer, closed_poll_answer, poll_answer, answer, AwakeIn, Enough, Kind, Placed, times, count_of, free_places, line_at, line_of_operation, Waiting, same_waiter, is_among, untold, told_by, after_news, without_waiter, gone, passed_on, left_after, told_after, at_end, standing, is_stream, Operation, at, Lack, answer_without, Answers, Call, poll_of, Settles, SettlesTo, NobodyGoesOn, pending_count, pairs, polls_left, State, with_waiting, Reply, WaitList, Sends, Receives, Streams, Closings, News, Nothing, Message, Room, Closing, NextIn, Space, Open, Filled, Shut, Waiter, Op, Stream, OpId, HandleId, Ready, Pending}
+use Rattle.channel_world_model.proofs.Words.{false_from_ne_true, arith, ◌≡◌, ◌⊎◌, ◌≤◌, ◌+◌, ◌*◌, ℕ, zero, suc, List, [], ◌∷◌, ◌++◌, length, take, drop, Bool, true, false, if◌then◌else◌, not, Some, refl, sym, ap, subst, ◌∙◌, ◌&&◌, inl, inr, append-nil, append_assoc, filter, list_any, filter-append, slice_get, Answer, AwakeIn, Enough, Kind, Placed, times, count_of, free_places, line_at, Waiting, same_waiter, is_among, untold, told_by, after_news, without_waiter, gone, passed_on, left_after, told_after, at_end, standing, is_stream, Answers, Call, poll_of, Settles, SettlesTo, NobodyGoesOn, pending_count, pairs, polls_left, State, Reply, WaitList, Sends, Receives, Streams, Closings, News, Nothing, Message, Room, Closing, NextIn, Waiter, Op, Stream}
 use Rattle.std.proofs.Math.Nat.{suc-mul, mul-suc}
 use Rattle.channel_world_model.specs.declared.call.Call.TheVariants as call
-use Rattle.channel_calls.specs.declared.reply.Reply.TheVariants as reply
 use Rattle.channel_world_model.proofs.WaiterLemmas.{decided, same_refl, none_left, without_absent}
 use Rattle.channel_world_model.proofs.Counting.{among_counts, count_fewer, count_fewer_one}
-use Rattle.channel_world_model.proofs.Lacking.{Lacking, lacking}
+use Rattle.channel_world_model.proofs.Shapes.{Shape, shape_of}
+use Rattle.channel_world_model.proofs.Shapes as shape
 use Rattle.channel_world_model.proofs.Awake.{told_stood, woken_end}
-use Rattle.channel_world_model.proofs.LawSteps.{poll_awake}
+use Rattle.channel_world_model.proofs.LawSteps.{no_line, poll_awake}
 pub use Rattle.channel_world_model.proofs.Counting.{one_if, count_all, count_news, count_gone, count_gone_one, count_end}
-use Rattle.channel_world_model.specs.declared.name.Operation.TheVariants as live
 
 -- ---- how many
 
@@ -31,7 +30,7 @@ size_news news l = omega (arith, count_news every news l, size_is l, size_is (af
 fewer : (w : Waiter) (ws : List Waiter) → length (without_waiter w ws) ≤ length ws
 fewer w ws = omega (arith, count_fewer every w ws, all_of ws, all_of (without_waiter w ws))
 
--- one who is there leaves fewer behind
+-- one that is there leaves fewer behind
 one_fewer : (w : Waiter) (ws : List Waiter) → is_among w ws ≡ true → suc (length (without_waiter w ws)) ≤ length ws
 unfolding every
 one_fewer w ws e = omega (arith, count_fewer_one every w ws e, all_of ws, all_of (without_waiter w ws))
@@ -60,7 +59,7 @@ front_stays w (x ∷ xs) ys e = elim (decided (same_waiter w x)) [
   | inr t ↦ rw t (front_stays w xs ys (rw t at e))
 ]
 
--- one who leaves
+-- one that leaves
 left_nearer : (news : News) (line : WaitList) (w : Waiter) (l : Waiting) → is_among w l.woken ≡ true → Nearer l (left_after news line w l)
 unfolding Nearer
 left_nearer news line w l e =
@@ -71,7 +70,7 @@ left_nearer news line w l e =
     let c = size_news news l in
     inl (omega (arith, a, b, c))
 
--- one who is gone, after which news may be told
+-- one that is gone, after which news may be told
 gone_nearer : (news : News) (w : Waiter) (l : Waiting) → is_among w l.woken ≡ true → Nearer l (after_news news (gone w l))
 unfolding Nearer
 gone_nearer news w l e =
@@ -83,7 +82,7 @@ just_gone : (w : Waiter) (l : Waiting) → is_among w l.woken ≡ true → Neare
 unfolding Nearer
 just_gone w l e = inl (woken_gone w l e)
 
--- one who stands again
+-- one that stands again
 end_nearer : (line : WaitList) (w : Waiter) (l : Waiting) → is_among w l.woken ≡ true → Nearer l (at_end line w l)
 unfolding Nearer
 end_nearer line w l e =
@@ -108,7 +107,7 @@ again_nearer w l e =
     let f = fewer w (without_waiter w l.woken) in
     rw off (inr (omega (arith, a, b, d), omega (arith, c, f)))
 
--- one who is woken is not untold
+-- one that is woken is not untold
 pub not_untold : (k : Kind) (line : WaitList) (w : Waiter) (l : Waiting) → Placed k l → is_among w l.woken ≡ true → is_among w (untold line l) ≡ false
 not_untold k line w l p e = false_from_ne_true (is_among w (untold line l)) (λ t. twice line t)
   where
@@ -129,7 +128,7 @@ IsBrief Room = Unit {0}
 IsBrief Closing = ⊥
 IsBrief (NextIn line) = ⊥
 
--- what a poll may leave of those who wait, and whom it may wake
+-- what a poll may leave of those that wait, and whom it may wake
 pub record Cases (w : Waiter) (l : Waiting) (P : Waiting → List Waiter → Type 0) : Type 0 where
   -- it leaves its line, after these news, and passes on what it was told
   pub left : (news : News) → IsBrief news → (line : WaitList) → P (left_after news line w l) (told_after news line w l)
@@ -146,71 +145,37 @@ module _ {T : Type 0} where
     abbrev So : Answer T → Type 0
     So a = P a.after.waiting a.woken
 
-    -- ---- with ample memory
-
-    send_so : (op : OpId) (handle : HandleId) (m : T) (x : Space) → Cases (Op op) s.waiting P → So (send_poll_answer s op handle m x)
-    send_so op handle m Open c = c.left Message tt Sends
-    send_so op handle m Filled c = c.stands Sends
-    send_so op handle m Shut c = c.left Nothing tt Sends
-
-    recv_so : (op : OpId) (x : Found T) → Cases (Op op) s.waiting P → So (recv_poll_answer s op x)
-    recv_so op (first m ms) c = c.left Room tt Receives
-    recv_so op none_yet c = c.stands Receives
-    recv_so op none_ever c = c.left Nothing tt Receives
-
-    closed_so : (op : OpId) → Cases (Op op) s.waiting P → So (closed_poll_answer s op)
-    closed_so op c =
-        cond_both s.channel.closed (after_leaving Nothing Closings (Op op) s (reply.ClosedPoll (Ready (Ok tt)))) (pending Closings (Op op) s (reply.ClosedPoll Pending))
-        So
-        (λ t. c.left Nothing tt Closings) (λ t. c.stands Closings)
-
-    -- who is woken belongs to a line
-    poll_so : (op : OpId) (o : Option (Operation T)) → IsSome (line_of_operation o) → Cases (Op op) s.waiting P → So (poll_answer s op o)
-    poll_so op (Some (live.Send handle (Some m))) h c = send_so op handle m (space_of s.channel) c
-    poll_so op (Some (live.Receive handle)) h c = recv_so op (found s.channel) c
-    poll_so op (Some (live.Closing handle)) h c = closed_so op c
-    poll_so op o h c = cc h
-
-    next_so : (receiver : HandleId) (x : Found T) → Cases (Stream receiver) s.waiting P
-        → So (next_answer (with_waiting (gone (Stream receiver) s.waiting) s) receiver x)
-    next_so receiver (first m ms) c = c.takes
-    next_so receiver none_yet c = c.again
-    next_so receiver none_ever c = c.leaves
-
-    -- ---- where a growth is refused
-
-    -- of calls that are polls
+    -- of a poll of one that is woken
     abbrev PolledSo : Call T → Answer T → Type 0
-    PolledSo (call.Poll op) a = Cases (Op op) s.waiting P → So a
-    PolledSo (call.PollNext receiver) a = Cases (Stream receiver) s.waiting P → So a
+    PolledSo (call.Poll op) a = is_among (Op op) s.waiting.woken ≡ true → Cases (Op op) s.waiting P → So a
+    PolledSo (call.PollNext receiver) a = is_among (Stream receiver) s.waiting.woken ≡ true → Cases (Stream receiver) s.waiting P → So a
     PolledSo c a = Unit {0}
 
-    lacks : Lacking s PolledSo
-    lacks = record {
-      try_send = λ sender m. tt;
-      force_send = λ sender m. tt;
-      recv_many = λ receiver limit. tt;
-      leaves = λ op handle m there c. c.left Nothing tt Sends;
-      send_out = λ lack op handle m there full c. c.leaves;
-      recv_out = λ lack op handle there none c. c.leaves;
-      closing_out = λ lack op handle there c. c.leaves;
-      next_out = λ lack receiver none c. c.leaves;
-    }
-
-    unanswered_so : (lack : Lack) (w : Waiter) (a : Answer T) → answer_without lack s (poll_of w) ≡ Some a → Cases w s.waiting P → So a
-    unanswered_so lack (Op op) a e c = lacking s PolledSo lacks lack (call.Poll op) a e c
-    unanswered_so lack (Stream receiver) a e c = lacking s PolledSo lacks lack (call.PollNext receiver) a e c
-
     module _ (awake : AwakeIn s) where
-      answered_so : (w : Waiter) → is_among w s.waiting.woken ≡ true → Cases w s.waiting P → So (answer s (poll_of w))
-      answered_so (Op op) e c = poll_so op (at op.0 s.names.operations) (awake.placed.wakes (Op op) e) c
-      answered_so (Stream receiver) e c =
-          rw (not_untold (line_at s.names) Streams (Stream receiver) s.waiting awake.placed e) (next_so receiver (found s.channel) c)
+      -- who is woken belongs to a line, and does not stand in it
+      polled_so : {c : Call T} {a : Answer T} → Shape s c a → PolledSo c a
+      polled_so (shape.says (call.Poll op) r rests h) = λ e c. no_line (line_at s.names (Op op)) (awake.placed.wakes (Op op) e) rests
+      polled_so (shape.says (call.PollNext receiver) r rests h) =
+          λ e c. let off = not_untold (line_at s.names) Streams (Stream receiver) s.waiting awake.placed e in cc (rests, off)
+      polled_so (shape.sends op handle m there fits) = λ e c. c.left Message tt Sends
+      polled_so (shape.fails op handle m there) = λ e c. c.left Nothing tt Sends
+      polled_so (shape.receives op m rest own there) = λ e c. c.left Room tt Receives
+      polled_so (shape.streams receiver m rest there) = λ e c. c.takes
+      polled_so (shape.stands op line r own o i h) = λ e c. c.stands line
+      polled_so (shape.restands receiver none o) = λ e c. c.again
+      polled_so (shape.leaves op line r own h) = λ e c. c.left Nothing tt line
+      polled_so (shape.goes (Op op) line r own i h) = λ e c. c.leaves
+      polled_so (shape.goes (Stream receiver) line r own i h) = λ e c. c.leaves
+      polled_so (shape.makes (call.Poll op) new kind mint h) = absurd mint
+      polled_so (shape.makes (call.PollNext receiver) new kind mint h) = absurd mint
+      polled_so (shape.spends (call.Poll op) new r mint h) = absurd mint
+      polled_so (shape.spends (call.PollNext receiver) new r mint h) = absurd mint
+      polled_so x = tt
 
-      -- however the poll of one that is woken is answered
+      -- however it is answered
       pub poll_cases : (w : Waiter) (a : Answer T) → is_among w s.waiting.woken ≡ true → Answers s (poll_of w) a → Cases w s.waiting P → P a.after.waiting a.woken
-      poll_cases w a e (inl x) c = subst (λ (y : Answer T). So y) (sym x) (answered_so w e c)
-      poll_cases w a e (inr (lack, x)) c = unanswered_so lack w a x c
+      poll_cases (Op op) a e answers c = polled_so (shape_of s (call.Poll op) a answers) e c
+      poll_cases (Stream receiver) a e answers c = polled_so (shape_of s (call.PollNext receiver) a answers) e c
 
 pub first_there : (w : Waiter) (ws : List Waiter) → slice_get ws 0 ≡ Some w → is_among w ws ≡ true
 first_there w [] e = cc e
@@ -236,7 +201,7 @@ pub nearer : {T : Type 0} → (s : State T) → AwakeIn s → (w : Waiter) (a : 
 nearer s awake w a e answers =
     poll_cases s (λ m names. Nearer s.waiting m) awake w a e answers (near_cases (line_at s.names) w s.waiting awake.placed e)
 
--- ---- the woken are a queue: the one that is polled leaves its front, and those whom it wakes come to its end
+-- ---- the woken are a queue: the one that is polled leaves its front, and those that it wakes come to its end
 
 pub Follows : Waiter → Waiting → Waiting → List Waiter → Type 0
 Follows w l m names = m.woken ≡ without_waiter w l.woken ++ names
@@ -300,7 +265,7 @@ without_first w (x ∷ xs) e h =
     let absent : is_among w xs ≡ false = first_absent w xs (subst (λ (v : Waiter). times w (v ∷ xs) ≤ 1) (sym same) h) in
     subst (λ (v : Waiter). without_waiter w (v ∷ xs) ≡ xs) same (rw (same_refl w) (without_absent w xs absent))
 
--- so whoever settles may keep the woken in a queue of its own
+-- so settling may keep the woken in a queue of its own
 pub woken_next : {T : Type 0} → (s : State T) → AwakeIn s → (w : Waiter) (a : Answer T) → slice_get s.waiting.woken 0 ≡ Some w → Answers s (poll_of w) a
     → a.after.waiting.woken ≡ drop 1 s.waiting.woken ++ a.woken
 unfolding Follows
@@ -409,8 +374,6 @@ module _ {T : Type 0} where
   pub settle_ends : (s t : State T) (ps : List (Waiter × Reply T)) → SettlesTo s ps t → t.waiting.woken ≡ [] → Settles s ps t
   settle_ends s t [] same none = (ap (λ (x : State T). x.waiting.woken) (sym same) ∙ none, same)
   settle_ends s t (p ∷ ps) (f, (mid, ns, a, more)) none = (f, (mid, ns, a, settle_ends mid t ps more none))
-
-  -- ---- with ample memory there is one settling
 
   -- ---- at rest
 

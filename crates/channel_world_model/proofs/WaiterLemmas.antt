@@ -1,5 +1,5 @@
 -- Names in lists, and names as the keys of entries.
-use Rattle.channel_world_model.proofs.Words.{or_right, arith, ◌≡◌, ℕ, nat_eq, List, [], ◌∷◌, Bool, true, false, ◌||◌, not, cond, None, Some, refl, sym, ap, subst, inl, inr, AllByRecursion, nat_eq_equiv, nat_tests, keys_of, lookup_entry, remove_entry, Waiting, same_waiter, is_among, without_waiter, untold, gone, Waiter, Op, Stream, WaitList, Sends}
+use Rattle.channel_world_model.proofs.Words.{or_right, arith, ◌≡◌, ℕ, nat_eq, List, [], ◌∷◌, Bool, true, false, ◌||◌, not, cond, Some, refl, sym, ap, subst, inl, inr, AllByRecursion, nat_eq_equiv, nat_tests, keys_of, lookup_entry, remove_entry, Waiting, same_waiter, is_among, without_waiter, untold, gone, Waiter, Op, Stream, WaitList, Sends}
 use Rattle.std.specs.List.{IsDistinct}
 use Rattle.std.specs.Cmp.{IsEquivalence}
 pub use Rattle.std.proofs.lemmas.Bool.{cases_Bool as decided, or_cases as or_true, or_parts as or_false}
@@ -48,7 +48,7 @@ keeps_head : (b r : Bool) (v : Waiter) (vs kept : List Waiter) → (b || r) ≡ 
 keeps_head true r v vs kept e h = cc e
 keeps_head false r v vs kept e h = ap (λ xs. v ∷ xs) (h e)
 
--- to take out one who isn't there changes nothing
+-- to take out one that isn't there changes nothing
 pub without_absent : (w : Waiter) (ws : List Waiter) → is_among w ws ≡ false → without_waiter w ws ≡ ws
 without_absent w [] e = refl
 without_absent w (v ∷ vs) e = keeps_head (same_waiter w v) (is_among w vs) v vs (without_waiter w vs) e (without_absent w vs)
@@ -97,7 +97,7 @@ left_among w x (v ∷ vs) e = elim (decided (same_waiter w v)) [
   ]
 ]
 
--- one who was taken out is not among the rest
+-- one that was taken out is not among the rest
 pub none_left : (w : Waiter) (ws : List Waiter) → is_among w (without_waiter w ws) ≡ false
 none_left w [] = refl
 none_left w (v ∷ vs) = elim (decided (same_waiter w v)) [

@@ -29,7 +29,7 @@ use Rattle.channel_calls.specs.declared.error.TrySendError.TheVariants as try_se
 use Rattle.channel_calls.specs.declared.error.TryRecvError.TheVariants as try_recv
 use Rattle.futures.specs.declared.task.Poll.TheVariants.{Ready, Pending}
 
--- the state that a call leaves, its reply, and whom it woke, in order
+-- the state that a call leaves, its reply, and the names that it woke, in order
 pub record Answer (T : Type 0) : Type 0 where
   pub after : State T
   pub reply : Reply T

@@ -24,7 +24,7 @@ KeysHeld = Waiter → Option Key
 
 -- ---- asks
 
--- who keeps the listener that a receiver's own stream leaves
+-- the name that keeps the listener that a receiver's own stream leaves
 abbrev pub stream_of : HandleId → Option Handle → Option Waiter
 stream_of handle None = None
 stream_of handle (Some h) = elim h.kind [
@@ -109,7 +109,7 @@ module _ {T : Type 0} where
   asked held names (call.SameChannel a b) = ask.SameChannel true
   asked held names c = plain_asked c
 
-  -- who keeps the listener that a call leaves, if any does
+  -- the name that keeps the listener that a call leaves, if any does
   abbrev pub keeper_in : Names T → Call T → Option Waiter
   keeper_in names (call.Poll op) = Some (Op op)
   keeper_in names (call.PollRefused op) = Some (Op op)

@@ -1,4 +1,4 @@
--- What is true of a world between two calls: who waits, where, and that nobody is left asleep.
+-- What is true of a world between two calls: which names wait, where, and that none is left asleep.
 use Rattle.std.specs.Prelude.{◌≡◌, ◌⊎◌, ◌≤◌, ◌+◌, ℕ, List, [], length, Bool, true, false, Option, None, Some, IsSome}
 use Rattle.std.specs.List.{filter}
 use Rattle.channel_world_model.specs.Lines.{Waiting, same_waiter, is_among, untold}
@@ -12,7 +12,7 @@ use Rattle.channel_calls.specs.declared.stage.WaitList.TheVariants.{Sends, Recei
 abbrev pub Kind : Type 0
 Kind = Waiter → Option WaitList
 
--- where somebody of the line is untold, at least n of it are woken
+-- if somebody of the line is untold, at least n of it are woken
 abbrev pub Enough : Kind → WaitList → ℕ → Waiting → Type 0
 Enough k line n l = (untold line l ≡ []) ⊎ (n ≤ count_of k line l.woken)
 

@@ -44,7 +44,7 @@ CountsAreHandles T =
 
 -- ---- upgrades
 
--- What an upgrade of this weak handle answers: a handle where the channel is open, and none where it is closed. On an open one
+-- What an upgrade of this weak handle answers: a handle where the channel is open, and none if it is closed. On an open one
 -- only the limit stands against it: more than half of all numbers of handles of its side.
 pub record UpgradesAsOpen {T : Type 0} (s : State T) (weak : HandleId) (r : Reply T) : Type 0 where
   pub closed : s.channel.closed ≡ true → r ≡ reply.NotMade

@@ -100,7 +100,7 @@ abbrev pub free_places : Option ℕ → ℕ → ℕ
 free_places None held = 0
 free_places (Some capacity) held = capacity - held
 
--- Nobody stays pending and unwoken beside a message, a free place or a closing that no woken one answers for.
+-- Nobody stays pending and unwoken beside a message, a free place or a closing for which no woken one is responsible.
 pub record NobodyIsLeft {T : Type 0} (s : State T) : Type 0 where
   -- beside an unwoken receive there are no more messages than woken receives
   pub receives : (s.waiting.receives ≡ []) ⊎ (length s.channel.messages ≤ woken_of_line Receives s)
@@ -110,7 +110,7 @@ pub record NobodyIsLeft {T : Type 0} (s : State T) : Type 0 where
   pub unbounded : s.channel.capacity ≡ None → s.waiting.sends ≡ []
   -- beside an unwoken stream there is no message
   pub streams : (s.waiting.streams ≡ []) ⊎ (length s.channel.messages ≡ 0)
-  -- whoever is unwoken waits on an open channel
+  -- each that is unwoken waits on an open channel
   pub opened : s.channel.closed ≡ true → (line : WaitList) → untold line s.waiting ≡ []
 
 abbrev pub NobodyIsLeftAsleep : Type 0 → Type 0

@@ -36,7 +36,7 @@ unsent_in None = None
 abbrev pub unsent_at : {T : Type 0} → OpId → State T → Option T
 unsent_at op s = unsent_in (at op.0 s.names.operations)
 
--- Where a send was refused, or waits, the channel is as it was, and the message is handed back by the answer or stays with the
+-- If a send was refused, or waits, the channel is as it was, and the message is returned by the answer or stays with the
 -- send's operation.
 abbrev pub RefusesWhole : {T : Type 0} → State T → Call T → Reply T → State T → Type 0
 RefusesWhole s (call.TrySend sender m) (reply.TrySend (Err e)) t = (try_handed_back e ≡ m) × (t.channel ≡ s.channel)

@@ -1,4 +1,4 @@
--- Who waits, in four lines, and who of them was told.
+-- Which names wait, in four lines, and which of them were told.
 use Rattle.std.specs.Prelude.{ℕ, zero, suc, ◌==◌, ◌&&◌, List, [], ◌∷◌, ◌++◌, take, drop, Bool, true, false, not, if◌then◌else◌}
 use Rattle.std.specs.List.{list_any, filter}
 use Rattle.channel_world_model.specs.declared.name.Waiter.{Waiter}
@@ -47,7 +47,7 @@ with_untold Receives ws l = record l { receives = ws }
 with_untold Streams ws l = record l { streams = ws }
 with_untold Closings ws l = record l { closings = ws }
 
--- Whom news are told to, in order: a message tells one more receive, then all streams; room tells one more send; a
+-- The names that news are told to, in order: a message tells one more receive, then all streams; room tells one more send; a
 -- closing tells all, line by line.
 abbrev pub told_by : News → Waiting → List Waiter
 told_by Nothing l = []
@@ -56,7 +56,7 @@ told_by Room l = take 1 l.sends
 told_by Closing l = l.sends ++ l.receives ++ l.streams ++ l.closings
 told_by (NextIn line) l = take 1 (untold line l)
 
--- those who are still untold
+-- those that are still untold
 abbrev pub untold_after : News → Waiting → Waiting
 untold_after Nothing l = l
 untold_after Message l = record l { receives = drop 1 l.receives; streams = [] }
@@ -81,8 +81,8 @@ gone w l = record {
   woken = without_waiter w l.woken;
 }
 
--- What one who leaves passes on: a told send or receive tells one more of its line, a told stream tells one more only
--- where no other stream is told, and a told closed notice tells nobody.
+-- What one that leaves passes on: a told send or receive tells one more of its line, a told stream tells one more only
+-- where no other stream is told, and a told wait for the closing tells nobody.
 abbrev pub passed_on : WaitList → Waiter → Waiting → News
 passed_on Sends w l = if is_among w l.woken then NextIn Sends else Nothing
 passed_on Receives w l = if is_among w l.woken then NextIn Receives else Nothing
@@ -94,7 +94,7 @@ passed_on Closings w l = Nothing
 abbrev pub left_after : News → WaitList → Waiter → Waiting → Waiting
 left_after news line w l = let told = after_news news l in after_news (passed_on line w told) (gone w told)
 
--- who is told by that, in order
+-- the names that are told by that, in order
 abbrev pub told_after : News → WaitList → Waiter → Waiting → List Waiter
 told_after news line w l = let told = after_news news l in told_by news l ++ told_by (passed_on line w told) (gone w told)
 
@@ -103,7 +103,7 @@ abbrev pub after_rooms : ℕ → Waiting → Waiting
 after_rooms zero l = l
 after_rooms (suc n) l = after_rooms n (after_news Room l)
 
--- who is told by that, in order
+-- the names that are told by that, in order
 abbrev pub told_by_rooms : ℕ → Waiting → List Waiter
 told_by_rooms zero l = []
 told_by_rooms (suc n) l = told_by Room l ++ told_by_rooms n (after_news Room l)
@@ -112,7 +112,7 @@ told_by_rooms (suc n) l = told_by Room l ++ told_by_rooms n (after_news Room l)
 abbrev pub at_end : WaitList → Waiter → Waiting → Waiting
 at_end line w l = let left = gone w l in with_untold line (untold line left ++ w ∷ []) left
 
--- a poll that ends pending: in its old place where it was untold, at the end, untold, where it is new or was told
+-- a poll that ends pending: in its old place if it was untold, at the end, untold, if it is new or was told
 abbrev pub standing : WaitList → Waiter → Waiting → Waiting
 standing line w l = if is_among w (untold line l) then l else at_end line w l
 

@@ -107,7 +107,7 @@ module _ {T : Type 0} (u : UnderWay) (names : Names T) where
   abbrev pub refusal_beside : Call T → Option WorldRefusal
   refusal_beside c = planned_refusal (plan_of c)
 
--- why a call is refused where none is under way
+-- why a call is refused if none is under way
 abbrev pub refusal : {T : Type 0} → State T → Call T → Option WorldRefusal
 refusal s c = refusal_beside nobody_under_way s.names c
 

@@ -54,7 +54,7 @@ SettlingEnds T =
     (s t : State T) (ps : List (Waiter × Reply T)) → AwakeIn s → SettlesTo s ps t
     → 2 * length ps ≤ pending_count s.waiting * (pending_count s.waiting + 1)
 
--- nobody is pending whom a message, a free place or a closing lets go on
+-- nobody is pending that a message, a free place or a closing lets go on
 pub record NobodyGoesOn {T : Type 0} (s : State T) : Type 0 where
   pub receives : (s.waiting.receives ≡ []) ⊎ (length s.channel.messages ≡ 0)
   pub sends : s.channel.closed ≡ false → (s.waiting.sends ≡ []) ⊎ (free_places s.channel.capacity (length s.channel.messages) ≡ 0)

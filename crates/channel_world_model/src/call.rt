@@ -1,9 +1,9 @@
-//! What may be asked of a channel by the names of its handles and operations.
+//! What may be asked of a channel by the names of its handles and operations. A call is a plain value that says nothing of what lives under
+//! its names.
 use super::name::{HandleId, OpId};
 use std::alloc::AllocError;
 
-/// A call, made on handles and operations by their names. Own to this project; each does what the method of this name does in
-/// `async-channel` 2.5.0, if there is one.
+/// A call, made on handles and operations by their names.
 #[derive(Drop, PartialEq, Eq)]
 pub enum Call<T> {
     /// A new operation `op` that sends `msg` through the sender.
@@ -16,7 +16,7 @@ pub enum Call<T> {
     Poll { op: OpId },
     /// A poll of the operation that got no copy of its waker, for want of memory.
     PollRefused { op: OpId },
-    /// The operation is given up.
+    /// Gives the operation up.
     GiveUp { op: OpId },
     /// Whether the operation, a send, has finished.
     SendIsTerminated { op: OpId },
@@ -60,7 +60,7 @@ pub enum Call<T> {
     ReceiverCount { handle: HandleId },
 }
 
-// By hand: a derived copy of so many variants is as dear for the prover as a derived equality.
+// Written by hand: a derived copy of so many variants is as expensive to prove as a derived equality.
 impl<T: Copy> Clone for Call<T> {
     ghost use Rattle.std.specs.Prelude.{◌≡◌};
 

@@ -1,12 +1,12 @@
-//! Tables of names.
+//! Tables of names. The invariant: a name that was ever taken stays taken, and no name stands twice.
 use lru::{Iter, LruCache};
 use std::alloc::{AllocError, Global};
 use std::marker::Model;
 
-/// The names of one sort that were ever taken, each with what lives under it, or with None where that lives no more.
+/// The names of one sort that were ever taken, each with what lives under it, or with `None` if that lives no more.
 ///
-/// It is the kit's list of recent use, in which nothing is ever used again: what stands under a name is found without a
-/// walk past the others.
+/// It is the kit's list of recent use, in which nothing is ever used again: what lives under a name is found without a walk past the
+/// others.
 #[derive(Drop)]
 pub struct Directory<X> {
     entries: LruCache<u32, Option<X>>,
@@ -60,7 +60,7 @@ impl<X> Directory<X> {
         self.entries.iter()
     }
 
-    /// A new name, with this under it, which comes back where memory was refused.
+    /// Takes a new name, with this under it, which is returned if memory was refused.
     fn put(&mut self, name: u32, x: Option<X>) -> Result<(), Option<X>>
         requires { is_taken name self.old ≡ false }
         ensures ok { OnOk result (self.new ≡ (name, x) ∷ self.old) }
@@ -76,7 +76,7 @@ impl<X> Directory<X> {
         }
     }
 
-    /// A new name, with what lives under it, which comes back where memory was refused.
+    /// Takes a new name, with what lives under it, which is returned if memory was refused.
     pub fn add(&mut self, name: u32, x: X) -> Result<(), X>
         requires { is_taken name self.old ≡ false }
         ensures ok { OnOk result (self.new ≡ with_new name x self.old) }
@@ -90,7 +90,7 @@ impl<X> Directory<X> {
         }
     }
 
-    /// Takes what lives under the name; the name stays taken.
+    /// Removes what lives under the name; the name stays taken.
     pub fn take(&mut self, name: u32) -> Option<X>
         ensures found { result ≡ at name self.old }
         ensures rest { self.new ≡ without_name name self.old }
@@ -105,7 +105,7 @@ impl<X: Drop> Directory<X> {
     ghost use Rattle.std.specs.Bool.{OnTrue, OnFalse};
     ghost use Rattle.channel_world_model.specs.Names.{is_taken, with_changed, with_spent, without_name};
 
-    /// A name that is new is taken, and nothing lives under it. False where memory was refused.
+    /// Takes a new name, under which nothing lives. False if memory was refused.
     pub fn spend(&mut self, name: u32) -> bool
         requires { is_taken name self.old ≡ false }
         ensures ok { OnTrue result (self.new ≡ with_spent name self.old) }
@@ -114,7 +114,7 @@ impl<X: Drop> Directory<X> {
         self.put(name, None).is_ok()
     }
 
-    /// What lives under the name, or lived there, is this from now on. A name that was never taken stays so.
+    /// Sets what lives under a name that was taken. A name that was never taken stays so.
     pub fn set(&mut self, name: u32, x: X)
         ensures set { self.new ≡ with_changed name x self.old }
         ensures taken { (before : List (ℕ × Option X)) → self.old ≡ without_name name before → self.new ≡ with_changed name x before }

@@ -1,4 +1,4 @@
-//! The names of handles and operations, and of whoever is woken.
+//! The names of handles and operations, and of the tasks that are woken.
 
 use channel_calls::stage::WaitList;
 
@@ -90,7 +90,7 @@ impl<T> Operation<T> {
         }
     }
 
-    /// The line in which it waits.
+    /// The wait queue on which it waits.
     pub fn waits_in(&self) -> WaitList
         ensures { result ≡ waits_in self.now }
     {
@@ -101,7 +101,7 @@ impl<T> Operation<T> {
         }
     }
 
-    /// Whether it belongs to this line: that in which it waits. A finished send belongs to none.
+    /// Whether it belongs to this wait queue, the one on which it waits. A finished send belongs to none.
     pub fn is_on(&self, line: WaitList) -> bool
         ensures { result ≡ is_line line (line_of_operation (Some self.now)) }
     {
@@ -161,7 +161,7 @@ impl<T: Drop> Operation<T> {
         }
     }
 
-    /// The same, where it is a send with this message, or with none.
+    /// The same, if it is a send with this message, or with none.
     pub fn with_message(self, message: Option<T>) -> Operation<T>
         ensures { result ≡ with_message message self }
     {

@@ -1,10 +1,10 @@
-//! What a call does to the names, whatever it asks of the channel. A call is turned once into a plan; all that is said of the names as
-//! calls begin goes over plans.
+//! What a call does to the names, whatever it asks of the channel. A call is turned once into a plan; everything that is said of the names
+//! when calls begin is said of plans.
 
 use crate::call::Call;
 use crate::name::{HandleId, HandleKind, OpId, OperationKind};
 
-/// What is wanted of a handle.
+/// What kind of handle a call needs.
 #[derive(Clone, Copy)]
 pub enum Wanted {
     Sender,
@@ -18,7 +18,7 @@ impl Wanted {
     ghost use Rattle.std.specs.Prelude.{◌≡◌};
     ghost use Rattle.channel_world_model.specs.Refusal.{handle_fits};
 
-    /// Whether a handle of this kind is such a one.
+    /// Whether a handle of this kind is one.
     pub fn fits(self, kind: HandleKind) -> bool
         ensures { result ≡ handle_fits self kind }
     {
@@ -44,7 +44,7 @@ impl Kinship {
     ghost use Rattle.std.specs.Prelude.{◌≡◌};
     ghost use Rattle.channel_world_model.specs.Plan.{kin};
 
-    /// The kind of one that is made from one of this kind.
+    /// The kind of a handle that is made from one of this kind.
     pub fn of(self, kind: HandleKind) -> HandleKind
         ensures { result ≡ kin self kind }
     {
@@ -69,7 +69,7 @@ pub enum Plan {
     Makes(Wanted, HandleId, OpId, OperationKind),
     /// It polls an operation.
     Polls(OpId),
-    /// It takes an operation for good, and goes through the handle that this borrowed.
+    /// It takes an operation for good, and goes through the handle that the operation borrowed.
     GivesUp(OpId),
     /// It goes through the handle that an operation, a send, borrows.
     Asks(OpId),

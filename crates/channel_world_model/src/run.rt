@@ -4,12 +4,12 @@ use super::name::Waiter;
 use super::refusal::WorldRefusal;
 use channel_calls::reply::Reply;
 
-/// What a call answered, and whom it woke, in order.
+/// What a call answered, and the names that it woke, in order.
 #[derive(Debug, Drop, PartialEq, Eq)]
 pub struct Done<T> {
     /// The reply.
     pub reply: Reply<T>,
-    /// Whom the call woke, in order.
+    /// The names that the call woke, in order.
     pub woken: Vec<Waiter>,
 }
 
@@ -27,6 +27,6 @@ pub struct Stopped {
 pub struct CallRun<T> {
     /// What the accepted calls answered, in order.
     pub done: Vec<Done<T>>,
-    /// Where the list stopped; None where every call was accepted.
+    /// Where the list stopped; `None` if every call was accepted.
     pub stopped: Option<Stopped>,
 }

@@ -1,6 +1,6 @@
 //! Room for a message.
 
-/// What a sending finds.
+/// What a send finds.
 #[derive(Clone, Copy, Debug, PartialEq, Eq)]
 pub enum Space {
     /// The channel is open and has a free place.

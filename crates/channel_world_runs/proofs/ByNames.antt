@@ -16,20 +16,12 @@ use Rattle.channel_world_runs.specs.Run.{NameState, IsNameStateOf, name_state_en
 use Rattle.channel_world_runs.specs.Calls.{Agent}
 use Rattle.channel_world_runs.specs.declared.step.PartyId.{PartyId}
 use Rattle.channel_world_runs.specs.declared.step.Step.TheVariants as step
+use Rattle.std.proofs.Math.Bool.{or-true}
+use Rattle.channel_world_runs.proofs.OwnerNames.{differ}
 use Rattle.channel_world_runs.proofs.OwnerTogether.{Parted, parted}
 
 same : (a b : ℕ) → a ≡ b → nat_eq a b ≡ true
 same a b e = grind (arith, nat_tests)
-
-other : (a b : ℕ) → (a ≡ b → ⊥) → nat_eq a b ≡ false
-other a b f = by (nat_eq a b) refl where
-  by : (t : Bool) → nat_eq a b ≡ t → t ≡ false
-  by true e = absurd (f (grind (arith, nat_tests)))
-  by false e = refl
-
-or_true : (b : Bool) → (b || true) ≡ true
-or_true true = refl
-or_true false = refl
 
 module _ {T : Type 0} where
   -- ---- a begin
@@ -39,7 +31,7 @@ module _ {T : Type 0} where
       → Each (λ (u : ActiveCall T Waiter). u.party ≡ p → ⊥) us → is_at_work p agents ≡ false
   not_at_work statuses p [] [] t idle = refl
   not_at_work statuses p (a ∷ more) (u ∷ us) t idle =
-      ap (λ (b : Bool). b || is_at_work p more) (other a.party p (λ e. idle.0 (sym t.0.party ∙ e)))
+      ap (λ (b : Bool). b || is_at_work p more) (differ a.party p (λ e. idle.0 (sym t.0.party ∙ e)))
       ∙ not_at_work statuses p more us t.1 idle.1
   not_at_work statuses p [] (u ∷ us) t idle = absurd t
   not_at_work statuses p (a ∷ more) [] t idle = absurd t
@@ -55,7 +47,7 @@ module _ {T : Type 0} where
 
   at_work : (front : List (Agent T)) (a : Agent T) (back : List (Agent T)) (p : ℕ) → a.party ≡ p → is_at_work p (front ++ a ∷ back) ≡ true
   at_work [] a back p e = ap (λ (b : Bool). b || is_at_work p back) (same a.party p e)
-  at_work (b ∷ front) a back p e = ap (λ (r : Bool). nat_eq b.party p || r) (at_work front a back p e) ∙ or_true (nat_eq b.party p)
+  at_work (b ∷ front) a back p e = ap (λ (r : Bool). nat_eq b.party p || r) (at_work front a back p e) ∙ or-true (nat_eq b.party p)
 
   found : (front : List (Agent T)) (a : Agent T) (back : List (Agent T)) → slice_get (front ++ a ∷ back) (length front) ≡ Some a
   found [] a back = refl

@@ -14,7 +14,7 @@ none_read f [] e = refl
 none_read f (x ∷ xs) e = absurd cc
 
 module _ {T : Type 0} where
-  -- who is at work has a call
+  -- one that is at work has a call
   pub at_work_read : (calls : List (CallUnderWay T)) (p : ℕ) → list_any (λ (c : CallUnderWay T). nat_eq c.party.id p) calls ≡ is_at_work p (map agent_of calls)
   at_work_read [] p = refl
   at_work_read (c ∷ cs) p = ap (λ (b : Bool). nat_eq c.party.id p || b) (at_work_read cs p)
@@ -26,6 +26,6 @@ module _ {T : Type 0} where
       map-set agent_of calls k d
       ∙ (ap (λ (a : Agent T). slice_set (map agent_of calls) k a) same ∙ set-same (map agent_of calls) k (agent_of c) (get-map agent_of calls k c there))
 
-  -- who has answered is at work no more
+  -- a party whose call has answered is no longer at work
   pub agents_left : (calls : List (CallUnderWay T)) (k : ℕ) (c : CallUnderWay T) (r : Reply T) → map agent_of (remove calls k) ≡ remove (map agent_of calls) k
   agents_left calls k c r = let answer : Option (Reply T) = Some r in map-after agent_of calls k c answer

@@ -1,5 +1,6 @@
 -- The drop of the last handle of a side closes the channel.
-use Rattle.std.proofs.Common.{arith, ◌≡◌, ℕ, zero, suc, ◌-◌, ◌≤◌, ◌==◌, Bool, true, false, if◌then◌else◌, List, Option, None, ◌⊎◌, inl, inr, refl, sym, ap, ◌∙◌, subst}
+use Rattle.channel_world_model.proofs.HandleLaws.{more_than_one}
+use Rattle.std.proofs.Common.{◌≡◌, ℕ, ◌-◌, ◌≤◌, ◌==◌, Bool, true, false, if◌then◌else◌, List, Option, None, ◌⊎◌, inl, inr, refl, sym, ap, ◌∙◌, subst}
 use Rattle.concurrent_queue.specs.Queue.{Queue, Phase, is_displaced, marked, Continues, ContinuesBy, Answers, AnswersClose, AnswersTo}
 use Rattle.concurrent_queue.specs.Queue as stages
 use Rattle.concurrent_queue.specs.declared.call.QueueAsk.{QueueAsk}
@@ -28,11 +29,6 @@ use Rattle.channel_calls.specs.declared.stage.ListStep.TheVariants.{Lower}
 use Rattle.channel_steps.specs.Known.{TriesFor, StageAt}
 use Rattle.channel_steps.specs.Moments.{MarkedMoment, Shut}
 use Rattle.channel_world_runs.specs.Counted.{is_last_of, is_lowering, is_closing}
-
-not_one : (n : ℕ) → (n == 1) ≡ false → 1 ≤ n → 1 ≤ n - 1
-not_one zero t h = absurd (omega (arith, h))
-not_one (suc zero) t h = cc t
-not_one (suc (suc n)) t h = omega arith
 
 module _ (T W : Type 0) where
   -- ---- a closing that is under way
@@ -80,7 +76,7 @@ module _ (T W : Type 0) where
       → Turned (if b then Tries queue.Close (purpose.Close (dropper z key)) else ends_by (closer_ending (dropper z key) false)) r s
       → Left side r s (n - 1)
   left side z key n r s true e low last h = inr (h.0, ap (λ (x : Stage (Phase T) T W). is_closing side x) h.1 ∙ last)
-  left side z key n r s false e low last h = inl (not_one n e low)
+  left side z key n r s false e low last h = inl (more_than_one n e low)
 
   pub last_closes : (side : Side) (c : Channel T W) (at : Stage (Phase T) T W) (e : Effect T W) (r : Option (Reply T))
       (s : Stage (Phase T) T W) → Moves c at e r s → is_lowering side at ≡ true → 1 ≤ count side c.wait_lists

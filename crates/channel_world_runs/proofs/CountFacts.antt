@@ -1,4 +1,5 @@
 -- What the counts count, from one step to the next.
+use Rattle.std.proofs.lemmas.List.{map-append}
 use Rattle.std.proofs.Common.{arith, ◌≡◌, ℕ, ◌+◌, ◌≤◌, Bool, true, false, ◌&&◌, List, [], ◌∷◌, ◌++◌, map, Option, None, Some, ◌⊎◌, inl, inr, refl, sym, ap, ◌∙◌, subst}
 use Rattle.concurrent_queue.specs.Queue.{Phase}
 use Rattle.channel_calls.specs.Marks.{is_made}
@@ -40,10 +41,6 @@ use Rattle.channel_world_runs.proofs.OwnerTogether.{Parted}
 tally_both : {X : Type 0} (test : X → Bool) (xs ys : List X) → tally test (xs ++ ys) ≡ tally test xs + tally test ys
 tally_both test [] ys = omega arith
 tally_both test (x ∷ xs) ys = let rest = tally_both test xs ys in omega (arith, rest)
-
-map_both : {A B : Type 0} (f : A → B) (xs ys : List A) → map f (xs ++ ys) ≡ map f xs ++ map f ys
-map_both f [] ys = refl
-map_both f (x ∷ xs) ys = ap (λ zs. f x ∷ zs) (map_both f xs ys)
 
 first_same : (a b : Bool) (xs ys : List Bool) → (a ∷ xs) ≡ (b ∷ ys) → a ≡ b
 first_same a b xs ys e = ap (λ (l : List Bool). elim l [ [] ↦ a | z ∷ zs ↦ z ]) e
@@ -114,10 +111,10 @@ module _ {T : Type 0} where
 
       makers : map (λ (a : Agent T). makes_strong side a.on_return) (name_state_begun q c b).agents ≡ map (λ (u : ActiveCall T Waiter). is_raising side u.at) t.under_way
       makers =
-          map_both (λ (a : Agent T). makes_strong side a.on_return) b.agents (record { party = q.0; on_return = on_return_of b.name_table c } ∷ [])
+          map-append (λ (a : Agent T). makes_strong side a.on_return) b.agents (record { party = q.0; on_return = on_return_of b.name_table c } ∷ [])
           ∙ (ap (λ (l : List Bool). l ++ (makes_strong side (on_return_of b.name_table c) ∷ [])) was.makers
           ∙ (ap (λ (x : Bool). map (λ (u : ActiveCall T Waiter). is_raising side u.at) s.under_way ++ (x ∷ [])) (begins.1 ∙ sym first.1)
-          ∙ (sym (map_both (λ (u : ActiveCall T Waiter). is_raising side u.at) s.under_way (new ∷ []))
+          ∙ (sym (map-append (λ (u : ActiveCall T Waiter). is_raising side u.at) s.under_way (new ∷ []))
           ∙ ap (λ (us : List (ActiveCall T Waiter)). map (λ (u : ActiveCall T Waiter). is_raising side u.at) us) (sym n.under_way))))
 
   -- ---- a call makes a step
@@ -292,12 +289,12 @@ module _ {T : Type 0} where
       middle x = map may st.before ++ (x ∷ map may st.behind)
 
       was : map may s.under_way ≡ middle (is_raising side st.mine.at)
-      was = ap (λ (us : List (ActiveCall T Waiter)). map may us) st.there ∙ map_both may st.before (st.mine ∷ st.behind)
+      was = ap (λ (us : List (ActiveCall T Waiter)). map may us) st.there ∙ map-append may st.before (st.mine ∷ st.behind)
 
       is : map may t.under_way ≡ middle (is_raising side st.at_now)
       is =
           ap (λ (us : List (ActiveCall T Waiter)). map may us) st.left
-          ∙ (map_both may (map (sees t.now) st.before) (does st.mine st.at_now m s.now t.now ∷ map (sees t.now) st.behind)
+          ∙ (map-append may (map (sees t.now) st.before) (does st.mine st.at_now m s.now t.now ∷ map (sees t.now) st.behind)
           ∙ (ap (λ (l : List Bool). l ++ (is_raising side st.at_now ∷ map may (map (sees t.now) st.behind)))
           (map_seen (λ at. is_raising side at) t.now st.before)
           ∙ ap (λ (l : List Bool). map may st.before ++ (is_raising side st.at_now ∷ l)) (map_seen (λ at. is_raising side at) t.now st.behind)))
@@ -336,11 +333,11 @@ module _ {T : Type 0} where
 
       makers : map makes (pt.front ++ pt.back) ≡ map may t.under_way
       makers =
-          map_both makes pt.front pt.back
+          map-append makes pt.front pt.back
           ∙ (ap (λ (l : List Bool). l ++ map makes pt.back) (two.first ∙ sym (map_seen (λ at. is_raising side at) t.now st.before))
           ∙ (ap (λ (l : List Bool). map may (map (sees t.now) st.before) ++ l)
           (two.last ∙ sym (map_seen (λ at. is_raising side at) t.now st.behind))
-          ∙ (sym (map_both may (map (sees t.now) st.before) (map (sees t.now) st.behind))
+          ∙ (sym (map-append may (map (sees t.now) st.before) (map (sees t.now) st.behind))
           ∙ ap (λ (us : List (ActiveCall T Waiter)). map may us) (sym st.left))))
 
   -- ---- any step

@@ -1,5 +1,5 @@
 -- How many strong handles live, after what calls do to the names.
-use Rattle.std.proofs.Common.{arith, ◌≡◌, ℕ, ◌+◌, nat_eq, Bool, true, false, ◌&&◌, cond, List, [], ◌∷◌, Option, None, Some, refl, sym, ap, ◌∙◌, subst}
+use Rattle.std.proofs.Common.{arith, ◌≡◌, ℕ, ◌+◌, nat_eq, Bool, true, false, ◌&&◌, inl, inr, cond, [], ◌∷◌, Option, None, Some, refl, sym, ap, ◌∙◌, subst}
 use Rattle.std.specs.Map.{lookup, set_value}
 use Rattle.std.specs.Option.{option_map_or}
 use Rattle.channel_calls.specs.Marks.{is_made}
@@ -13,7 +13,7 @@ use Rattle.channel_world_model.specs.declared.name.HandleId.{HandleId}
 use Rattle.channel_world_model.specs.declared.name.HandleKind.{HandleKind}
 use Rattle.channel_world_model.specs.declared.name.HandleKind.TheVariants as handle_kind
 use Rattle.channel_world_model.specs.declared.name.Waiter.{Waiter}
-use Rattle.channel_world_model.specs.declared.name.Waiter.TheVariants.{Op, Stream}
+use Rattle.channel_world_model.specs.declared.name.Waiter.TheVariants.{Stream}
 use Rattle.channel_world_runs.specs.Bookkeeping.{written_back, installed, handed_over_by}
 use Rattle.channel_world_runs.specs.Counted.{is_strong, strong_lives, live_on, makes_strong}
 use Rattle.channel_world_runs.specs.Owners.{NameStatus, free, retired, no_stream_status, stream_status, status, status_by, Suits}
@@ -25,6 +25,8 @@ use Rattle.channel_world_runs.specs.declared.names.OperationEntry.{OperationEntr
 use Rattle.channel_world_runs.specs.declared.names.PollState.{PollState}
 use Rattle.channel_world_runs.specs.declared.names.PollState.TheVariants.{Rests, Waits, IsPolled}
 use Rattle.channel_world_runs.specs.declared.name_table.NameTable.{NameTable}
+use Rattle.channel_world_model.proofs.DirectoryLemmas.{set_absent}
+use Rattle.channel_world_model.proofs.WaiterLemmas.{decided}
 use Rattle.channel_world_runs.proofs.RefusalLemmas.{and_true, and_false}
 use Rattle.channel_world_runs.proofs.OwnerNames.{found, handle_entry_status, given_back_same}
 
@@ -35,33 +37,13 @@ bit b = cond b 1 0
 -- ---- a directory
 
 -- a value in the place of another
-set_at : (side : Side) (t : Bool) (n : ℕ) (f : ℕ × Option HandleEntry) (d : Directory HandleEntry) (v : Option HandleEntry) (m : ℕ)
-    → (((x : Option HandleEntry) → lookup (nat_eq n) d ≡ Some x
-    → live_on side (set_value (nat_eq n) d v) + bit (strong_lives side x) ≡ live_on side d + bit (strong_lives side v)))
-    → (x : Option HandleEntry) → cond t (Some f.1) (lookup (nat_eq n) d) ≡ Some x
-    → live_on side (cond t ((f.0, v) ∷ d) (f ∷ set_value (nat_eq n) d v)) + bit (strong_lives side x)
-    ≡ live_on side (f ∷ d) + bit (strong_lives side v)
-set_at side true n f d v m on x e =
-    let same : f.1 ≡ x = ap (λ (o : Option (Option HandleEntry)). elim o [ None ↦ x | Some y ↦ y ]) e in
-    subst (λ (y : Option HandleEntry). bit (strong_lives side v) + live_on side d + bit (strong_lives side y) ≡ bit (strong_lives side f.1) + live_on side d + bit (strong_lives side v))
-    same (omega arith)
-set_at side false n f d v m on x e = let rest = on x e in omega (arith, rest)
-
 set_live : (side : Side) (n : ℕ) (d : Directory HandleEntry) (v x : Option HandleEntry) → lookup (nat_eq n) d ≡ Some x
     → live_on side (set_value (nat_eq n) d v) + bit (strong_lives side x) ≡ live_on side d + bit (strong_lives side v)
 set_live side n [] v x e = absurd (let no : None ≡ Some x = e in cc)
-set_live side n (f ∷ d) v x e = set_at side (nat_eq n f.0) n f d v n (λ y g. set_live side n d v y g) x e
-
-unset_at : (t : Bool) (n : ℕ) (f : ℕ × Option HandleEntry) (d : Directory HandleEntry) (v : Option HandleEntry)
-    → (lookup (nat_eq n) d ≡ None → set_value (nat_eq n) d v ≡ d) → cond t (Some f.1) (lookup (nat_eq n) d) ≡ None
-    → cond t ((f.0, v) ∷ d) (f ∷ set_value (nat_eq n) d v) ≡ f ∷ d
-unset_at true n f d v on e = absurd (let no : Some f.1 ≡ None = e in cc)
-unset_at false n f d v on e = ap (λ (l : Directory HandleEntry). f ∷ l) (on e)
-
--- under a name that was never taken nothing is set
-unset : (n : ℕ) (d : Directory HandleEntry) (v : Option HandleEntry) → lookup (nat_eq n) d ≡ None → set_value (nat_eq n) d v ≡ d
-unset n [] v e = refl
-unset n (f ∷ d) v e = unset_at (nat_eq n f.0) n f d v (unset n d v) e
+set_live side n (f ∷ d) v x e = elim (decided (nat_eq n f.0)) [
+  | inl t ↦ let same : f.1 ≡ x = cc (rw t at e) in let bits = ap (λ (y : Option HandleEntry). bit (strong_lives side y)) same in rw t (omega (arith, bits))
+  | inr t ↦ let rest = set_live side n d v x (rw t at e) in rw t (omega (arith, rest))
+]
 
 -- what lived under a name lives no more
 pub without_live : (side : Side) (n : ℕ) (d : Directory HandleEntry)
@@ -69,7 +51,7 @@ pub without_live : (side : Side) (n : ℕ) (d : Directory HandleEntry)
 without_live side n d = by (lookup (nat_eq n) d) refl where
   by : (o : Option (Option HandleEntry)) → lookup (nat_eq n) d ≡ o
       → live_on side (without_name n d) + bit (strong_lives side (option_map_or (λ (x : Option HandleEntry). x) o None)) ≡ live_on side d
-  by None e = let same = ap (λ (l : Directory HandleEntry). live_on side l) (unset n d None e) in omega (arith, same)
+  by None e = let same = ap (λ (l : Directory HandleEntry). live_on side l) (set_absent n d None e) in omega (arith, same)
   by (Some x) e = let same = set_live side n d None x e in omega (arith, same)
 
 -- a name that is taken, and under which nothing lives yet

@@ -1,46 +1,36 @@
 -- What layers above may use: of a channel with no call under way, of what leads on from one configuration to another, how few steps
--- are left to the calls under way, that each party has one call, and what is owed to those who are pending, and
+-- are left to the calls under way, that each party has one call, and what is owed to those that are pending, and
 -- that only sends bring messages.
 use Rattle.std.proofs.Common.{◌≡◌, false, List, [], ◌∷◌, ◌++◌, None, subst}
 use Rattle.channel_calls.specs.declared.reply.Reply.{Reply}
 use Rattle.channel_world_model.specs.declared.call.Call.{Call}
 use Rattle.channel_world_model.specs.declared.name.Waiter.{Waiter}
 use Rattle.channel_steps.specs.Answers.{asks_first}
-use Rattle.channel_steps.specs.Configuration.{ActiveCall, Configuration, OthersQuiet}
-use Rattle.channel_world_runs.specs.WorldState.{agents_of, Shown, IsQuiet, Led, LeadsOn, Stands, StandsIn}
+use Rattle.channel_steps.specs.Configuration.{ActiveCall, Configuration}
+use Rattle.channel_world_runs.specs.WorldState.{Led, LeadsOn, Stands}
 use Rattle.channel_world_runs.specs.WorldInvariant.{WorldInvariant, AllTry, NamesKept}
-use Rattle.channel_world_runs.specs.Left.{calls_of_others}
 use Rattle.channel_world_runs.specs.Owed.{Owed}
 use Rattle.channel_world_runs.specs.Owners.{All, status}
 use Rattle.channel_world_runs.specs.Refusal.{step_refusal}
 use Rattle.channel_world_runs.specs.Run.{NameState}
-use Rattle.channel_world_runs.specs.Runs.{Moment, FewLeft, LeadsBy, RanTo, moment_of}
+use Rattle.channel_world_runs.specs.Runs.{Moment, LeadsBy}
 use Rattle.channel_world_runs.specs.ObservationAt.{observation_at}
-use Rattle.channel_world_runs.specs.Reaches.{replies_in}
 use Rattle.channel_world_runs.specs.declared.step.Entry.{Entry}
 use Rattle.channel_world_runs.specs.declared.step.PartyId.{PartyId}
-use Rattle.channel_world_runs.specs.declared.step.Step.{Step}
 use Rattle.channel_world_runs.specs.declared.step.Step.TheVariants as step
 use Rattle.channel_world_runs.specs.declared.world_state.WorldState.{WorldState}
 use Rattle.channel_world_runs.proofs.AccountFacts.{no_accounts, accounts_both}
-use Rattle.channel_world_runs.proofs.WorldStateFacts as world_state_facts
+pub use Rattle.channel_world_runs.proofs.WorldStateFacts.{few_in}
 use Rattle.channel_world_runs.proofs.LeftFacts as left_facts
-use Rattle.channel_world_runs.proofs.LoneFacts as facts
+pub use Rattle.channel_world_runs.proofs.LeftFacts.{nobody_still}
+pub use Rattle.channel_world_runs.proofs.LoneFacts.{none_under_way, no_agents}
 use Rattle.channel_world_runs.proofs.OwnerRuns.{idle_and_free}
 use Rattle.channel_world_runs.proofs.OwnerTogether.{all_right}
 use Rattle.channel_world_runs.proofs.ObservationFacts as observation_facts
-use Rattle.channel_world_runs.proofs.ReachesFacts as reaches_facts
+pub use Rattle.channel_world_runs.proofs.ReachesFacts.{ran_leads}
 use Rattle.channel_world_runs.proofs.ReachesFacts.{no_way, ways_on}
 
 module _ {T : Type 0} where
-  -- no configuration that it shows has one
-  pub none_under_way : (f : WorldState T) (s : Configuration T Waiter) → IsQuiet f → Shown f s → s.under_way ≡ []
-  none_under_way f s quiet sh = facts.none_under_way f s quiet sh
-
-  -- and nobody is at work
-  pub no_agents : (f : WorldState T) → IsQuiet f → agents_of f ≡ []
-  no_agents f quiet = facts.no_agents f quiet
-
   -- a call under way asks no listener before it tries
   pub tries_at : (b : NameState T) (s : Configuration T Waiter) (before : List (ActiveCall T Waiter)) (u : ActiveCall T Waiter) (behind : List (ActiveCall T Waiter)) → WorldInvariant b s → s.under_way ≡ before ++ u ∷ behind
       → asks_first u.ask ≡ false
@@ -66,25 +56,11 @@ module _ {T : Type 0} where
   pub leads_on : (f g h : WorldState T) (rs ss : List (Reply T)) → LeadsOn f rs g → LeadsOn g ss h → LeadsOn f (rs ++ ss) h
   leads_on f g h rs ss first second s k = led_further g h s rs ss (first s k) second
 
-  -- and a run
-  pub ran_leads : (steps left : List (Step T)) (old : WorldState T) (trace : List (Entry T)) (new : WorldState T) → RanTo steps left old trace new
-      → LeadsOn old (replies_in trace) new
-  ran_leads steps left old trace new ran = reaches_facts.ran_leads steps left old trace new ran
-
   -- what stood, stands
   pub stands_led : (f g : WorldState T) (rs : List (Reply T)) → Stands f → LeadsOn f rs g → Stands g
   stands_led f g rs before leads =
       let t = leads before.configuration before.stands in
       record { configuration = t.last; stands = t.stands }
-
-  -- no call has more steps left than few, where the others are quiet
-  pub few_in : (f : WorldState T) (s : Configuration T Waiter) → StandsIn f s → FewLeft (moment_of f s)
-  few_in f s k = world_state_facts.few_in f s k
-
-  -- where the others of a call are quiet, they are still so after a step of its own
-  pub nobody_still : (m : Moment T) (p : PartyId) (e : Entry T) (n : Moment T) → WorldInvariant m.name_state m.configuration → LeadsBy m (step.Step p) e n
-      → e.reply ≡ None → OthersQuiet m.configuration.now (calls_of_others p.0 m.configuration.under_way) → OthersQuiet n.configuration.now (calls_of_others p.0 n.configuration.under_way)
-  nobody_still m p e n k l goes_on handle_entry = left_facts.nobody_still m p e n k l goes_on handle_entry
 
   -- in a step, no call that began before that of the party that makes it is of this party
   pub none_before : (m : Moment T) (p : PartyId) (e : Entry T) (n : Moment T) → WorldInvariant m.name_state m.configuration → (l : LeadsBy m (step.Step p) e n)

@@ -1,6 +1,6 @@
 -- The steps that are left to a call, by its party and by its place.
+use Rattle.std.proofs.lemmas.Bool.{eq-eqb, ne_eqb}
 use Rattle.std.proofs.Common.{arith, ◌≡◌, ℕ, suc, ◌≤◌, ◌==◌, nat_eq, Bool, true, false, if◌then◌else◌, List, [], ◌∷◌, ◌++◌, map, length, slice_get, Option, None, Some, refl, sym, ap, ◌∙◌, subst}
-use Rattle.std.proofs.lemmas.Bool.Decides.{nat_tests}
 use Rattle.std.proofs.lemmas.List.{length-map}
 use Rattle.channel_calls.specs.Moves.{Channel}
 use Rattle.channel_calls.specs.Parts.{Parts}
@@ -25,17 +25,6 @@ use Rattle.channel_world_runs.specs.declared.step.PartyId.{PartyId}
 use Rattle.channel_world_runs.specs.declared.step.Step.{Step}
 use Rattle.channel_world_runs.specs.declared.step.Step.TheVariants as step
 use Rattle.channel_world_runs.proofs.OwnerSteps.{not_this, other_number}
-
--- ---- numbers
-
-is_same : (a b : ℕ) → a ≡ b → (a == b) ≡ true
-is_same a b e = grind (arith, nat_tests)
-
-is_other : (a b : ℕ) → (a ≡ b → ⊥) → (a == b) ≡ false
-is_other a b f = by (a == b) refl where
-  by : (t : Bool) → (a == b) ≡ t → t ≡ false
-  by true e = absurd (f (grind (arith, nat_tests)))
-  by false e = refl
 
 module _ {T : Type 0} where
   -- ---- a party has one call under way
@@ -70,9 +59,9 @@ module _ {T : Type 0} where
 
   others_are : (p : ℕ) (us : List (ActiveCall T Waiter)) (mine : ActiveCall T Waiter) (vs : List (ActiveCall T Waiter)) → NoneIs p us → mine.party ≡ p
       → calls_of_others p (us ++ (mine ∷ vs)) ≡ us ++ vs
-  others_are p [] mine vs none his = rw (is_same mine.party p his) refl
+  others_are p [] mine vs none his = rw (eq-eqb mine.party p his) refl
   others_are p (u ∷ us) mine vs none his =
-      rw (is_other u.party p none.0) (ap (λ (l : List (ActiveCall T Waiter)). u ∷ l) (others_are p us mine vs none.1 his))
+      rw (ne_eqb u.party p none.0) (ap (λ (l : List (ActiveCall T Waiter)). u ∷ l) (others_are p us mine vs none.1 his))
 
   -- ---- the parties are those of the calls under way
 
@@ -93,12 +82,12 @@ module _ {T : Type 0} where
       → mine.party ≡ p → left_of p parts ps ≡ left_at (length us) (all_left parts ps)
   left_is p parts [] mine vs [] e none his = absurd cc
   left_is p parts [] mine vs (x ∷ xs) e none his =
-      let first : x.id ≡ mine.party = cc e in rw (is_same x.id p (first ∙ his)) refl
+      let first : x.id ≡ mine.party = cc e in rw (eq-eqb x.id p (first ∙ his)) refl
   left_is p parts (u ∷ us) mine vs [] e none his = absurd cc
   left_is p parts (u ∷ us) mine vs (x ∷ xs) e none his =
       let first : x.id ≡ u.party = cc e in
       let rest : parties_in xs ≡ map (λ (v : ActiveCall T Waiter). v.party) (us ++ (mine ∷ vs)) = cc e in
-      rw (is_other x.id p (λ same. none.0 (sym first ∙ same))) (left_is p parts us mine vs xs rest none.1 his)
+      rw (ne_eqb x.id p (λ same. none.0 (sym first ∙ same))) (left_is p parts us mine vs xs rest none.1 his)
 
   pub few_of : (p : ℕ) (parts : Parts T Waiter) (ps : List (Party T Waiter)) (us : List (ActiveCall T Waiter))
       → parties_in ps ≡ map (λ (u : ActiveCall T Waiter). u.party) us

@@ -1,7 +1,6 @@
 -- The names in the kit's list of recent use and those of them that are marked, as one is put in front, goes last or is taken out.
 use Rattle.std.proofs.Common.{arith, ◌≡◌, ◌-◌, ◌^◌, ◌<◌, ◌≤◌, ◌++◌, ◌&&◌, Bool, List, [], ◌∷◌, length, true, false, if◌then◌else◌, Option, None, Some, is_some, refl, sym, ap, ◌∙◌, subst, inl, inr}
 use Rattle.std.specs.List.{IsDistinct, count_by}
-use Rattle.std.specs.Option.{option_map_or}
 use Rattle.std.specs.Map.{keys_of, lookup, lookup_entry, remove_entry}
 use Rattle.std.proofs.lemmas.List.{take_all, map-append}
 use Rattle.lru.specs.LruCache.{LruCache, put_entries, demoted}
@@ -49,7 +48,7 @@ module _ (w : Waiter) where
     | inr t ↦ rw t (entry_known es)
   ]
 
-  -- who has no place is not marked
+  -- a name without a place is not marked
   unmarked : (es : List (Waiter × Bool)) → is_among w (keys_of es) ≡ false → is_among w (marked_places es) ≡ false
   unmarked [] e = refl
   unmarked ((v, true) ∷ es) e = let h = or_false (same_waiter w v) (is_among w (keys_of es)) e in rw h.0 (unmarked es h.1)

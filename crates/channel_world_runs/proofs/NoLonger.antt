@@ -19,7 +19,7 @@ once_less w v vs h = elim (decided (same_waiter w v)) [
   | inr f ↦ rw f at h
 ]
 
--- whoever stands there once does not stand behind
+-- each that stands there once does not stand behind
 not_behind : (v w : Waiter) (vs : List Waiter) → times w (v ∷ vs) ≤ 1 → is_among w vs ≡ true → same_waiter w v ≡ false
 not_behind v w vs once i = elim (decided (same_waiter w v)) [
   | inl t ↦ absurd (let one = (rw t at once) in let there = among_counts w vs i in omega (arith, one, there))

@@ -1,4 +1,4 @@
--- Who is pending and was woken holds a listener that is on its list, so that its poll, made alone, is refused no memory.
+-- One that is pending and was woken holds a listener that is on its list, so that its poll, made alone, is refused no memory.
 use Rattle.std.proofs.Common.{cond, ◌≡◌, nat_eq, ℕ, Bool, true, false, if◌then◌else◌, List, [], ◌∷◌, Option, None, Some, is_some, inl, inr, refl, sym, ap, ◌∙◌, subst}
 use Rattle.std.specs.Map.{lookup, keys_of}
 use Rattle.std.specs.Option.{option_map, option_map_or}
@@ -71,7 +71,7 @@ no_stream : (s : PollState) (h : ListenerRef) → no_stream_status s ≡ waits h
 no_stream Rests h e = let no : rests Streams ≡ waits h = e in cc
 no_stream x h e = let no : invalid ≡ waits h = e in cc
 
--- who waits with this listener holds it, on its own line
+-- one that waits with this listener holds it, on its own line
 same_held : (line : WaitList) (key : Key) (h : ListenerRef) → waits (record { line = line; key = key }) ≡ waits h
     → (let mine : ListenerRef = record { line = line; key = key } in mine) ≡ h
 same_held line key h e = cc e

@@ -49,7 +49,7 @@ unless_most : (told : List Telling) (n : ℕ) → unless_told told n ≤ n
 unless_most [] n = omega arith
 unless_most (t ∷ ts) n = omega arith
 
--- who has nothing left to tell has announced all that it took
+-- a call with nothing left to tell has announced all that it took
 all_announced : (told : List Telling) (n : ℕ) (besides : List Telling) → told ++ [] ≡ owed_takings n ++ besides → unless_told told n ≤ 0
 all_announced [] zero besides e = omega arith
 all_announced [] (suc n) besides e = absurd cc

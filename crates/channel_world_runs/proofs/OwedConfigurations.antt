@@ -1,5 +1,5 @@
 -- What is owed, said of a configuration: that is proved first, and of the world by it.
-use Rattle.std.specs.Prelude.{◌≡◌, ℕ, ◌+◌, ◌≤◌, Bool, true, false, [], length, ◌⊎◌}
+use Rattle.std.specs.Prelude.{◌≡◌, ℕ, ◌+◌, ◌≤◌, Bool, true, [], length, ◌⊎◌}
 use Rattle.std.specs.List.{count_by}
 use Rattle.channel_calls.specs.declared.ask.ChannelAsk.{ChannelAsk}
 use Rattle.channel_calls.specs.declared.stage.WaitList.{WaitList}

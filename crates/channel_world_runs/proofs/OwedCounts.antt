@@ -1,5 +1,5 @@
 -- How many are told: no more than those whose names are pending and woken, and the calls that have a listener in hand.
-use Rattle.std.proofs.Common.{zero, arith, ◌≡◌, ℕ, suc, nat_eq, ◌+◌, ◌≤◌, Bool, true, false, cond, if◌then◌else◌, List, [], ◌∷◌, ◌++◌, map, length, length-append, Option, None, Some, inl, inr, refl, sym, ap, ◌∙◌, subst}
+use Rattle.std.proofs.Common.{zero, arith, ◌≡◌, ℕ, suc, ◌+◌, ◌≤◌, Bool, true, false, cond, if◌then◌else◌, List, [], ◌∷◌, ◌++◌, length, length-append, Option, None, Some, inl, inr, refl, sym, ap, ◌∙◌, subst}
 use Rattle.std.proofs.lemmas.List.Sums.{sum_by-cons}
 use Rattle.std.specs.List.{count_by}
 use Rattle.std.specs.Map.{keys_of}
@@ -84,7 +84,7 @@ one_if b = cond b 1 0
 pub count_first : {A : Type 0} (test : A → Bool) (x : A) (xs : List A) → count_by test (x ∷ xs) ≡ one_if (test x) + count_by test xs
 count_first test x xs = sum_by-cons (λ y. one_if (test y)) x xs
 
--- ---- the keys of those who are pending, and of calls
+-- ---- the keys of those that are pending, and of calls
 
 -- its listener, if it is one of this line
 abbrev key_on : WaitList → NameStatus → List Key
@@ -197,7 +197,7 @@ module _ {T : Type 0} where
       let first = count_first (λ v. is_line line (line_at (names_of r) v)) w ws in
       omega (arith, both, here, its, rest, first)
 
-  -- the listener of one who is pending is among those of its line
+  -- the listener of one that is pending is among those of its line
   in_keys : (line : WaitList) (k : Key) (r : NameTable T) (w : Waiter) (ws : List Waiter) → IsAmong w ws
       → status r w ≡ waits (record { line = line; key = k }) → IsAmong k (keys_on line r ws)
   in_keys line k r w [] i e = absurd i

@@ -1,4 +1,4 @@
--- What is owed in a configuration to those who are pending, by what is owed to those who wait and by who owns whose listener.
+-- What is owed in a configuration to those that are pending, by what is owed to those that wait and by who owns whose listener.
 use Rattle.std.proofs.Common.{arith, ◌≡◌, ℕ, ◌+◌, ◌≤◌, true, false, List, [], ◌∷◌, length, Option, None, Some, ◌⊎◌, inl, inr, refl, sym, ap, ◌∙◌}
 use Rattle.concurrent_queue.specs.Queue.{Phase}
 use Rattle.event_listener.specs.declared.key.Key.{Key}

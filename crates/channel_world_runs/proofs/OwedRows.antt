@@ -142,7 +142,7 @@ tells_by_the_default : (a b c : Key)
     (sends 7 (Op (op 0) ∷ []) ++ sends 8 []))))))) opened)) → ⊥
 tells_by_the_default a b c owed = let few : 2 ≤ 1 = owed.receives (Op (op 1)) (b, refl, not_first) in omega (arith, few)
 
--- A receive that listens and pends without a second try: the message and its notice came before the listening.
+-- A receive that listens and pends without a second try: the message and its notification came before the listening.
 pends_without_a_second_try : (a : Key)
     → Owed (shown (play
     (made 0 ++ (begins 0 (call.Poll (op 0)) ∷ steps 0 Nothing [] ∷
@@ -150,7 +150,7 @@ pends_without_a_second_try : (a : Key)
     steps 0 Nothing [] ∷ ends 0 (reply.RecvPoll Pending) (Some a) ∷ [])) opened)) → ⊥
 pends_without_a_second_try a owed = let few : 1 ≤ 0 = owed.receives (Op (op 0)) (a, refl, λ i. i) in omega (arith, few)
 
--- A woken receive that is given up and drops its notice: the other one still waits beside the message.
+-- A woken receive that is given up and drops its notification: the other one still waits beside the message.
 drops_its_notice : (a b : Key)
     → Owed (shown (play
     (made 0 ++ (pends 0 a ++ (made 1 ++ (pends 1 b ++ (sends 7 (Op (op 0) ∷ []) ++

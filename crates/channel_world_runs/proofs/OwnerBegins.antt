@@ -61,7 +61,7 @@ abbrev pub held_in : NameStatus → Option ListenerRef
 held_in (waits h) = Some h
 held_in p = None
 
--- in the order of waking a new name has no place, who is polled has one, and who is given up or dropped loses it
+-- in the order of waking a new name has no place, one that is polled has one, and one that is given up or dropped loses it
 abbrev pub Ordered : Waiter → NameStatus → NameStatus → (WakeOrder → WakeOrder) → Type 0
 Ordered w before x f =
     ((before ≡ free) × (x ≡ retired) × ((o : WakeOrder) → f o ≡ o))

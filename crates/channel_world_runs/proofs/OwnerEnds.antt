@@ -1,5 +1,5 @@
 -- What a call that ends gives back to the names.
-use Rattle.std.proofs.Common.{◌≡◌, ℕ, nat_eq, true, false, Option, None, Some, is_some, Err, ◌⊎◌, inl, inr, refl, sym, ap, ◌∙◌, subst}
+use Rattle.std.proofs.Common.{◌≡◌, ℕ, nat_eq, true, Option, None, Some, is_some, Err, ◌⊎◌, inl, inr, refl, sym, ap, ◌∙◌, subst}
 use Rattle.std.specs.Map.{lookup}
 use Rattle.std.specs.Option.{option_map_or}
 use Rattle.event_listener.specs.declared.key.Key.{Key}

@@ -64,7 +64,7 @@ none_some key (f ∷ es) e h = none_at key (same_key key f.0) f es refl (none_so
 key_is : (line : WaitList) (a b : Key) → on line a ≡ on line b → b ≡ a
 key_is line a b e = sym (ap (λ (o : Option ListenerRef). elim o [ None ↦ a | Some h ↦ h.key ]) e)
 
-kind_none : (a b : Bool) → (if a then Some true else (if b then Some false else None)) ≡ None → (a ≡ false) × (b ≡ false)
+pub kind_none : (a b : Bool) → (if a then Some true else (if b then Some false else None)) ≡ None → (a ≡ false) × (b ≡ false)
 kind_none true b e = absurd (let no : Some true ≡ None = e in cc)
 kind_none false true e = absurd (let no : Some false ≡ None = e in cc)
 kind_none false false e = (refl, refl)

@@ -174,7 +174,7 @@ module _ {X : Type 0} (key : Key) where
   value_now x (f ∷ es) h = now_at (same_key key f.0) x f es refl (value_now x es) h
 
 module _ {W : Type 0} where
-  -- whoever waits is among the tasks
+  -- each that waits is among the tasks
   pub among_tasks : (key : Key) (w : W) (ws : List (Key × Option W)) → IsAmong (key, Some w) ws → IsAmong w (tasks_of ws)
   among_tasks key w [] h = h
   among_tasks key w ((k, o) ∷ ws) (inl h) = first o (ap (λ (x : Key × Option W). x.1) h)

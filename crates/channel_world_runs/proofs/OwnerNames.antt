@@ -1,6 +1,12 @@
 -- How names stand after what calls do to them.
-use Rattle.std.proofs.Common.{arith, ◌≡◌, ℕ, nat_eq, Bool, true, false, cond, List, [], ◌∷◌, Option, None, Some, is_some, ◌⊎◌, inl, inr, refl, sym, ap, ◌∙◌, subst}
+use Rattle.std.proofs.Common.{arith, ◌≡◌, ℕ, nat_eq, Bool, true, false, cond, Option, None, Some, is_some, ◌⊎◌, inl, inr, refl, sym, ap, ◌∙◌, subst}
+use Rattle.std.proofs.lemmas.Bool.{false_from_ne_true}
 use Rattle.std.proofs.lemmas.Bool.Decides.{nat_tests}
+use Rattle.std.proofs.lemmas.Cmp.{nat_eq_equiv}
+use Rattle.std.proofs.lemmas.Map.{lookup-set_value}
+use Rattle.channel_world_model.proofs.DirectoryLemmas.{set_absent, no_value}
+use Rattle.channel_world_model.proofs.WaiterLemmas.{decided}
+pub use Rattle.channel_world_model.proofs.WaiterLemmas.{same_number}
 use Rattle.std.specs.Map.{lookup, set_value}
 use Rattle.std.specs.Option.{option_map_or}
 use Rattle.channel_world_model.specs.Names.{Directory, at, borrowed_by, with_spent, with_changed}
@@ -15,18 +21,17 @@ use Rattle.channel_world_runs.specs.declared.names.HandleEntry.{HandleEntry}
 use Rattle.channel_world_runs.specs.declared.names.OperationEntry.{OperationEntry}
 use Rattle.channel_world_runs.specs.declared.name_table.NameTable.{NameTable}
 
-pub same_number : (a b : ℕ) → nat_eq a b ≡ true → a ≡ b
-same_number a b e = grind (arith, nat_tests, e)
-
 pub own_number : (a : ℕ) → nat_eq a a ≡ true
 own_number a = grind (arith, nat_tests)
 
+pub differ : (a b : ℕ) → (a ≡ b → ⊥) → nat_eq a b ≡ false
+differ a b f = false_from_ne_true (nat_eq a b) (λ e. f (same_number a b e))
+
 pub number_or : (a b : ℕ) → (a ≡ b) ⊎ (a ≡ b → ⊥)
-number_or a b = by (nat_eq a b) refl
-  where
-    by : (t : Bool) → nat_eq a b ≡ t → (a ≡ b) ⊎ (a ≡ b → ⊥)
-    by true e = inl (same_number a b e)
-    by false e = inr (λ h. absurd (let never : true ≡ false = sym (own_number a) ∙ (ap (λ n. nat_eq a n) h ∙ e) in cc))
+number_or a b = elim (decided (nat_eq a b)) [
+  | inl e ↦ inl (same_number a b e)
+  | inr e ↦ inr (λ h. cc (sym (own_number a) ∙ (ap (λ n. nat_eq a n) h ∙ e)))
+]
 
 op_named : (a b : OpId) → a.0 ≡ b.0 → Op a ≡ Op b
 op_named a b e = ap (λ n. let w : Waiter = Op (record { 0 = n }) in w) e
@@ -58,13 +63,6 @@ module _ {X : Type 0} (p : X → NameStatus) (d : Directory X) where
   spent_at true n = refl
   spent_at false n = refl
 
-  differ : (a b : ℕ) → (a ≡ b → ⊥) → nat_eq a b ≡ false
-  differ a b f = by (nat_eq a b) refl
-    where
-      by : (t : Bool) → nat_eq a b ≡ t → t ≡ false
-      by true e = absurd (f (same_number a b e))
-      by false e = refl
-
   pub spent_there : (n : ℕ) → seen (with_spent n d) n ≡ retired
   spent_there n = spent_at (nat_eq n n) n ∙ ap (λ t. cond t retired (seen d n)) (own_number n)
 
@@ -72,27 +70,17 @@ module _ {X : Type 0} (p : X → NameStatus) (d : Directory X) where
   spent_other n m f = spent_at (nat_eq m n) m ∙ ap (λ t. cond t retired (seen d m)) (differ m n f)
 
 module _ {X : Type 0} where
-  set_at : (t : Bool) (n : ℕ) (f : ℕ × Option X) (es : Directory X) (v : Option X) → nat_eq n f.0 ≡ t → (is_some (lookup (nat_eq n) es) ≡ true → lookup (nat_eq n) (set_value (nat_eq n) es v) ≡ Some v)
-      → is_some (cond t (Some f.1) (lookup (nat_eq n) es)) ≡ true → lookup (nat_eq n) (cond t ((f.0, v) ∷ es) (f ∷ set_value (nat_eq n) es v)) ≡ Some v
-  set_at true n f es v same on h = ap (λ t. cond t (Some v) (lookup (nat_eq n) es)) same
-  set_at false n f es v same on h = ap (λ t. cond t (Some f.1) (lookup (nat_eq n) (set_value (nat_eq n) es v))) same ∙ on h
-
   pub set_there : (n : ℕ) (es : Directory X) (v : Option X) → is_some (lookup (nat_eq n) es) ≡ true → lookup (nat_eq n) (set_value (nat_eq n) es v) ≡ Some v
-  set_there n [] v h = absurd (let no : false ≡ true = h in cc)
-  set_there n (f ∷ es) v h = set_at (nat_eq n f.0) n f es v refl (set_there n es v) h
-
-  other_at : (t : Bool) (n m : ℕ) (f : ℕ × Option X) (es : Directory X) (v : Option X) → nat_eq n f.0 ≡ t → (m ≡ n → ⊥) → lookup (nat_eq m) (set_value (nat_eq n) es v) ≡ lookup (nat_eq m) es
-      → lookup (nat_eq m) (cond t ((f.0, v) ∷ es) (f ∷ set_value (nat_eq n) es v)) ≡ lookup (nat_eq m) (f ∷ es)
-  other_at true n m f es v same other on = by (nat_eq m f.0) refl
-    where
-      by : (u : Bool) → nat_eq m f.0 ≡ u → cond u (Some v) (lookup (nat_eq m) es) ≡ cond u (Some f.1) (lookup (nat_eq m) es)
-      by true e = absurd (other (same_number m f.0 e ∙ sym (same_number n f.0 same)))
-      by false e = refl
-  other_at false n m f es v same other on = ap (λ o. cond (nat_eq m f.0) (Some f.1) o) on
+  set_there n es v h =
+      lookup-set_value nat_eq_equiv (nat_eq n) (λ x y t. nat_eq_equiv.congr n x y t) n v es h ∙ ap (λ t. cond t (Some v) (lookup (nat_eq n) es)) (own_number n)
 
   pub set_other : (n m : ℕ) (es : Directory X) (v : Option X) → (m ≡ n → ⊥) → lookup (nat_eq m) (set_value (nat_eq n) es v) ≡ lookup (nat_eq m) es
-  set_other n m [] v other = refl
-  set_other n m (f ∷ es) v other = other_at (nat_eq n f.0) n m f es v refl other (set_other n m es v other)
+  set_other n m es v other = elim (decided (is_some (lookup (nat_eq n) es))) [
+    | inl t ↦
+        lookup-set_value nat_eq_equiv (nat_eq n) (λ x y u. nat_eq_equiv.congr n x y u) m v es t
+        ∙ ap (λ b. cond b (Some v) (lookup (nat_eq m) es)) (differ n m (λ e. other (sym e)))
+    | inr t ↦ ap (λ (d : Directory X). lookup (nat_eq m) d) (set_absent n es v (no_value n es t))
+  ]
 
   -- what lives there was looked up
   pub found : (n : ℕ) (d : Directory X) (x : X) → at n d ≡ Some x → lookup (nat_eq n) d ≡ Some (Some x)

@@ -1,10 +1,11 @@
--- Names in the order of waking: who has a place, who was woken, and that no one was twice.
-use Rattle.std.proofs.Common.{◌≡◌, Bool, true, false, cond, not, ◌||◌, if◌then◌else◌, List, [], ◌∷◌, ◌++◌, Option, None, Some, ◌⊎◌, inl, inr, refl, sym, ap, ◌∙◌, subst}
+-- Names in the order of waking: which have a place, which were woken, and that none was woken twice.
+use Rattle.std.proofs.Common.{◌≡◌, Bool, true, false, ◌||◌, if◌then◌else◌, List, [], ◌∷◌, ◌++◌, Option, None, Some, ◌⊎◌, inl, inr, refl, sym, ap, ◌∙◌, subst}
 use Rattle.event_listener.specs.declared.key.Key.{Key}
 use Rattle.channel_world_model.specs.Lines.{same_waiter, is_among, without_waiter}
 use Rattle.channel_world_model.specs.declared.name.Waiter.{Waiter}
 use Rattle.channel_world_model.specs.declared.name.Waiter.TheVariants.{Op, Stream}
-use Rattle.channel_world_model.proofs.WaiterLemmas.{same_refl, same_sound, or_true}
+use Rattle.channel_world_model.proofs.Counting.{or_right}
+use Rattle.channel_world_model.proofs.WaiterLemmas.{decided, left_among, none_left, same_refl, same_sound, or_true}
 use Rattle.channel_world_runs.specs.NameTable.{is_name_pending}
 use Rattle.channel_world_runs.specs.Order.{WakeOrder, placed, without_place, all_woken, kept_place, order_settled}
 use Rattle.channel_world_runs.specs.Owners.{IsAmong, NoneTwice, subject}
@@ -23,57 +24,33 @@ among_is w (v ∷ ws) e = by (or_true (same_waiter w v) (is_among w ws) e) (amon
     by (inl same) on = inl (sym (same_sound w v same))
     by (inr more) on = inr (on more)
 
-or_more : (b c : Bool) → c ≡ true → (b || c) ≡ true
-or_more true c e = refl
-or_more false c e = e
-
 pub is_there : (w : Waiter) (ws : List Waiter) → IsAmong w ws → is_among w ws ≡ true
 is_there w [] i = absurd i
 is_there w (v ∷ ws) (inl e) =
     ap (λ (b : Bool). b || is_among w ws) (ap (λ (x : Waiter). same_waiter w x) e ∙ same_refl w)
-is_there w (v ∷ ws) (inr i) = or_more (same_waiter w v) (is_among w ws) (is_there w ws i)
+is_there w (v ∷ ws) (inr i) = or_right (same_waiter w v) (is_among w ws) (is_there w ws i)
 
 -- ---- one is taken out
 
 pub was_among : (w v : Waiter) (ws : List Waiter) → IsAmong v (without_waiter w ws) → IsAmong v ws
-was_among w v [] i = i
-was_among w v (x ∷ ws) i = by (same_waiter w x) i (was_among w v ws)
-  where
-    by : (t : Bool) → IsAmong v (cond (not t) (x ∷ without_waiter w ws) (without_waiter w ws)) → (IsAmong v (without_waiter w ws) → IsAmong v ws)
-        → IsAmong v (x ∷ ws)
-    by true j on = inr (on j)
-    by false (inl e) on = inl e
-    by false (inr j) on = inr (on j)
+was_among w v ws i = among_is v ws (left_among w v ws (is_there v (without_waiter w ws) i)).0
 
 pub is_out : (w : Waiter) (ws : List Waiter) → IsAmong w (without_waiter w ws) → ⊥
-is_out w [] i = i
-is_out w (x ∷ ws) i = by (same_waiter w x) refl i (is_out w ws)
-  where
-    by : (t : Bool) → same_waiter w x ≡ t → IsAmong w (cond (not t) (x ∷ without_waiter w ws) (without_waiter w ws))
-        → (IsAmong w (without_waiter w ws) → ⊥) → ⊥
-    by true e j on = on j
-    by false e (inl same) on = absurd (let no : true ≡ false =
-        sym (same_refl w) ∙ (ap (λ (y : Waiter). same_waiter w y) (sym same) ∙ e) in cc)
-    by false e (inr j) on = on j
+is_out w ws i = cc (sym (none_left w ws) ∙ is_there w (without_waiter w ws) i)
 
 pub stays_among : (w v : Waiter) (ws : List Waiter) → (v ≡ w → ⊥) → IsAmong v ws → IsAmong v (without_waiter w ws)
 stays_among w v [] other i = i
-stays_among w v (x ∷ ws) other i = by (same_waiter w x) refl i (stays_among w v ws other)
-  where
-    by : (t : Bool) → same_waiter w x ≡ t → IsAmong v (x ∷ ws) → (IsAmong v ws → IsAmong v (without_waiter w ws))
-        → IsAmong v (cond (not t) (x ∷ without_waiter w ws) (without_waiter w ws))
-    by true e (inl same) on = absurd (other (sym same ∙ sym (same_sound w x e)))
-    by true e (inr j) on = on j
-    by false e (inl same) on = inl same
-    by false e (inr j) on = inr (on j)
+stays_among w v (x ∷ ws) other i = elim (decided (same_waiter w x)) [
+  | inl t ↦ rw t (elim i [ inl same ↦ absurd (other (sym same ∙ sym (same_sound w x t))) | inr j ↦ stays_among w v ws other j ])
+  | inr t ↦ rw t (elim i [ inl same ↦ inl same | inr j ↦ inr (stays_among w v ws other j) ])
+]
 
 pub once_without : (w : Waiter) (ws : List Waiter) → NoneTwice ws → NoneTwice (without_waiter w ws)
 once_without w [] h = h
-once_without w (x ∷ ws) h = by (same_waiter w x) (once_without w ws h.1)
-  where
-    by : (t : Bool) → NoneTwice (without_waiter w ws) → NoneTwice (cond (not t) (x ∷ without_waiter w ws) (without_waiter w ws))
-    by true k = k
-    by false k = (λ i. h.0 (was_among w x ws i), k)
+once_without w (x ∷ ws) h = elim (decided (same_waiter w x)) [
+  | inl t ↦ rw t (once_without w ws h.1)
+  | inr t ↦ rw t (λ i. h.0 (was_among w x ws i), once_without w ws h.1)
+]
 
 -- ---- one comes last
 
@@ -127,7 +104,7 @@ module _ {T : Type 0} (r : NameTable T) where
   abbrev woke : Waiter → WakeOrder → WakeOrder
   woke w o = next (is_name_pending r w) (is_among w o.places) w o
 
-  -- whoever has a place keeps it, and whoever was woken stays so
+  -- each that has a place keeps it, and each that was woken stays so
   pub all_placed : (names : List Waiter) (v : Waiter) (o : WakeOrder) → IsAmong v o.places → IsAmong v (all_woken r names o).places
   all_placed [] v o i = i
   all_placed (n ∷ names) v o i = all_placed names v (woke n o) (next_places (is_name_pending r n) (is_among n o.places) n v o i)
@@ -136,7 +113,7 @@ module _ {T : Type 0} (r : NameTable T) where
   all_stay [] v o i = i
   all_stay (n ∷ names) v o i = all_stay names v (woke n o) (next_stays (is_name_pending r n) (is_among n o.places) n v o i)
 
-  -- whoever comes is named and pending,
+  -- each that comes is named and pending,
   pub all_come : (names : List Waiter) (v : Waiter) (o : WakeOrder) → IsAmong v (all_woken r names o).woken
       → IsAmong v o.woken ⊎ (IsAmong v names × (is_name_pending r v ≡ true))
   all_come [] v o i = inl i
@@ -151,7 +128,7 @@ module _ {T : Type 0} (r : NameTable T) where
       by (inl j) = first (next_comes (is_name_pending r n) (is_among n o.places) n v o j)
       by (inr (j, p)) = inr (inr j, p)
 
-  -- and whoever is named, pending and has a place comes
+  -- and each that is named, pending and has a place comes
   pub all_there : (names : List Waiter) (v : Waiter) (o : WakeOrder) → IsAmong v names → is_name_pending r v ≡ true → IsAmong v o.places
       → IsAmong v (all_woken r names o).woken
   all_there [] v o i p k = absurd i
@@ -195,7 +172,7 @@ module _ {T : Type 0} where
   settled_places (on_return.PollNext receiver) key v o other i = kept_places key (Stream receiver) v o (apart_from v (Stream receiver) other) i
   settled_places e key v o other i = i
 
-  -- with a listener left, whoever has a place keeps it
+  -- with a listener left, each that has a place keeps it
   pub settled_keeps : (e : OnReturn T) (key : Key) (v : Waiter) (o : WakeOrder) → IsAmong v o.places → IsAmong v (order_settled e (Some key) o).places
   settled_keeps (on_return.Poll op) key v o i = i
   settled_keeps (on_return.PollNext receiver) key v o i = i

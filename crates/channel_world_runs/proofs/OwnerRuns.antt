@@ -17,12 +17,11 @@ use Rattle.event_listener.specs.declared.key.Key.{Key}
 use Rattle.channel_steps.specs.Configuration.{ActiveCall, Configuration, Steps, Known, AllKnown, sees, does, unless_ended}
 use Rattle.channel_world_runs.specs.Bookkeeping.{written_back}
 use Rattle.channel_world_runs.specs.Order.{all_woken, order_settled}
-use Rattle.channel_world_runs.specs.Owners.{All, AnyOf, NameStatus, free, retired, invalid, rests, waits, polled, status, holding, task_at, wait_of, line_asked, Bears, subject, AgentFits, Together, Differ, AllDiffer, Holder, named, calling, HoldsIn, Owned}
+use Rattle.channel_world_runs.specs.Owners.{All, AnyOf, NameStatus, invalid, waits, status, holding, task_at, wait_of, line_asked, Bears, subject, AgentFits, Together, Differ, AllDiffer, Holder, named, calling, HoldsIn, Owned}
 use Rattle.channel_world_runs.specs.Refusal.{begin_refusal, step_refusal}
 use Rattle.channel_world_runs.specs.NameTable.{is_at_work}
 use Rattle.channel_world_runs.specs.Run.{NameState, name_state_ended, with_woken}
 use Rattle.channel_world_runs.specs.Calls.{Agent}
-use Rattle.channel_world_runs.specs.declared.name_table.NameTable.{NameTable}
 use Rattle.channel_world_runs.specs.declared.step.PartyId.{PartyId}
 use Rattle.channel_world_runs.specs.declared.step.Step.TheVariants as step
 use Rattle.channel_world_runs.proofs.AskStarts.{line_waits}
@@ -40,7 +39,7 @@ module _ {T : Type 0} where
   known_of now [] u vs h = h.0
   known_of now (x ∷ us) u vs h = known_of now us u vs h.1
 
-  -- ---- those who hold, beside the call that makes the step
+  -- ---- those that hold, beside the call that makes the step
 
   abbrev Beyond : ℕ → ListenerRef → List (ActiveCall T Waiter) → List (ActiveCall T Waiter) → Type 0
   Beyond q h before behind = AnyOf (HasIt q h) before ⊎ AnyOf (HasIt q h) behind
@@ -231,7 +230,7 @@ module _ {T : Type 0} where
         )
 
 pub inner : {X : Type 0} (x y : X) → Some x ≡ Some y → x ≡ y
-inner x y e = ap (λ (o : Option _). elim o [ None ↦ x | Some z ↦ z ]) e
+inner x y e = cc e
 
 pub subject_or : (x : Option Waiter) (v : Waiter) → (x ≡ Some v) ⊎ (x ≡ Some v → ⊥)
 subject_or None v = inr (λ e. absurd (let no : None ≡ Some v = e in cc))
@@ -242,8 +241,7 @@ subject_or (Some w) v = by (waiter_or w v)
     by (inr f) = inr (λ e. f (inner w v e))
 
 pub waits_is : (h k : ListenerRef) → waits h ≡ waits k → h ≡ k
-waits_is h k e =
-    ap (λ (x : NameStatus). elim x [ waits z ↦ z | free ↦ h | retired ↦ h | invalid ↦ h | rests l ↦ h | polled l ↦ h ]) e
+waits_is h k e = cc e
 
 no_waits_amiss : (h : ListenerRef) → waits h ≡ invalid → ⊥
 no_waits_amiss h e = absurd (cc e)

@@ -1,5 +1,5 @@
--- Who was woken is told, and who wasn't waits: in a channel that was just opened, and after every step.
-use Rattle.std.proofs.Common.{◌≡◌, ℕ, Bool, true, false, List, [], ◌∷◌, ◌++◌, map, Option, None, Some, is_some, ◌⊎◌, inl, inr, refl, sym, ap, ◌∙◌, subst}
+-- One that was woken is told, and one that wasn't waits: in a channel that was just opened, and after every step.
+use Rattle.std.proofs.Common.{◌≡◌, ℕ, true, false, List, [], ◌∷◌, ◌++◌, map, Option, None, Some, is_some, ◌⊎◌, inl, inr, refl, sym, ap, ◌∙◌, subst}
 use Rattle.std.specs.Map.{keys_of}
 use Rattle.event_listener.specs.declared.key.Key.{Key}
 use Rattle.channel_calls.specs.Moves.{Channel}
@@ -131,7 +131,7 @@ module _ {T : Type 0} where
   none_works p (a ∷ more) [] v t f = absurd t
   none_works p (a ∷ more) (u ∷ us) v t f = (λ e. f (busy p a.on_return _ v t.0.suits e), none_works p more us v t.1 f)
 
-  -- whoever is pending, and for whose name a listener waits, is pending with that one
+  -- each that is pending, and for whose name a listener waits, is pending with that one
   own_held : (b : NameState T) (s : Configuration T Waiter) → Owned b s → (v : Waiter) (h k : ListenerRef)
       → IsOwn b s.under_way v h → status b.name_table v ≡ waits k → h ≡ k
   own_held b s o v h k (inl x) e = waits_is h k (sym x ∙ e)
@@ -358,7 +358,7 @@ module _ {T : Type 0} where
         not_had : holding st.mine.at ≡ Some h → ⊥
         not_had had = apart v p (o.alone (named v) (calling p) h e (was_mine b s t p m r kp names o known st h had))
 
-        -- whoever is named waited with it, and is told
+        -- each that is named waited with it, and is told
         heard : IsAmong v names → IsMarked v order1.woken h t.now
         heard i =
             let x = follow.woken v i in

@@ -69,7 +69,7 @@ module _ {X : Type 0} where
       set_back_at (same_key key f.0) key x e f es (set_value (same_key key) es x) refl (set_back key x e es) h
 
 module _ {W : Type 0} where
-  -- whoever is woken waited
+  -- each that is woken waited
   pub waited : (w : W) (ws : List (Key × Option W)) → IsAmong w (tasks_of ws) → (key : Key) × IsAmong (key, Some w) ws
   waited w [] h = absurd h
   waited w ((k, None) ∷ ws) h = let more = waited w ws h in (more.0, inr more.1)
@@ -83,9 +83,9 @@ module _ {W : Type 0} where
   told_keys additional k (w ∷ ws) (t ∷ ts) h (inl i) = inl i
   told_keys additional k (w ∷ ws) (t ∷ ts) h (inr i) = inr (told_keys additional k ws ts (omega (arith, h)) i)
 
-  -- One list after a step that wakes these, with this listener in hand, that may be to wake this task: those who were told are
+  -- One list after a step that wakes these, with this listener in hand, that may be to wake this task: those that were told are
   -- told still, but for the one in hand; a listener that waits waited for the same, or is the one in hand, and waits for its
-  -- task; whoever is woken waited, and is told.
+  -- task; each that is woken waited, and is told.
   pub record Tells (line : WaitList) (l l' : Listeners W) (names : List W) (had : Option ListenerRef) (task : Option W) : Type 0 where
     pub told : (key : Key) → (had ≡ on line key → ⊥) → IsAmong key (keys_of l.told) → IsAmong key (keys_of l'.told)
     pub tasks : (key : Key) (w : W) → IsAmong (key, Some w) l'.waiting
@@ -131,7 +131,7 @@ module _ {W : Type 0} where
                   (key_of_entry (who.0, Some w) (take (length (tags n l)) l.waiting) first)),
             )
 
-    -- several, one after another: whoever was told is told still
+    -- several, one after another: each that was told is told still
     still_told : (n : ℕ) (l : Listeners W) (key : Key) → IsAmong key (keys_of l.told) → IsAmong key (keys_of (told_more n l).told)
     still_told zero l key h = h
     still_told (suc n) l key h = still_told n (told_one l) key (keys_left key l.told (new (record { additional = true; tag = tt }) l) h)

@@ -1,5 +1,5 @@
 -- Who is told, and whom listeners wake, after a step of a call.
-use Rattle.std.proofs.Common.{◌≡◌, ℕ, ◌+◌, ◌-◌, Bool, true, false, if◌then◌else◌, List, [], Option, None, Some, ◌⊎◌, inl, inr, refl, sym, ap, subst}
+use Rattle.std.proofs.Common.{◌≡◌, ℕ, ◌+◌, ◌-◌, Bool, true, false, if◌then◌else◌, List, [], Option, None, Some, ◌⊎◌, inl, inr, refl, sym, subst}
 use Rattle.std.specs.Map.{keys_of}
 use Rattle.concurrent_queue.specs.Queue.{Phase}
 use Rattle.event_listener.specs.Lists.{listened, registration, removed, removed_wakes}
@@ -60,9 +60,9 @@ module _ {W : Type 0} where
   woken_on Closings l names r had task t w i = let x = t.woken w i in (record { line = Closings; key = x.0 }, x.1, x.2)
 
 module _ {T W : Type 0} where
-  -- A channel after a step that wakes these, by a call with this listener in hand, which may be to wake this task: those who were
+  -- A channel after a step that wakes these, by a call with this listener in hand, which may be to wake this task: those that were
   -- told are told still, but for the one in hand; a listener that waits waited for the same, or is the one in hand, and waits for
-  -- its task; whoever is woken waited, and is told.
+  -- its task; each that is woken waited, and is told.
   pub record Follows (c d : Channel T W) (names : List W) (had : Option ListenerRef) (task : Option W) : Type 0 where
     pub told : (h : ListenerRef) → (had ≡ Some h → ⊥) → IsTold h c → IsTold h d
     pub tasks : (h : ListenerRef) (w : W) → WaitsToWake h w d → WaitsToWake h w c ⊎ ((had ≡ Some h) × (task ≡ Some w))

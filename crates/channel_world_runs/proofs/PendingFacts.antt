@@ -1,4 +1,4 @@
--- A walk over a directory that counts those who pass.
+-- A walk over a directory that counts those that pass.
 use Rattle.std.proofs.Common.{◌≡◌, ◌∙◌, ℕ, Bool, List, length, Bor}
 use Rattle.std.specs.List.{count_by}
 use Rattle.std.specs.Map.Iter.{TakesFirst}

@@ -1,4 +1,4 @@
--- A poll made alone puts those whom it wakes after the names that it was given.
+-- A poll made alone puts those that it wakes after the names that it was given.
 use Rattle.std.proofs.Common.{arith, ◌≡◌, ◌+◌, ◌≤◌, ℕ, Bool, List, ◌++◌, length, drop, sym, ap, ◌∙◌, subst, vec_len, vec_capacity}
 use Rattle.std.specs.Global.{Vec}
 use Rattle.channel_calls.specs.declared.ask.ChannelAsk.{ChannelAsk}

@@ -1,6 +1,6 @@
 -- What follows of a configuration that is shown: that its messages are balanced, how large its queue is, and that it has a position more.
-use Rattle.std.proofs.Common.{arith, ◌≡◌, ℕ, ◌==◌, true, false, List, Option, None, Some, ◌⊎◌, inl, inr, sym, ap, ◌∙◌, subst}
-use Rattle.std.proofs.lemmas.Bool.Decides.{nat_tests}
+use Rattle.std.proofs.lemmas.Bool.{eqb-true}
+use Rattle.std.proofs.Common.{arith, ◌≡◌, ℕ, true, false, List, Option, None, Some, ◌⊎◌, inl, inr, sym, ap, ◌∙◌, subst}
 use Rattle.concurrent_queue.proofs.Interface.{shows}
 use Rattle.concurrent_queue.specs.Capacity.{capacity_of}
 use Rattle.concurrent_queue.specs.Queue.{Queue, IsInRange}
@@ -13,9 +13,6 @@ use Rattle.channel_steps.specs.declared.party.Party.{Party}
 use Rattle.channel_world_runs.specs.WorldState.{parts_in, observation_of, AreCounted, HasOnePlace, Shown}
 use Rattle.channel_world_runs.specs.Positions.{is_one_place}
 use Rattle.channel_world_runs.specs.declared.world_state.WorldState.{WorldState}
-
-is_same : (m n : ℕ) → (m == n) ≡ true → m ≡ n
-is_same m n e = grind (arith, nat_tests, e)
 
 module _ {T : Type 0} where
   pub balanced_in : (parts : Parts T Waiter) (parties : List (Party T Waiter)) (s : Configuration T Waiter) → Represents parts parties s
@@ -38,7 +35,7 @@ module _ {T : Type 0} where
   one_slot f s sh one = by s.now.queue.capacity (sym sh.place ∙ one) where
     by : (cap : Option ℕ) → is_one_place cap ≡ true → cap ≡ Some 1
     by None e = absurd (let no : false ≡ true = e in cc)
-    by (Some n) e = let same : n ≡ 1 = is_same n 1 e in ap (λ (k : ℕ). Some k) same
+    by (Some n) e = let same : n ≡ 1 = eqb-true n 1 e in ap (λ (k : ℕ). Some k) same
 
   -- a queue that is shown has a position more
   pub has_position : (f : WorldState T) (s : Configuration T Waiter) → Shown f s → queue.HasNextPosition s.now.queue

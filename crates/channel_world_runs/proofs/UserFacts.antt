@@ -1,5 +1,6 @@
 -- How many calls use each handle and how many operations borrow it, as calls begin, make steps and end.
 use Rattle.std.proofs.Common.{arith, ◌≡◌, ℕ, zero, suc, ◌+◌, ◌≤◌, nat_eq, Bool, true, false, cond, List, [], ◌∷◌, ◌++◌, length, slice_get, unwrap_or, Option, None, Some, ◌⊎◌, inl, inr, refl, sym, ap, ◌∙◌, subst}
+use Rattle.std.proofs.lemmas.Map.{length-set_value}
 use Rattle.std.specs.List.{remove}
 use Rattle.std.specs.Option.{option_map, option_map_or}
 use Rattle.std.specs.Map.{lookup, set_value}
@@ -16,7 +17,6 @@ use Rattle.channel_world_model.specs.declared.name.HandleKind.{HandleKind}
 use Rattle.channel_world_model.specs.declared.name.HandleKind.TheVariants as handle_kind
 use Rattle.channel_world_model.specs.declared.name.OpId.{OpId}
 use Rattle.channel_world_model.specs.declared.name.Waiter.{Waiter}
-use Rattle.channel_world_model.specs.declared.name.Waiter.TheVariants.{Op, Stream}
 use Rattle.channel_world_runs.specs.Bookkeeping.{new_message, returns, names_planned, written_back, installed, lent_by, handed_over_by, lent_to_poll, with_operation, operation_named, handle_named, on_return_of, leave_handle_of, new_from}
 use Rattle.channel_world_runs.specs.NameTable.{poll_state_with, used_more, used_less, borrowed_more, handed_over, with_handle, with_lent, with_given_back, with_borrowed, with_handed_over, with_poll_state, unused, first_name_table, names_of}
 use Rattle.channel_world_model.specs.Plan.{kin, plan_of}
@@ -35,6 +35,7 @@ use Rattle.channel_world_model.specs.declared.plan.Plan.{Plan}
 use Rattle.channel_world_model.specs.declared.plan.Plan.TheVariants as plan
 use Rattle.channel_world_runs.specs.declared.step.PartyId.{PartyId}
 use Rattle.channel_world_runs.proofs.OwnerNames.{same_number, own_number, number_or, set_there, set_other, found, is_there, handle_none}
+use Rattle.channel_world_runs.proofs.OwnerRuns.{inner}
 use Rattle.channel_world_runs.proofs.RefusalLemmas.{handle_there}
 
 -- a handle is used by no more calls, and borrowed by no more operations, than these
@@ -55,9 +56,6 @@ abbrev NoMore : (ℕ → ℕ) → (ℕ → ℕ) → Type 0
 NoMore n m = (name : ℕ) → n name ≤ m name
 
 -- ---- directories
-
-inner : {X : Type 0} (x y : X) → Some x ≡ Some y → x ≡ y
-inner x y e = cc
 
 never : {X : Type 0} (x : X) → None ≡ Some x → ⊥
 never x e = absurd (let no : None ≡ Some x = e in cc)
@@ -99,14 +97,8 @@ set_at : {X : Type 0} (n m : ℕ) (d : Directory X) (v : Option X)
     → (at m (set_value (nat_eq n) d v) ≡ at m d) ⊎ (at m (set_value (nat_eq n) d v) ≡ v)
 set_at n m [] v = inl refl
 set_at n m (f ∷ d) v = elim (decided (nat_eq n f.0)) [
-  | inl t ↦ elim (decided (nat_eq m f.0)) [
-    | inl s ↦ inr (rw (t, s) refl)
-    | inr s ↦ inl (rw (t, s) refl)
-  ]
-  | inr t ↦ elim (decided (nat_eq m f.0)) [
-    | inl s ↦ inl (rw (t, s) refl)
-    | inr s ↦ rw (t, s) (set_at n m d v)
-  ]
+  | inl t ↦ elim (decided (nat_eq m f.0)) [ inl s ↦ inr (rw (t, s) refl) | inr s ↦ inl (rw (t, s) refl) ]
+  | inr t ↦ elim (decided (nat_eq m f.0)) [ inl s ↦ inl (rw (t, s) refl) | inr s ↦ rw (t, s) (set_at n m d v) ]
 ]
 
 -- so many may use it that is set
@@ -116,16 +108,6 @@ set_few n m name d v few new k h i = by (set_at name k d v) where
   by : (at k (set_value (nat_eq name) d v) ≡ at k d) ⊎ (at k (set_value (nat_eq name) d v) ≡ v) → Few (n k) m h
   by (inl e) = few k h (sym e ∙ i)
   by (inr e) = new h (sym e ∙ i) k
-
-set_length_at : {X : Type 0} (t : Bool) (n : ℕ) (f : ℕ × Option X) (d : Directory X) (v : Option X)
-    → length (set_value (nat_eq n) d v) ≡ length d → length (cond t ((f.0, v) ∷ d) (f ∷ set_value (nat_eq n) d v)) ≡ suc (length d)
-set_length_at true n f d v e = refl
-set_length_at false n f d v e = ap (λ (k : ℕ). suc k) e
-
--- as many names as before
-set_length : {X : Type 0} (n : ℕ) (d : Directory X) (v : Option X) → length (set_value (nat_eq n) d v) ≡ length d
-set_length n [] v = refl
-set_length n (f ∷ d) v = set_length_at (nat_eq n f.0) n f d v (set_length n d v)
 
 -- ---- one handle
 
@@ -207,7 +189,7 @@ module _ {T : Type 0} where
     by : (o : Option (OperationEntry T))
         → length (option_map_or (λ (x : OperationEntry T). with_changed op.0 (change x) r.operations) o r.operations) ≡ length r.operations
     by None = refl
-    by (Some x) = set_length op.0 r.operations (Some (change x))
+    by (Some x) = length-set_value (nat_eq op.0) r.operations (Some (change x))
 
   module _ (n : ℕ → ℕ) (r : NameTable T) (few : AreFew n (length r.operations) r.handles) where
     -- an operation is made
@@ -253,10 +235,10 @@ module _ {T : Type 0} where
     handed_over_by_few : (op : OpId) (o : Option (OperationEntry T))
         → (let gone : NameTable T = record r { operations = without_name op.0 r.operations } in
         AreFew (λ name. n name + times_used name (let e : OnReturn T = leave_handle_of o in e)) (length (handed_over_by o gone).operations) (handed_over_by o gone).handles)
-    handed_over_by_few op None = same (length (without_name op.0 r.operations)) (set_length op.0 r.operations None)
+    handed_over_by_few op None = same (length (without_name op.0 r.operations)) (length-set_value (nat_eq op.0) r.operations None)
     handed_over_by_few op (Some o) =
         let gone : NameTable T = record r { operations = without_name op.0 r.operations } in
-        let as_many = set_length op.0 r.operations None in
+        let as_many = length-set_value (nat_eq op.0) r.operations None in
         more_few (λ name. n name + one name (borrowed_by o.operation)) (λ name. n name + one name (borrowed_by o.operation)) (length r.operations)
         (length (without_name op.0 r.operations)) (with_handed_over (borrowed_by o.operation) gone).handles (λ name. omega arith) (omega (arith, as_many))
         (handed_over_few n (length r.operations) (borrowed_by o.operation) gone few)
@@ -311,7 +293,7 @@ module _ {T : Type 0} where
 
   settled_length : (e : OnReturn T) (y : Reply T) (left : Returned T) (r : NameTable T)
       → length (written_back e y left r).operations ≡ length r.operations
-  settled_length (on_return.Make op operation) y left r = set_length op.0 r.operations (Some operation)
+  settled_length (on_return.Make op operation) y left r = length-set_value (nat_eq op.0) r.operations (Some operation)
   settled_length (on_return.Poll op) y left r = operation_length _ op r
   settled_length (on_return.New from new kind) y left r = installed_length new kind y (with_given_back from r)
   settled_length e y left r = refl
@@ -327,11 +309,8 @@ module _ {T : Type 0} where
       → all_uses name agents ≡ all_uses name (remove agents k) + times_used name a.on_return
   uses_fewer name k [] a e = absurd cc
   uses_fewer name zero (b ∷ agents) a e =
-      let same : times_used name b.on_return ≡ times_used name a.on_return = ap (λ (x : Agent T). times_used name x.on_return) (agent_is b a e) in
+      let same : times_used name b.on_return ≡ times_used name a.on_return = ap (λ (x : Agent T). times_used name x.on_return) (inner b a e) in
       omega (arith, same)
-    where
-      agent_is : (x y : Agent T) → Some x ≡ Some y → x ≡ y
-      agent_is x y f = cc
   uses_fewer name (suc k) (b ∷ agents) a e = let rest = uses_fewer name k agents a e in omega (arith, rest)
 
   -- ---- steps

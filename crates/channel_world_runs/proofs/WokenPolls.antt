@@ -1,5 +1,5 @@
--- Who was woken may be polled: a stream also where a live operation borrows its receiver.
-use Rattle.std.proofs.Common.{◌≡◌, Bool, true, false, if◌then◌else◌, Option, None, Some, is_some, inl, refl, sym, ap, ◌∙◌}
+-- One that was woken may be polled: a stream also where a live operation borrows its receiver.
+use Rattle.std.proofs.Common.{◌≡◌, true, false, Option, None, Some, is_some, inl, refl, sym, ◌∙◌}
 use Rattle.channel_world_model.specs.Lines.{is_among}
 use Rattle.channel_world_model.specs.Names.{at}
 use Rattle.channel_world_model.specs.Refusal.{handle_fits}

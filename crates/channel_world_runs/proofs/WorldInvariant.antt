@@ -1,4 +1,4 @@
--- What every step keeps of those who wait, and what a call made alone keeps.
+-- What every step keeps of those that wait, and what a call made alone keeps.
 use Rattle.std.proofs.Common.{◌≡◌, ℕ, false, List, [], ◌∷◌, ◌++◌, map, slice_get, Option, None, Some, inl, refl, sym, ap, ◌∙◌, subst, append-nil}
 use Rattle.channel_calls.specs.Moves.{Channel}
 use Rattle.channel_calls.specs.declared.ask.ChannelAsk.{ChannelAsk}

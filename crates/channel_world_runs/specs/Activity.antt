@@ -1,4 +1,4 @@
--- What calls under way are to those who wait, and what they have done so far.
+-- What calls under way are to those that wait, and what they have done so far.
 use Rattle.std.specs.Prelude.{◌+◌, ◌-◌, ◌^◌, min, Bool, true, false, ◌||◌, List, [], ◌∷◌}
 use Rattle.channel_calls.specs.declared.ask.ChannelAsk.{ChannelAsk}
 use Rattle.channel_calls.specs.declared.ask.ChannelAsk.TheVariants as ask

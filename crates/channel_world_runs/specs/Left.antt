@@ -1,4 +1,4 @@
--- How many more steps of its own the call of a party makes at most, where the others are quiet.
+-- How many more steps of its own the call of a party makes at most, if the others are quiet.
 use Rattle.std.specs.Prelude.{ℕ, ◌==◌, List, [], ◌∷◌, if◌then◌else◌}
 use Rattle.channel_calls.specs.Parts.{Parts}
 use Rattle.channel_world_model.specs.declared.name.Waiter.{Waiter}

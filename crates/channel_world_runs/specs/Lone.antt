@@ -52,7 +52,7 @@ module _ {T : Type 0} where
     pub shown : Shown new after
     pub name_state : name_state_of new ≡ name_state_alone (name_state_of old) c outcome
 
-  -- A call that has begun was made to its end with no other under way: those whom it woke stand after the names before, and it has
+  -- A call that has begun was made to its end with no other under way: those that it woke stand after the names before, and it has
   -- written back what it had to.
   pub record FinishesAlone (begun : Begun T) (may_bring : Bool) (before : Vec Waiter) (old : WorldState T) (d : Done T) (new : WorldState T) : Type 0 where
     pub kept : Returned T

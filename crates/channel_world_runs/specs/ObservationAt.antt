@@ -1,4 +1,4 @@
--- What a moment shows of those who are pending, and of the calls under way that answer for them.
+-- What a moment shows of those that are pending, and of the calls under way that are responsible for them.
 use Rattle.std.specs.Prelude.{ℕ, ◌+◌, List, [], ◌∷◌, length}
 use Rattle.std.specs.List.{count_by}
 use Rattle.channel_world_model.specs.declared.name.Waiter.{Waiter}

@@ -1,4 +1,4 @@
--- The order of waking. Each name that may be woken has a place, and whoever is woken comes last.
+-- The order of waking. Each name that may be woken has a place, and one that is woken comes last.
 use Rattle.std.specs.Prelude.{Bool, List, [], ◌∷◌, ◌++◌, if◌then◌else◌, Option, None, Some}
 use Rattle.event_listener.specs.declared.key.Key.{Key}
 use Rattle.channel_world_model.specs.Lines.{is_among, without_waiter}
@@ -13,7 +13,7 @@ use Rattle.channel_world_runs.specs.declared.names.OnReturn.TheVariants as on_re
 use Rattle.channel_world_model.specs.declared.plan.Plan.{Plan}
 use Rattle.channel_world_model.specs.declared.plan.Plan.TheVariants as plan
 
--- who has a place, and those who were woken, in the order of their waking
+-- the names that have a place, and those that were woken, in the order of their waking
 pub record WakeOrder : Type 0 where
   pub places : List Waiter
   pub woken : List Waiter
@@ -48,7 +48,7 @@ abbrev pub kept_place : Waiter → Option Key → WakeOrder → WakeOrder
 kept_place w None o = without_place w o
 kept_place w (Some key) o = o
 
--- once a call of this plan has begun: who is polled has a place, and who is given up or dropped has none
+-- once a call of this plan has begun: a name that is polled has a place, and one that is given up or dropped has none
 abbrev pub order_planned : Plan → WakeOrder → WakeOrder
 order_planned (plan.Polls op) o = placed (Op op) o
 order_planned (plan.Streams receiver) o = placed (Stream receiver) o
@@ -57,7 +57,7 @@ order_planned (plan.Drops handle) o = without_place (Stream handle) o
 order_planned p o = o
 
 module _ {T : Type 0} where
-  -- those of these names who are pending are woken, one after another
+  -- those of these names that are pending are woken, one after another
   abbrev pub all_woken : NameTable T → List Waiter → WakeOrder → WakeOrder
   all_woken r [] o = o
   all_woken r (w ∷ ws) o = all_woken r ws (if is_name_pending r w then woken_last w o else o)

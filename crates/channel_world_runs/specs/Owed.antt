@@ -1,4 +1,4 @@
--- The wake-ups owed to those who are pending and were not woken since their last poll, of a world as it is.
+-- The wake-ups owed to those that are pending and were not woken since their last poll, of a world as it is.
 use Rattle.std.specs.Prelude.{◌≡◌, ℕ, ◌+◌, ◌≤◌, ◌<◌, Bool, true, false, List, [], ◌∷◌, Option}
 use Rattle.std.specs.List.{count_by}
 use Rattle.concurrent_queue.specs.declared.queue_call.QueueCall.{QueueCall}
@@ -41,9 +41,9 @@ module _ {T : Type 0} where
 
 -- ---- what is owed
 
--- What a world shows at a moment: what lives under which name, who was woken, how many messages it holds, at most so many, and whether it is
--- closed; and of the calls under way how many are sending and how many receiving, how many have closed it, and how many places
--- they have freed by taking messages and not announced yet to those who wait to send.
+-- What a world shows at a moment: what lives under which name, which were woken, how many messages it holds, at most so many, and whether
+-- it is closed; and of the calls under way how many are sending and how many receiving, how many have closed it, and how many places they
+-- have freed by taking messages and not announced yet to the waiting sends.
 pub record Observation (T : Type 0) : Type 0 where
   pub name_table : NameTable T
   pub woken : List Waiter
@@ -56,18 +56,18 @@ pub record Observation (T : Type 0) : Type 0 where
   pub freed : ℕ
 
 module _ {T : Type 0} where
-  -- how many of these, who were woken, belong to this line
+  -- how many of these, which were woken, belong to this line
   abbrev pub woken_on : WaitList → NameTable T → List Waiter → ℕ
   woken_on line r woken = count_by (λ w. is_line line (line_at (names_of r) w)) woken
 
-  -- it is pending on this line, and is none of these, who were woken
+  -- it is pending on this line, and is none of these, which were woken
   abbrev pub IsUnwoken : WaitList → Waiter → NameTable T → List Waiter → Type 0
   IsUnwoken line name r woken = (key : Key) × (status r name ≡ waits (record { line = line; key = key })) × (IsAmong name woken → ⊥)
 
-  -- Where one is pending that was not woken since its last poll: of a receive, there are no more messages than woken pending
+  -- If one is pending that was not woken since its last poll: of a receive, there are no more messages than woken pending
   -- receives, and sending and receiving calls under way; of a send, where the channel is open, it has a bound, and no more places
   -- than messages, woken pending sends, sending calls under way, and places that were freed and not announced yet; of a stream,
-  -- where there is a message, a sending call is under way; of any, where the channel is closed, the call that closed it is under
+  -- if there is a message, a sending call is under way; of any, where the channel is closed, the call that closed it is under
   -- way.
   pub record Owed (w : Observation T) : Type 0 where
     pub receives : (name : Waiter) → IsUnwoken Receives name w.name_table w.woken → w.messages ≤ woken_on Receives w.name_table w.woken + (w.sending + w.receiving)

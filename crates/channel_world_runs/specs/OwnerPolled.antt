@@ -1,4 +1,4 @@
--- Who is polled, by whom.
+-- Which names are polled, by which calls.
 use Rattle.std.specs.Prelude.{◌≡◌, Some}
 use Rattle.channel_calls.specs.declared.stage.WaitList.{WaitList}
 use Rattle.channel_world_model.specs.declared.name.Waiter.{Waiter}

@@ -1,4 +1,4 @@
--- Who was woken is told, and who wasn't waits to be woken under his own name.
+-- A name that was woken is told, and one that wasn't waits to be woken under its own name.
 use Rattle.std.specs.Prelude.{◌≡◌, List, Some, ◌⊎◌}
 use Rattle.std.specs.Map.{keys_of}
 use Rattle.channel_calls.specs.Moves.{Channel}
@@ -15,7 +15,7 @@ use Rattle.channel_world_runs.specs.Calls.{Agent}
 abbrev pub IsAway : NameStatus → Type 0
 IsAway p = (p ≡ retired) ⊎ ((line : WaitList) × (p ≡ polled line))
 
--- whoever is pending, or may be once its poll has ended, has a place
+-- each name that is pending, or may be once its poll has ended, has a place
 abbrev pub NeedsPlace : NameStatus → Type 0
 NeedsPlace p = ((h : ListenerRef) × (p ≡ waits h)) ⊎ ((line : WaitList) × (p ≡ polled line))
 
@@ -46,8 +46,8 @@ module _ {T : Type 0} where
       (status b.name_table w ≡ waits h)
       ⊎ (Works w h b.agents us ⊎ (IsAway (status b.name_table w) × NoneWorks w b.agents))
 
-  -- Whoever is pending was woken and is told, or wasn't and waits to wake his own name. Only who is pending was woken, nobody twice;
-  -- and whoever may be woken has a place.
+  -- Each name that is pending was woken and is told, or wasn't and waits to wake its own name. Only pending names were woken, none twice;
+  -- and each that may be woken has a place.
   pub record WokenSound (b : NameState T) (s : Configuration T Waiter) : Type 0 where
     pub stands : (w : Waiter) (h : ListenerRef) → status b.name_table w ≡ waits h → IsMarked w b.order.woken h s.now
     pub pending : (w : Waiter) → IsAmong w b.order.woken → (h : ListenerRef) × (status b.name_table w ≡ waits h)

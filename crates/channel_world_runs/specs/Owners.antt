@@ -1,4 +1,4 @@
--- Who holds each listener: what is pending, by its name, or one call under way.
+-- What holds each listener: what is pending, by its name, or one call under way.
 use Rattle.std.specs.Prelude.{◌≡◌, ℕ, nat_eq, List, [], ◌∷◌, ◌++◌, Option, None, Some, ◌⊎◌}
 use Rattle.std.specs.Map.{lookup, keys_of}
 use Rattle.concurrent_queue.specs.Queue.{Phase}
@@ -149,7 +149,7 @@ module _ {T W : Type 0} where
   task_at (Working w) = work_task w
   task_at (Finished kept) = None
 
-  -- the list on which a call may wait, and for whom
+  -- the list on which a call may wait, and for which name
   abbrev pub wait_of : ChannelAsk T W → Option (WaitList × W)
   wait_of (ask.PollSend m key task) = Some (Sends, task)
   wait_of (ask.PollRecv key task) = Some (Receives, task)

@@ -1,4 +1,4 @@
--- How many of those who live are pending.
+-- How many of those that live are pending.
 use Rattle.std.specs.Prelude.{ℕ, ◌+◌, Bool, false, Option, is_some}
 use Rattle.std.specs.List.{count_by}
 use Rattle.std.specs.Option.{option_map_or}

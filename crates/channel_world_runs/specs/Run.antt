@@ -23,7 +23,8 @@ use Rattle.channel_world_runs.specs.declared.step.Entry.{Entry}
 use Rattle.channel_world_runs.specs.declared.step.Step.{Step}
 use Rattle.channel_world_runs.specs.declared.step.Step.TheVariants as step
 
--- the names, who may be woken and who was, in the order of waking, and the parties at work in the order in which their calls began
+-- the names, those that may be woken and those that were, in the order of waking, and the parties at work in the order in which their calls
+-- began
 pub record NameState (T : Type 0) : Type 0 where
   pub name_table : NameTable T
   pub order : WakeOrder
@@ -80,7 +81,7 @@ module _ {T : Type 0} where
 
   -- ---- the end of a run
 
-  -- a step is refused for the first reason that there is, or for want of room where there is none
+  -- a step is refused for the first reason that there is, or for want of room if there is none
   abbrev pub MayRefuseStep : NameState T → Step T → WorldRefusal → Type 0
   MayRefuseStep b x why = (step_refusal b.name_table b.agents x ≡ Some why) ⊎ ((step_refusal b.name_table b.agents x ≡ None) × (why ≡ NoMemory))
 

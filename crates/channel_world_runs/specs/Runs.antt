@@ -16,7 +16,7 @@ use Rattle.channel_world_runs.specs.declared.step.Step.{Step}
 use Rattle.channel_world_runs.specs.declared.step.Step.TheVariants as step
 
 -- a moment: what the cells hold, the channel with its calls under way, the name state, and how many more steps of its own the call of
--- each party makes at most, where the others are quiet
+-- each party makes at most, if the others are quiet
 pub record Moment (T : Type 0) : Type 0 where
   pub parts : Parts T Waiter
   pub configuration : Configuration T Waiter
@@ -34,7 +34,7 @@ module _ {T : Type 0} where
     pub moment : m ≡ moment_of f m.configuration
     pub stands : StandsIn f m.configuration
 
-  -- no call has more steps of its own left than these, where the others are quiet
+  -- no call has more steps of its own left than these, if the others are quiet
   abbrev pub FewLeft : Moment T → Type 0
   FewLeft m = (party : ℕ) → m.left party ≤ most_left (wanted_of party m.configuration.under_way)
 
@@ -45,7 +45,7 @@ module _ {T : Type 0} where
     pub kept : WorldInvariant m.name_state m.configuration
     pub few : FewLeft m
 
-  -- where the others are quiet a step of a call that does not end it leaves it fewer
+  -- if the others are quiet a step of a call that does not end it leaves it fewer
   abbrev pub ComesNearer : Moment T → Step T → Entry T → Moment T → Type 0
   ComesNearer m (step.Begin p c) e n = Unit {0}
   ComesNearer m (step.Step p) e n =

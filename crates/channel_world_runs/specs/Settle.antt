@@ -12,7 +12,7 @@ module _ {T : Type 0} where
   abbrev pub IsWoken : Waiter → WorldState T → Type 0
   IsWoken w f = is_among w f.order.woken ≡ true
 
-  -- w was polled alone, and those whom the poll woke stand after the names before
+  -- w was polled alone, and those that the poll woke stand after the names before
   pub record PollsAlone (w : Waiter) (old : WorldState T) (before : List Waiter) (x : Reply T) (after : List Waiter) (new : WorldState T) : Type 0 where
     pub woken : List Waiter
     pub names : after ≡ before ++ woken

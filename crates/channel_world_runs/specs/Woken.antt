@@ -3,6 +3,6 @@ use Rattle.std.specs.Prelude.{◌≡◌, ◌<◌, ◌≤◌, ◌++◌, ◌∷◌
 use Rattle.channel_world_model.specs.declared.name.Waiter.{Waiter}
 use Rattle.channel_world_runs.specs.declared.woken.Woken.{Woken}
 
--- where there is room, the name comes after all before it
+-- if there is room, the name comes after all before it
 abbrev pub Hears : Woken → Waiter → Woken → Type 0
 Hears old w new = vec_len old.names < vec_capacity old.names → (new.names.items ≡ old.names.items ++ w ∷ []) × (vec_capacity old.names ≤ vec_capacity new.names)

@@ -1,4 +1,4 @@
--- All that every step keeps of those who wait.
+-- All that every step keeps of those that wait.
 use Rattle.std.specs.Prelude.{◌≡◌, false, List}
 use Rattle.channel_steps.specs.every_run.Sound.{WakeInvariant}
 use Rattle.channel_world_model.specs.declared.name.Waiter.{Waiter}
@@ -16,7 +16,7 @@ module _ {T : Type 0} where
   abbrev pub AllTry : List (ActiveCall T Waiter) → Type 0
   AllTry us = All (λ (u : ActiveCall T Waiter). asks_first u.ask ≡ false) us
 
-  -- Each listener has its owner; whoever was woken is told, and whoever may be has a place; nobody who waits is forgotten; where a poll
+  -- Each listener has its owner; each that was woken is told, and each that may be has a place; none that waits is forgotten; where a poll
   -- of a name is under way, a party works there; no handle is used by more than use it; the counts count the strong handles; and no call
   -- by names asks a listener before it tries.
   pub record WorldInvariant (b : NameState T) (s : Configuration T Waiter) : Type 0 where

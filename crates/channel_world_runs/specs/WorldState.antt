@@ -37,11 +37,11 @@ module _ {T : Type 0} where
   abbrev pub parties_of : WorldState T → List (Party T Waiter)
   parties_of f = map (λ (c : CallUnderWay T). c.party) f.calls.items
 
-  -- who is at work, with what is to be written back
+  -- the parties at work, with what is to be written back
   abbrev pub agents_of : WorldState T → List (Agent T)
   agents_of f = map agent_of f.calls.items
 
-  -- what the calls are to those who wait, and have done
+  -- what the calls are to those that wait, and have done
   abbrev pub activities_of : WorldState T → List Activity
   activities_of f = map (λ (c : CallUnderWay T). c.activity) f.calls.items
 
@@ -124,7 +124,7 @@ module _ {T : Type 0} where
     pub place : g.has_one_place ≡ f.has_one_place
 
   -- The channel by names stands in this configuration: its cells and calls under way stand for it, all that every step keeps holds in it,
-  -- and each who is pending and was not woken is owed no more than is to come.
+  -- and each that is pending and was not woken is owed no more than is to come.
   pub record StandsIn (f : WorldState T) (s : Configuration T Waiter) : Type 0 where
     pub shown : Shown f s
     pub kept : WorldInvariant (name_state_of f) s
@@ -144,7 +144,7 @@ module _ {T : Type 0} where
   abbrev pub lefts_in : WorldState T → List ℕ
   lefts_in f = all_left (parts_in f) (parties_of f)
 
-  -- where the others are quiet, a step that does not end its call leaves it fewer
+  -- if the others are quiet, a step that does not end its call leaves it fewer
   abbrev pub Nearer : (x : Step T) (old : WorldState T) (e : Entry T) (new : WorldState T) (s t : Configuration T Waiter) → StepIsMade (name_state_of old) s x e (name_state_of new) t → Type 0
   Nearer (step.Begin p c) old e new s t made = Unit {0}
   Nearer (step.Step p) old e new s t made =

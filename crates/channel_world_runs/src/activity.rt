@@ -1,21 +1,21 @@
-//! What calls under way are to those who wait, and what they have done so far.
+//! What calls under way are to those that wait, and what they have done so far.
 
 use channel_calls::ask::ChannelAsk;
 use channel_calls::mark::Mark;
 use channel_calls::stage::WaitList;
 
-/// What a call is to those who wait.
+/// What a call is to those that wait.
 #[derive(Clone, Copy, Debug, PartialEq, Eq)]
 pub enum Role {
-    /// It sends: a send, a displacing send, and a poll or the giving up of a send.
+    /// It sends: a send, a displacing send, a poll of a send, or giving one up.
     Sending,
-    /// It receives: a receive of one message or of several, a poll of a stream, and a poll or the giving up of a receive.
+    /// It receives: a receive of one message or of several, a poll of a stream, a poll of a receive, or giving one up.
     Receiving,
     /// It does neither.
     Other,
 }
 
-/// What a call under way is to those who wait, and what it has done.
+/// What a call under way is to those that wait, and what it has done.
 #[derive(Clone, Copy, Debug, PartialEq, Eq)]
 pub struct Activity {
     /// What it is.

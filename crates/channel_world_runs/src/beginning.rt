@@ -1,4 +1,4 @@
-//! What calls do to the names as they begin, what they ask of the channel, and what they will have to write back.
+//! What calls do to the names when they begin, what they ask of the channel, and what they will have to write back.
 
 ghost use Rattle.std.specs.Prelude.{◌≡◌, Some};
 ghost use Rattle.channel_world_model.specs.Asked.{poll_asked, refusal_asked, drop_asked, plain_asked};
@@ -33,7 +33,7 @@ impl<T> Begun<T> {
     }
 }
 
-/// What the making of a handle from another asks: a weak one is not counted.
+/// What making a handle from another asks: a weak one is not counted.
 fn mint_ask<T>(kinship: Kinship, handle: Handle) -> ChannelAsk<T, Waiter>
     ensures { result ≡ mint_asked kinship (Some handle) }
 {
@@ -46,7 +46,7 @@ fn mint_ask<T>(kinship: Kinship, handle: Handle) -> ChannelAsk<T, Waiter>
     }
 }
 
-/// What the drop of a handle asks.
+/// What dropping a handle asks.
 fn drop_ask<T>(handle: Handle, key: Option<Key>) -> ChannelAsk<T, Waiter>
     ensures { result ≡ drop_asked key (Some handle) }
 {
@@ -133,7 +133,7 @@ impl<T: Drop> NameTable<T> {
         Begun::new(ask, OnReturn::Leave(handle))
     }
 
-    /// A new name is taken for an operation, which borrows the handle. False where there was no room.
+    /// Takes a new name for an operation, which borrows the handle. False if there was no room.
     fn name_operation(&mut self, op: OpId, handle: HandleId) -> bool
         requires { is_taken op.0 self.old.operations ≡ false }
         ensures ok { OnTrue result (self.new ≡ with_borrowed handle (operation_named op self.old)) }
@@ -219,7 +219,7 @@ impl<T: Drop> NameTable<T> {
         Begun::new(ask, OnReturn::Nothing)
     }
 
-    /// A handle is being made from another. None where its name found no room, or that lives no more.
+    /// Begins to make a handle from another. `None` if its name found no room, or if the other no longer lives.
     fn mint(&mut self, from: HandleId, new: HandleId, kinship: Kinship) -> Option<Begun<T>>
         requires { is_taken new.0 self.old.handles ≡ false }
         ensures some { IfSome result
@@ -236,7 +236,7 @@ impl<T: Drop> NameTable<T> {
         Some(Begun::new(mint_ask(kinship, seen), on_return))
     }
 
-    /// A call begins that brings nothing but names of what lives, each in its own way.
+    /// Begins a call that uses only names of what lives, each in its own way.
     pub(crate) fn begin_named(&mut self, call: Call<T>) -> Begun<T>
         requires { is_named (plan_of call) ≡ true }
         ensures { BeginsByName self.old call result self.new }
@@ -263,8 +263,8 @@ impl<T: Drop> NameTable<T> {
         }
     }
 
-    /// A call that is not refused begins, by its plan; or it comes back where its new name found no room, with nothing changed.
-    /// One that comes back gives and takes no place. A receive of several messages takes its room from `alloc`, at its first step.
+    /// Begins a call that is not refused, by its plan; or returns it if its new name found no room, with nothing changed. A call that is
+    /// returned gives and takes no place. A receive of several messages takes its room from `alloc`, at its first step.
     pub(crate) fn begin(&mut self, call: Call<T>, alloc: Global) -> Result<Begun<T>, Call<T>>
         requires { takes_again self.old call ≡ false }
         ensures ok { IfOk result (λ b. BeginsByName self.old call b self.new) }

@@ -1,4 +1,4 @@
-//! The calls under way: whose each is, how far it has come, what it has to write back, and what it is to those who wait.
+//! The calls under way: the party and state of each, what it has to write back, and what it is to those that wait.
 
 use crate::activity::Activity;
 use crate::beginning::Begun;
@@ -13,11 +13,11 @@ use channel_world_model::name::Waiter;
 /// A call under way.
 #[derive(Drop)]
 pub struct CallUnderWay<T> {
-    /// Whose it is, and how far it has come.
+    /// Its party, and its state.
     pub party: Party<T, Waiter>,
     /// What it has to write back.
     pub on_return: OnReturn<T>,
-    /// What it is to those who wait, and what it has done.
+    /// What it is to those that wait, and what it has done.
     pub activity: Activity,
 }
 
@@ -43,7 +43,7 @@ impl<T: Drop> CallUnderWay<T> {
         }
     }
 
-    /// One step, which gives the reply if it is the last.
+    /// One step, which returns the reply if it is the last.
     pub(crate) fn step(
         &mut self,
         channel: &mut PlainChannel<T, Waiter>,

@@ -1,4 +1,4 @@
-//! What calls write back as they end, and whom they wake.
+//! What calls write back when they end, and which names they wake. Names change only here and when a call begins.
 
 use crate::name_table::NameTable;
 use crate::names::{HandleEntry, OnReturn, PollState};
@@ -22,7 +22,7 @@ impl<T: Drop> NameTable<T> {
         }
     }
 
-    /// A call that has given this reply, and has left this, writes back what it has to.
+    /// Writes back what a call has to that gave this reply and left this.
     pub(crate) fn settle(&mut self, on_return: OnReturn<T>, reply: &Reply<T>, kept: Returned<T>)
         ensures { self.new ≡ written_back on_return reply.now kept self.old }
     {
@@ -58,7 +58,7 @@ impl<T: Drop> WorldState<T> {
     ghost use Rattle.channel_world_runs.specs.WorldState.{name_state_of};
     ghost use Rattle.channel_world_runs.specs.declared.calls.CallUnderWay.{CallUnderWay};
 
-    /// Of the names from this place on those that are pending are woken, in order.
+    /// Wakes, in order, those names from this place on that are pending.
     pub(crate) fn wake_from(&mut self, names: &Vec<Waiter>, from: usize)
         ensures { self.new ≡ record self.old { order = all_woken self.old.name_table (drop from names.now.items) self.old.order } }
     {
@@ -69,7 +69,7 @@ impl<T: Drop> WorldState<T> {
         }
     }
 
-    /// The k-th call, if it has answered, writes back what it has to, and is under way no more.
+    /// If the k-th call has answered, writes back what it has to and removes it from those under way.
     pub(crate) fn write_back(&mut self, k: usize, reply: &Option<Reply<T>>)
         requires { k < vec_len self.old.calls }
         ensures calls { self.new.calls.items ≡ unless_answered k reply.now self.old.calls.items }

@@ -1,4 +1,4 @@
-//! Calls made alone, from their beginning to their end.
+//! Calls made alone, from their beginning to their end: no other call is under way, so nothing comes between their steps.
 
 use crate::beginning::Begun;
 use crate::position::accepted_by;
@@ -17,8 +17,8 @@ impl<T: Drop> WorldState<T> {
     ghost use Rattle.channel_world_runs.specs.WorldState.{parts_in, Stands, IsQuiet, IsSame};
     ghost use Rattle.channel_world_runs.specs.Lone.{CallsAlone, FinishesAlone, WakesAtMost};
 
-    /// Makes a call that has begun to its end, where no other call is under way. Those whom it wakes go after the given names,
-    /// where there is room for them; `brings` says whether it may bring a message.
+    /// Makes a call that has begun to its end, with no other call under way. Those that it wakes go after the given names, as far as there
+    /// is room for them; `brings` says whether it may bring a message.
     pub(crate) fn finish(&mut self, begun: Begun<T>, brings: bool, names: Vec<Waiter>) -> Done<T>
         requires at_rest { IsAtRest (parts_in self.old) }
         ensures { FinishesAlone begun brings names self.old result self.new }
@@ -35,12 +35,12 @@ impl<T: Drop> WorldState<T> {
         Done { reply, woken }
     }
 
-    /// Makes a call that is not refused, where no call is under way, from its beginning to its end; or hands it back where
-    /// there was no room, with nothing changed.
+    /// Makes a call that is not refused, with no other under way, from its beginning to its end; or returns it if there was no room, with
+    /// nothing changed.
     ///
-    /// Its steps are those of a party that nobody stands beside, and what it answers, whom it wakes, in order, and the channel
-    /// after it are what a call does that is made alone. `room` is no less than the number of names that it may wake; room for
-    /// these, and for the listener of a poll, is taken before it begins. Nothing waits. Own to this project.
+    /// Its steps are those of a party with no other beside it, and what it answers, which names it wakes, in order, and the channel after
+    /// it are what a call does that is made alone. `room` is no less than the number of names that it may wake; room for these, and for the
+    /// listener of a poll, is reserved before it begins. It never waits.
     pub fn call_alone(&mut self, call: Call<T>, room: usize) -> Result<Done<T>, Call<T>>
         requires stands { Stands self.old }
         requires quiet { IsQuiet self.old }

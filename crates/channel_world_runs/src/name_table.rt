@@ -1,4 +1,4 @@
-//! The handles and the operations under their names.
+//! The handles and the operations under their names. Calls change the table when they begin and when they end, never in between.
 
 use crate::names::{HandleEntry, OperationEntry, PollState};
 use channel_calls::stage::WaitList;
@@ -54,7 +54,7 @@ impl<T> NameTable<T> {
         }
     }
 
-    /// The call that gives up an operation uses the handle that this borrowed.
+    /// The call that gives up an operation uses the handle that the operation borrowed.
     pub(crate) fn hand_over(&mut self, handle: HandleId)
         ensures { self.new ≡ with_handed_over handle self.old }
     {
@@ -65,7 +65,7 @@ impl<T> NameTable<T> {
         }
     }
 
-    /// A handle stands so from now on.
+    /// Sets the standing of a handle as a stream.
     pub(crate) fn restand(&mut self, handle: HandleId, poll_state: PollState)
         ensures { self.new ≡ with_poll_state poll_state handle self.old }
     {
@@ -99,8 +99,8 @@ impl<T> NameTable<T> {
     ghost use Rattle.channel_world_runs.specs.NameTable.{is_name_pending, names_of};
     ghost use Rattle.channel_world_runs.specs.Pending.{stands_pending, how_many};
 
-    /// How many operations and streams are pending: they live, their last poll ended so, and no poll of them is under way. Own to
-    /// this project.
+    /// How many operations and streams are pending: they live, their last poll ended so, and no poll of them is under way. It walks over
+    /// all names.
     pub fn count_pending(&self) -> usize
         ensures { result ≡ how_many stands_pending self.now }
     {
@@ -127,8 +127,8 @@ impl<T> NameTable<T> {
         }
     }
 
-    /// Whether what has this name belongs to this line: a pending send, receive or wait for the closing to its own, and a stream to
-    /// that of the streams. A finished send belongs to none, nor does a name under which nothing lives. Own to this project.
+    /// Whether what has this name belongs to this wait queue: a pending send, receive or wait for the closing to its own, and a stream to
+    /// that of the streams. A finished send belongs to none, nor does a name under which nothing lives.
     pub fn is_on(&self, line: WaitList, name: Waiter) -> bool
         ensures { result ≡ is_line line (line_at (names_of self.now) name) }
     {

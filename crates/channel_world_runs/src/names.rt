@@ -1,16 +1,17 @@
-//! What lives under which name, and what a call under way has to write back.
+//! What lives under which name, and what a call under way has to write back. The listener and the message of an operation are in its entry,
+//! or with the poll that is under way, never in both.
 
 use channel_world_model::name::{Handle, HandleId, HandleKind, OpId, Operation};
 use event_listener::key::Key;
 
-/// How an operation, or a receiver as a stream, stands.
+/// Whether an operation, or a receiver as a stream, is pending or being polled.
 #[derive(Clone, Copy, Debug, PartialEq, Eq)]
 pub enum PollState {
     /// It isn't pending.
     Rests,
     /// Its last poll ended pending: it holds this listener.
     Waits(Key),
-    /// A poll of it is under way, which has its listener and, where it brings one, its message.
+    /// A poll of it is under way, which has its listener and, if it brings one, its message.
     IsPolled {
         /// Whether the poll has a message of the operation.
         brings: bool,
@@ -32,7 +33,7 @@ impl PollState {
         }
     }
 
-    /// The standing after a poll that left this listener, or none.
+    /// The state after a poll that left this listener, or none.
     pub(crate) fn with(key: Option<Key>) -> PollState
         ensures { result ≡ poll_state_with key }
     {
@@ -49,7 +50,7 @@ impl PollState {
         matches!(self, PollState::IsPolled { .. })
     }
 
-    /// Whether it is pending. Own to this project.
+    /// Whether it is pending.
     pub fn is_pending(self) -> bool
         ensures { result ≡ stands_pending self }
     {
@@ -57,12 +58,12 @@ impl PollState {
     }
 }
 
-/// A live operation, and how it stands.
+/// A live operation, and whether it is pending.
 #[derive(Drop)]
 pub struct OperationEntry<T> {
     /// What it is. The message of a send whose poll is under way is with the poll.
     pub operation: Operation<T>,
-    /// How it stands.
+    /// Whether it is pending or being polled.
     pub poll_state: PollState,
 }
 
@@ -86,7 +87,7 @@ pub struct HandleEntry {
     pub handle: Handle,
     /// How many calls under way use it.
     pub users: usize,
-    /// How it stands as a stream.
+    /// The same of it as a stream.
     pub poll_state: PollState,
 }
 

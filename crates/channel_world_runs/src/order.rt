@@ -1,4 +1,5 @@
-//! Who may be woken, and who was, in order.
+//! Which names may be woken, and which were, in order. The invariant: each name has its place before it may be woken, so waking takes no
+//! memory.
 
 use crate::name_table::NameTable;
 use crate::names::OnReturn;
@@ -11,10 +12,10 @@ use lru::LruCache;
 use std::alloc::{AllocError, Global};
 use std::marker::Model;
 
-/// Those who may be woken, and which of them were, in the order of their waking.
+/// The names that may be woken, and which of them were, in the order of their waking.
 ///
-/// It is the kit's list of recent use, with the mark of those who were woken in their places: a name is found, moved, marked and
-/// removed without a walk past the others. Each name has its place before it may be woken, so waking takes no memory.
+/// It is the kit's list of recent use, with a mark at those that were woken: a name is found, moved, marked and removed without a walk past
+/// the others.
 #[derive(Drop)]
 pub struct Order {
     places: LruCache<Waiter, bool>,
@@ -45,7 +46,7 @@ impl Order {
         Ok(Order { places })
     }
 
-    /// w has a place from now on, and was not woken. Where memory was refused, nothing is changed.
+    /// Gives w a place, not woken. `Err` with nothing changed if memory was refused.
     pub(crate) fn place(&mut self, w: Waiter) -> Result<(), AllocError>
         ensures ok { OnOk result (self.new ≡ placed w self.old) }
         ensures err { OnErr result (self.new ≡ self.old) }
@@ -57,7 +58,7 @@ impl Order {
         Ok(())
     }
 
-    /// w keeps its place, if it has one, and was not woken.
+    /// w keeps its place, if it has one, and is no longer woken.
     pub(crate) fn rest(&mut self, w: Waiter)
         ensures { self.new ≡ rested w self.old }
     {
@@ -69,7 +70,7 @@ impl Order {
         }
     }
 
-    /// w is woken, after all that were woken before, if it has a place.
+    /// Marks w as woken, after all that were woken before, if it has a place.
     pub(crate) fn wake(&mut self, w: Waiter)
         ensures { self.new ≡ woken_last w self.old }
     {
@@ -82,7 +83,7 @@ impl Order {
         }
     }
 
-    /// w has no place any more.
+    /// Takes w's place away.
     pub(crate) fn leave(&mut self, w: Waiter)
         ensures { self.new ≡ without_place w self.old }
     {
@@ -90,7 +91,7 @@ impl Order {
         let _removed = self.places.pop(&w);
     }
 
-    /// Those who were woken, in the order of their waking. A walk over all names that are polled or pending. Own to this project.
+    /// Those that were woken, in the order of their waking. It walks over all names that are polled or pending.
     pub fn woken(&self, alloc: Global) -> Result<Vec<Waiter>, AllocError>
         ensures { IfOk result (λ names. names.items ≡ self.now.woken) }
     {
@@ -104,7 +105,7 @@ impl Order {
         Ok(names)
     }
 
-    /// How many were woken. A walk over all names that are polled or pending. Own to this project.
+    /// How many were woken. It walks over all names that are polled or pending.
     pub fn count_woken(&self) -> usize
         ensures { result ≡ length self.now.woken }
     {
@@ -112,7 +113,7 @@ impl Order {
         places.filter(|(_, was_woken)| **was_woken).count()
     }
 
-    /// How many of those who were woken belong to this line. A walk over all names that are polled or pending. Own to this project.
+    /// How many of those that were woken belong to this wait queue. It walks over all names that are polled or pending.
     pub fn count_woken_on<T>(&self, name_table: &NameTable<T>, line: WaitList) -> usize
         ensures { result ≡ woken_on line name_table.now self.now.woken }
     {
@@ -122,8 +123,8 @@ impl Order {
             .count()
     }
 
-    /// A call begins: who is polled gets a place and is not woken any more, who is given up or dropped loses it. Where memory was
-    /// refused, nothing is changed.
+    /// A call begins: a name that is polled gets a place and is no longer woken, one that is given up or dropped loses it. `Err` with
+    /// nothing changed if memory was refused.
     pub(crate) fn begin<T>(&mut self, call: &Call<T>) -> Result<(), AllocError>
         ensures ok { OnOk result (self.new ≡ order_begun call.now self.old) }
         ensures err { OnErr result (self.new ≡ self.old) }
@@ -138,7 +139,7 @@ impl Order {
         Ok(())
     }
 
-    /// A call with this to write back has left this listener; or none, and whom it polled may not be woken any more.
+    /// A call with this to write back has left this listener; or none, and then the name that it polled may not be woken any more.
     pub(crate) fn settle<T>(&mut self, on_return: &OnReturn<T>, key: Option<Key>)
         ensures { self.new ≡ order_settled on_return.now key self.old }
     {

@@ -24,7 +24,7 @@ pub(crate) fn brought_in(mark: Mark) -> u64
     }
 }
 
-/// How many messages a call made alone has brought in, by its reply: none where it had none.
+/// How many messages a call made alone has brought in, by its reply: none if it had none.
 pub(crate) fn accepted_by<T>(brings: bool, reply: &Reply<T>) -> u64
     ensures { result ≡ accepted_by brings reply.now }
 {
@@ -39,7 +39,7 @@ impl<T> NameTable<T> {
     ghost use Rattle.std.specs.Prelude.{◌≡◌};
     ghost use Rattle.channel_world_runs.specs.Positions.{brings};
 
-    /// Whether the call may bring a message: a poll of an operation that of an unfinished send.
+    /// Whether the call may bring a message; a poll of an operation may bring that of an unfinished send.
     pub(crate) fn brings(&self, call: &Call<T>) -> bool
         ensures { result ≡ brings self.now call.now }
     {
@@ -57,7 +57,7 @@ impl<T> WorldState<T> {
     ghost use Rattle.std.specs.Prelude.{IsTrue};
     ghost use Rattle.channel_world_runs.specs.WorldState.{HasPosition, HasPositions};
 
-    /// Whether there are positions of the queue for so many more messages. One place alone needs none. Own to this project.
+    /// Whether there are positions of the queue for so many more messages. With one place it needs none.
     pub fn has_positions(&self, count: usize) -> bool
         ensures enough { IsTrue result → HasPositions count self.now }
         ensures all { HasPositions count self.now → IsTrue result }
@@ -65,8 +65,7 @@ impl<T> WorldState<T> {
         self.has_one_place || self.accepted.saturating_add(count as u64) <= MOST_MESSAGES
     }
 
-    /// Whether there is a position of the queue for a message that the call may bring, beside those that the calls under way
-    /// may yet bring.
+    /// Whether there is a position of the queue for a message that the call may bring, beside those that the calls under way may yet bring.
     pub(crate) fn has_position(&self, call: &Call<T>) -> bool
         ensures enough { IsTrue result → HasPosition call.now self.now }
         ensures all { HasPosition call.now self.now → IsTrue result }

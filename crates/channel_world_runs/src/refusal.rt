@@ -1,4 +1,4 @@
-//! Which calls are not begun, and why.
+//! Which calls are not begun, and why. A refusal only reads the names, so a refused call has changed nothing.
 
 use crate::name_table::NameTable;
 use crate::names::HandleEntry;
@@ -12,7 +12,7 @@ impl HandleEntry {
     ghost use Rattle.channel_world_model.specs.Refusal.{unfit_handle, borrowed_handle};
     ghost use Rattle.channel_world_runs.specs.NameTable.{is_polled};
 
-    /// Why a call doesn't go through it that wants such a one.
+    /// Why a call that needs this kind of handle doesn't go through it.
     fn unfit(self, wanted: Wanted) -> Option<WorldRefusal>
         ensures { result ≡ unfit_handle (is_polled self.poll_state) wanted (Some self.handle) }
     {
@@ -23,7 +23,7 @@ impl HandleEntry {
         is_polled.then_some(WorldRefusal::OpUnderWay)
     }
 
-    /// Why a call doesn't take it whole: an operation borrows it, or a call under way uses it.
+    /// Why a call doesn't take it for good: an operation borrows it, or a call under way uses it.
     fn borrowed(self) -> Option<WorldRefusal>
         ensures { result ≡ borrowed_handle (nat_lt 0 self.users) (Some self.handle) }
     {
@@ -40,7 +40,7 @@ impl<T> NameTable<T> {
     ghost use Rattle.channel_world_runs.specs.NameTable.{names_of};
     ghost use Rattle.channel_world_runs.specs.Refusal.{under_way_in, handle_at, operation_at, begin_refusal};
 
-    /// Why a call doesn't go through this handle that wants such a one.
+    /// Why a call that needs this kind of handle doesn't go through this one.
     fn through_refusal(&self, wanted: Wanted, handle: HandleId) -> Option<WorldRefusal>
         ensures { let u = under_way_in self.now in result ≡ unfit_handle (u.polled (Stream handle)) wanted (handle_at handle self.now) }
     {
@@ -50,7 +50,7 @@ impl<T> NameTable<T> {
         }
     }
 
-    /// Why it doesn't take this handle whole that wants such a one.
+    /// Why a call that needs this kind of handle doesn't take this one for good.
     fn taking_refusal(&self, wanted: Wanted, handle: HandleId) -> Option<WorldRefusal>
         ensures { let u = under_way_in self.now in
             result ≡ option_or (unfit_handle (u.polled (Stream handle)) wanted (handle_at handle self.now)) (borrowed_handle (u.used handle) (handle_at handle self.now)) }
@@ -61,7 +61,7 @@ impl<T> NameTable<T> {
         }
     }
 
-    /// Why it doesn't go through these two, which have to be two senders or two receivers.
+    /// Why a call doesn't go through these two, which have to be two senders or two receivers.
     fn unlike_handles(&self, a: HandleId, b: HandleId) -> Option<WorldRefusal>
         ensures { let u = under_way_in self.now in
             result ≡ unlike_handles (u.polled (Stream a) || u.polled (Stream b)) (handle_at a self.now) (handle_at b self.now) }
@@ -120,7 +120,7 @@ impl<T> NameTable<T> {
         }
     }
 
-    /// Why the call is not begun, room and parties aside. One look at each handle or operation tells. Own to this project.
+    /// Why the call is not begun, room and parties aside. It looks once at each handle or operation that the call names.
     pub fn refusal(&self, call: &Call<T>) -> Option<WorldRefusal>
         ensures { result ≡ begin_refusal self.now call.now }
     {

@@ -1,4 +1,4 @@
-//! Runs of many parties' steps.
+//! Runs of many parties' steps. One owner makes them all, one step after another, in the order of the list.
 
 ghost use Rattle.std.specs.Prelude.{◌≡◌, Some, vec_len};
 
@@ -24,7 +24,7 @@ impl<T: Drop> WorldState<T> {
     ghost use Rattle.channel_world_runs.specs.WorldState.{name_state_of};
     ghost use Rattle.channel_world_runs.specs.Runs.{RanTo};
 
-    /// Why a run stops at this step, if it does; where it doesn't, there is room for an entry.
+    /// Why a run stops at this step, if it does; if not, there is room for an entry.
     fn stop(&self, step: &Step<T>, trace: &mut Vec<Entry<T>>) -> Option<WorldRefusal>
         ensures why { MayStopAt (name_state_of self.now) step.now result }
         ensures items { trace.new.items ≡ trace.old.items }
@@ -37,19 +37,18 @@ impl<T: Drop> WorldState<T> {
         why
     }
 
-    /// Runs steps of any parties, from the front. The first one that is refused stays in front, with nothing of it done;
-    /// `stopped` says at which place of the list, counted from 0, and why.
+    /// Runs steps of any parties, from the front. The first one that is refused stays in front, with nothing of it done; `stopped` says at
+    /// which place of the list, counted from 0, and why.
     ///
-    /// A step is one step of one call; a call that begins touches nothing. Whatever the order of the parties' steps is, and
-    /// wherever the list ends, the steps that were made are a run of the channel's steps, in which each call asked what it
-    /// asks given the names and the listeners held at that moment; each entry's mark, woken names and reply are that run's;
-    /// and the names are what the bookkeeping of these steps makes of them. So each call that answers has the marks that its
-    /// reply names and found what its reply says at a moment of its own, and what left the channel, followed by what it holds,
-    /// is what it held followed by what came, in order.
+    /// A step is one step of one call; a call that begins touches nothing. Whatever the order of the parties' steps is, and wherever the
+    /// list ends, the steps that were made are a run of the channel's steps, in which each call asked what it asks given the names and the
+    /// listeners held at that moment; each entry's mark, woken names and reply are that run's; and the names are what the bookkeeping of
+    /// these steps makes of them. So each call that answers has the marks that its reply names and found what its reply says at a moment of
+    /// its own, and what left the channel, followed by what it holds, is what it held followed by what came, in order.
     ///
-    /// At each moment of the run, and at its end, each listener on the channel's lists is held by one alone, and nobody who is
-    /// pending and wasn't woken since its last poll is forgotten beside a message, a free place or a closing: see `specs/Owners`
-    /// and `specs/Owed`. No step was made that is to be refused. Nothing waits. Own to this project.
+    /// At each moment of the run, and at its end, each listener on the channel's wait queues has exactly one owner, and nobody that is
+    /// pending and wasn't woken since its last poll is forgotten beside a message, a free place or a closing: see `specs/Owners` and
+    /// `specs/Owed`. No step was made that is to be refused. It never waits.
     pub fn run_steps(&mut self, steps: &mut VecDeque<Step<T>>) -> Run<T>
         ensures ran { RanTo steps.old.items steps.new.items self.old result.trace.items self.new }
         ensures stopped { StopsAt (name_state_of self.new) steps.new.items (vec_len result.trace) result.stopped }

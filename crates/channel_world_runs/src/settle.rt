@@ -1,4 +1,4 @@
-//! Polls of those who are pending and were woken, made alone, one after another, as settling makes them.
+//! Polls of operations and streams that are pending and were woken, made alone, one after another, as settling makes them.
 
 use crate::world_state::WorldState;
 use channel_calls::reply::Reply;
@@ -11,7 +11,7 @@ use channel_world_model::run::Done;
 pub struct Polled<T> {
     /// What it answers.
     pub reply: Reply<T>,
-    /// The names that it was given, and after them those whom it woke, in order.
+    /// The names that it was given, and after them those that it woke, in order.
     pub names: Vec<Waiter>,
 }
 
@@ -37,13 +37,13 @@ impl<T: Drop> WorldState<T> {
     ghost use Rattle.channel_world_runs.specs.Positions.{accepted_by, brings};
     ghost use Rattle.channel_world_runs.specs.Settle.{IsWoken, PollsAlone};
 
-    /// Polls one that is pending and was woken, where no call is under way, from the poll's beginning to its end.
+    /// Polls one that is pending and was woken, with no call under way, from the poll's beginning to its end.
     ///
-    /// A stream is polled even while a live operation borrows its receiver. The poll takes nothing: its name has its place in the
-    /// order of waking, and those whom it wakes go after the given names, where there is room for them. It isn't refused memory: where
-    /// it goes on waiting, the node of the listener that was told serves the next one. Once all serial numbers of a list were given,
-    /// the reply says that none was left. Only a send that is accepted brings a message, so only there is a position of the queue
-    /// asked for. Nothing waits. Own to this project.
+    /// A stream is polled even while a live operation borrows its receiver. The poll takes nothing: its name has its place in the order of
+    /// waking, and those that it wakes go after the given names, as far as there is room for them. It isn't refused memory: if it goes on
+    /// waiting, the node of the listener that was told serves the next one. Once all serial numbers of a wait queue were given, the reply
+    /// says that none was left. Only a send that is accepted brings a message, so only then is a position of the queue asked for. It never
+    /// waits.
     pub fn poll_alone(&mut self, name: Waiter, names: Vec<Waiter>) -> Polled<T>
         requires stands { Stands self.old }
         requires quiet { IsQuiet self.old }

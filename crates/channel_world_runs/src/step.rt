@@ -6,11 +6,11 @@ use channel_world_model::call::Call;
 use channel_world_model::name::Waiter;
 use channel_world_model::run::Stopped;
 
-/// A party by number: somebody who makes calls, one after another.
+/// A party by number: it makes calls, one after another.
 #[derive(Clone, Copy, Debug, PartialEq, Eq, Hash)]
 pub struct PartyId(pub u32);
 
-/// A step of a run: a party begins a call, or makes one step of the call that it has under way. Own to this project.
+/// A step of a run: a party begins a call, or makes one step of the call that it has under way.
 #[derive(Drop, PartialEq, Eq)]
 pub enum Step<T> {
     /// Begins a call. The channel isn't touched.
@@ -27,18 +27,18 @@ pub enum Step<T> {
     },
 }
 
-/// What one step did. Own to this project.
+/// What one step did.
 #[derive(Debug, Drop, PartialEq, Eq)]
 pub struct Entry<T> {
     /// What was done to the channel.
     pub mark: Mark,
-    /// Whom it woke, in order.
+    /// The names that it woke, in order.
     pub woken: Vec<Waiter>,
-    /// What the call answers, where this was its last step.
+    /// What the call answers if this was its last step.
     pub reply: Option<Reply<T>>,
 }
 
-/// What a run did. Own to this project.
+/// What a run did.
 #[derive(Debug, Drop, PartialEq, Eq)]
 pub struct Run<T> {
     /// An entry for each step that was made.

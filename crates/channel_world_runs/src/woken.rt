@@ -1,9 +1,9 @@
-//! Those who are woken by one step.
+//! The names that are woken by one step.
 
 use channel_world_model::name::Waiter;
 use event_listener::wakes::Wakes;
 
-/// The names that a step wakes, in order, for which room was taken before.
+/// The names that a step wakes, in order, for which room was reserved before.
 #[derive(Drop)]
 pub(crate) struct Woken {
     pub(crate) names: Vec<Waiter>,
@@ -15,7 +15,7 @@ impl Wakes<Waiter> for Woken {
     ghost wakes = { Hears };
 
     fn wake(&mut self, task: Waiter) {
-        // Room was taken for all whom a step may wake, before it was made.
+        // Room was reserved for all that a step may wake, before it was made.
         let _ = self.names.push(task);
     }
 }

@@ -1,4 +1,5 @@
-//! The parts of a channel by names with the calls of several parties under way, and one step of it.
+//! The parts of a channel by names with the calls of several parties under way, and one step of it. A step changes the channel by one
+//! operation, and the names only if it begins or ends a call.
 
 use crate::calls::{CallUnderWay, find_call, is_at_work};
 use crate::name_table::NameTable;
@@ -25,13 +26,13 @@ pub struct WorldState<T> {
     pub calls: Vec<CallUnderWay<T>>,
     /// The names.
     pub name_table: NameTable<T>,
-    /// Those who may be woken, and who was, in the order of waking.
+    /// The names that may be woken, and those that were, in the order of waking.
     pub order: Order,
     /// How many messages the channel holds.
     pub messages: u64,
-    /// Whether it has one place alone, so that its queue counts no positions.
+    /// Whether it has only one place, so that its queue counts no positions.
     pub has_one_place: bool,
-    /// How many messages the channel has accepted; of one place nothing follows from it.
+    /// How many messages the channel has accepted; with one place nothing follows from it.
     pub accepted: u64,
     /// Where memory comes from.
     pub alloc: Global,
@@ -47,7 +48,7 @@ impl<T: Drop> WorldState<T> {
     ghost use Rattle.channel_world_runs.specs.Refusal.{step_refusal};
     ghost use Rattle.channel_world_runs.specs.WorldState.{name_state_of, agents_of, Shown, Stands, IsSame, LeadsByStep};
 
-    /// An open channel over a queue of this form, with its first two handles and nobody at work. Own to this project.
+    /// An open channel over a queue of this form, with its first two handles and no call under way.
     pub fn open(alloc: Global, form: QueueForm) -> Result<WorldState<T>, AllocError>
         requires form { CanBeMade form }
         ensures shown { IfOk result (λ f. Shown f (new_configuration (capacity_of form))) }
@@ -80,7 +81,7 @@ impl<T: Drop> WorldState<T> {
         }
     }
 
-    /// Begins a call that is not refused; or hands it back where there was no room, with nothing changed.
+    /// Begins a call that is not refused; or returns it if there was no room, with nothing changed.
     fn start(&mut self, party: PartyId, call: Call<T>) -> Result<Entry<T>, Call<T>>
         requires accepted { step_refusal self.old.name_table (agents_of self.old) (Step.Begin party call) ≡ None }
         ensures ok { IfOk result (λ e. LeadsByStep (Step.Begin party call) self.old e self.new) }
@@ -102,7 +103,7 @@ impl<T: Drop> WorldState<T> {
         })
     }
 
-    /// One step of the party's call. None where there was no room for those whom it might wake.
+    /// One step of the party's call. `None` if there was no room for those that it might wake.
     fn go_on(&mut self, party: PartyId) -> Option<Entry<T>>
         requires accepted { step_refusal self.old.name_table (agents_of self.old) (Step.Step party) ≡ None }
         ensures some { IfSome result (λ e. LeadsByStep (Step.Step party) self.old e self.new) }
@@ -123,7 +124,7 @@ impl<T: Drop> WorldState<T> {
         Some(Entry { mark, woken, reply })
     }
 
-    /// Makes a step that nothing but want of room refuses; or hands it back where there was none, with nothing changed.
+    /// Makes a step that only want of room refuses; or returns it if there was none, with nothing changed.
     pub(crate) fn turn(&mut self, step: Step<T>) -> Result<Entry<T>, Step<T>>
         requires accepted { step_refusal self.old.name_table (agents_of self.old) step ≡ None }
         ensures ok { IfOk result (λ e. LeadsByStep step self.old e self.new) }

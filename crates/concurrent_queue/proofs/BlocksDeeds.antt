@@ -1,4 +1,4 @@
--- The operations that a push and a pop make on end over blocks are those of their machine, whatever they are answered.
+-- The operations of the fast paths of a push and of a pop over blocks are those of their machine, whatever they are answered.
 use Rattle.std.proofs.Common.{◌≡◌, ℕ, ◌+◌, ◌-◌, ◌/◌, ◌%◌, ◌^◌, ◌==◌, ◌<◌, ◌≤◌, Bool, true, false, nat_le, if◌then◌else◌, None, Some, Option, Result, Ok, Err, is_err, refl, sym, subst, arith}
 use Rattle.std.proofs.lemmas.Bool.Decides.{nat_tests}
 use Rattle.concurrent_queue.specs.Deeds.{Deed, loaded, stored, exchanged, added, did_put, did_take, spared, retired}

@@ -123,7 +123,7 @@ module _ {T : Type 0} (r : Blocks T) (items : List T) (s : SoundBlocks r items) 
   abbrev OwesNoMore : Act T → Type 0
   OwesNoMore a = (d : Duty) → owes a d ≤ owed r d
 
-  -- who is about to touch a block has such a claim
+  -- a call that is about to touch a block has such a claim
   claims : (a : UnboundedAction T) (p : Phase T) (b : ℕ) → KnowsBlocks r (act_of a) p → OwesNoMore (act_of a) → touched_block (target (blocks_moves a)) ≡ Some b → Claim r (act_of a) b
   claims (act.PushReturn v h) p b k o e = subst (λ (x : ℕ). Claim r (call.push_return v h) x) (some_is e) (holds (one_owes h))
   claims (act.PushGive h) p b k o e = subst (λ (x : ℕ). Claim r (call.push_give h) x) (some_is e) (holds (one_owes h))

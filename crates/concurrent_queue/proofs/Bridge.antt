@@ -104,7 +104,7 @@ module _ {T : Type 0} (c d : Contents T) where
   change_keeps_form (does None) e = ap (λ (y : Contents T). y.form) e
   change_keeps_form (does (Some x)) h = does_keep_form x c d h
 
--- ---- who has which call under way
+-- ---- which call each party has under way
 
 module _ {T : Type 0} where
   party_is : (x : Party T) (p : ℕ) (call : QueueCall T) → x.id ≡ p → x.call ≡ call → x ≡ party p call

@@ -16,7 +16,7 @@ module _ {T A : Type 0} (moves : QueueForm → A → Event T → A → Type 0) (
   pub exchange_lost : n ≢ x → moves form s (does (Some (exchanged w x y (answer n x)))) t → moves form s (does (Some (exchanged w x y (Err n)))) t
   exchange_lost miss h = subst (λ (o : Result ℕ ℕ). moves form s (does (Some (exchanged w x y o))) t) (rw (ne_eqb n x miss) refl) h
 
--- ---- a message that was handed back
+-- ---- a message that was returned
 
 module _ {T A : Type 0} (moves : QueueForm → A → Event T → A → Type 0) (s t : Seated T A) (at : Slot) (x back : T) where
   pub put_refused : (full : Bool) → back ≡ x → MatchBool full (moves s.0.form s.0.state (does (Some (did_put at x (Err x)))) t.0.state) (t ≡ s)

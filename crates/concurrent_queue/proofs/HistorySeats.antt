@@ -35,7 +35,7 @@ module _ {T A : Type 0} where
   stood_still vs ws go [] a = tt
   stood_still vs ws go (x ∷ xs) a = (go x a.0, stood_still vs ws go xs a.1)
 
-  -- who is listed is spent
+  -- one that is listed is spent
   listed_spent : (vs : List (View T A)) (p : ℕ) (l : List (ℕ × A)) → AllStood vs l → Lists p l → (u : View T A) × (get_elem? vs p ≡ some u) × (u.spent ≡ true)
   listed_spent vs p [] a h = absurd h
   listed_spent vs p (x ∷ xs) a (inl e) = (a.0.0, subst (λ (q : ℕ). get_elem? vs q ≡ some a.0.0) e a.0.1, a.0.3)

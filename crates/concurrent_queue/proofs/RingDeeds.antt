@@ -1,4 +1,4 @@
--- The operations that a push and a pop make on end on a ring are those of its machine, whatever they are answered.
+-- The operations of the fast paths of a push and of a pop on a ring are those of its machine, whatever they are answered.
 use Rattle.std.proofs.Common.{◌≡◌, ℕ, suc, ◌+◌, ◌-◌, ◌*◌, ◌%◌, ◌^◌, ◌==◌, ◌<◌, ◌≤◌, ◌&&◌, true, false, nat_le, if◌then◌else◌, None, Some, Result, Ok, Err, is_err, refl, sym, subst, arith}
 use Rattle.std.proofs.lemmas.Bool.Decides.{nat_tests}
 use Rattle.concurrent_queue.specs.Deeds.{Deed, loaded, stored, exchanged, did_put, did_take}

@@ -139,7 +139,7 @@ module _ {T : Type 0} (cap : ℕ) (some : 0 < cap) (r : Ring T) (q : Queue T) (s
   all_append : (v : T) (n : ℕ) (x : T) → slice_get r.all n ≡ Some x → slice_get (r.all ++ v ∷ []) n ≡ Some x
   all_append v n x e = get_before r.all v n (get_below r.all n x e) ∙ e
 
-  -- who moves the tail on from the place where it stands
+  -- the calls that move the tail on from the place where it stands
   pub append : (a : RingAction T) (p : Phase T) (a' : RingAction T) (v : T) (n : ℕ) → r.tail ≡ n → n ≤ (r.at (n % cap)).round
       → held a ≡ None → held a' ≡ Some n → brings a ≡ 0 → brings a' ≡ 0 → message p.ask ≡ v ∷ [] → is_displaced p.stage ≡ false
       → (((r.at (n % cap)).round ≡ n) × ((r.at (n % cap)).written ≡ false) × ((r.at (n % cap)).slot ≡ None) × (r.tail < r.head + cap)

@@ -44,7 +44,7 @@ unfolding at_index
 same_index i j e = ap at_index e
 
 module _ {T : Type 0} where
-  -- ---- one slot: whoever is at it holds it, and one does at most
+  -- ---- one slot: a call that is at it holds it, and one does at most
 
   single_holds : (a : SingleAction T) (at : Slot) → the_slot (target (single_moves a)) ≡ Some at → 1 ≤ holds a
   single_holds (one.PushPut v) at e = omega arith
@@ -93,7 +93,7 @@ module _ {T : Type 0} where
         (single_others at (holds s.mine.action) mine (s.left ++ s.right) most)
 
 module _ {T : Type 0} (cap m : ℕ) (some : 0 < cap) (mark : IsMark cap m) where
-  -- ---- a ring: whoever is at a slot holds its place, and each place is held by one at most
+  -- ---- a ring: a call that is at a slot holds its place, and each place is held by one at most
 
   HeldAt : RingAction T → Slot → Type 0
   HeldAt a at = (n : ℕ) × (held a ≡ Some n) × (at ≡ At (index m (pos cap (2 * m) n)))

@@ -77,7 +77,7 @@ module _ {T S : Type 0} (may : Deed T → S → Type 0) where
     first_ready (Bounded cap) a e h = bounded_ready (cap == 1) cap a e h
     first_ready Unbounded a e h = blocks_ready (begin a) h
 
-    -- whoever stands where a call's next action is may make it
+    -- a call that is at an action may make it
     pub state_ready : (at : CallState T) → stands (standing (form_of s) at) s → StateReady may (form_of s) at s
     state_ready (Asked a) h = first_ready (form_of s) a refl h
     state_ready (Single a) h = single_ready a h
@@ -202,7 +202,7 @@ module _ {T S : Type 0} (did : Deed T → S → S → Type 0) (stands : CallStat
       let r : Stepped (CallState T) T = record { action = y; mark = k; reply = None } in
       led form n x y t b (step_keeps did form_of keeps_form form s at x r step ∙ e) (state_goes form at s x r e h step refl) path
 
-  -- so do steps made on end, up to where the call that they leave stands
+  -- so do the steps of a fast path, up to where the call that they leave stands
   pub led_on : (form : QueueForm) (s : S) (at : CallState T) (t : S) (b : CallState T) → form_of s ≡ form → stands (standing form at) s → (n : ℕ) × Leads (StateMakes did form) n s (standing form at) t (standing form b) → stands (standing (form_of t) b) t
   led_on form s at t b e h (n, path) =
       let kept : form_of t ≡ form = leads_keep did form_of keeps_form form n s (standing form at) t (standing form b) path ∙ e in

@@ -18,7 +18,7 @@ pub data Deed (T : Type 0) : Type 0 where
   spared : Result ℕ NoMemory → Deed T
   retired : ℕ → Deed T
 
--- a slot takes a message, or hands it back
+-- a slot takes a message, or returns it
 abbrev pub put_answer : {T : Type 0} → T → Bool → Result Unit T
 put_answer v true = Ok tt
 put_answer v false = Err v

@@ -176,7 +176,7 @@ module _ {T : Type 0} where
   Continues q p m p' = (p'.ask ≡ p.ask) × ContinuesBy q p.ask m p.stage p'.stage
 
   -- ---- a step that ends its call: what a refusal says holds at this very step. That the queue was open where it was found
-  -- full, or where memory was refused, was so at a step of the call's own: another may have closed it since
+  -- full, or if memory was refused, was so at a step of the call's own: another may have closed it since
 
   abbrev pub AnswersPush : Queue T → T → QueueMark → QueueReply T → Stage T → Type 0
   AnswersPush q v Nothing (reply.Push (Ok u)) (appended None) = Unit {0}

@@ -224,7 +224,7 @@ module _ {T : Type 0} where
 
   -- ---- the replies that follow
 
-  -- a call that has put its message down can't hand it back: its reply is right for each message
+  -- a call that has put its message down can't return it: its reply is right for each message
   abbrev pub MayStill : Bool → Option ℕ → StillAsked T → QueueReply T → Type 0
   MayStill bounded room (whole a) r = MayReply bounded room a r
   MayStill bounded room (all_but_message a) r = (v : T) → MayReply bounded room (a v) r

@@ -15,7 +15,7 @@ use Rattle.concurrent_queue.specs.declared.run.QueueRefusal.{QueueRefusal}
 use Rattle.concurrent_queue.specs.declared.run.QueueRefusal.TheVariants.{Busy, Idle, NoMemory}
 use Rattle.concurrent_queue.specs.declared.run.Stopped.{Stopped}
 
--- a queue at one moment, with its cells and, where it is unbounded, with the blocks that it has used, in order
+-- a queue at one moment, with its cells and, if it is unbounded, with the blocks that it has used, in order
 pub record Config (T : Type 0) : Type 0 where
   pub cells : Contents T
   pub chain : List ℕ

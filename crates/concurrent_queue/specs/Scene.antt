@@ -60,7 +60,7 @@ module _ {T : Type 0} where
   abbrev pub OthersQuiet : Queue T → List (CallUnderWay T) → Type 0
   OthersQuiet q others = AllIdle others × (q.capacity ≡ None → (0 < q.removed) ⊎ (others ≡ []))
 
-  -- the call that made a step: it has done a beginning of what some reply needs, and where nobody held it up it has fewer
+  -- the call that made a step: it has done a beginning of what some reply needs, and if nobody held it up it has fewer
   -- silent steps left; or its reply is one that it may give, and it is gone
   abbrev pub ContinuesAs : CallUnderWay T → CallUnderWay T → Queue T → List (CallUnderWay T) → Option (QueueReply T) → Type 0
   ContinuesAs u u' q others None = IsBegun u'.ask u'.marked_steps × (u'.left < 64) × (OthersQuiet q others → u'.left < u.left)

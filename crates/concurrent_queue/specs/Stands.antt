@@ -1,5 +1,5 @@
--- What cells may ask of whoever operates on them: that each operation is the one that the call's machine makes next. Cells of one owner
--- ask nothing; those of calls whose operations are to be one history ask just this.
+-- What cells may require of their operations: each is the one that the call's machine makes next. Cells of one owner require nothing; those
+-- of calls whose operations are to be one history require just this.
 use Rattle.std.specs.Prelude.{◌≡◌, ℕ, ◌==◌, Bool, true, false, None, Some}
 use Rattle.concurrent_queue.specs.Deeds.{Deed, Notes, Ready}
 use Rattle.concurrent_queue.specs.Walked.{StateMakes}

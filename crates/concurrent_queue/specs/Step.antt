@@ -136,7 +136,7 @@ module _ {T : Type 0} where
   unfoldable pub slot_in : List ℕ → Contents T → ℕ → Slot
   slot_in chain c i = slot_by c.form chain c i
 
-  -- the messages that the slots hold, where no call is under way
+  -- the messages that the slots hold, if no call is under way
   abbrev pub items_by : QueueForm → Contents T → List T
   items_by (Bounded cap) c = if cap == 1 then option_to_list (slot_at c (At 0)) else ring_held cap (ring_mark cap) c
   items_by Unbounded c = blocks_items c
@@ -163,7 +163,7 @@ module _ {T : Type 0} where
   Lies chain c items brought = LiesBy (slot_in chain c) c items brought
 
   -- what cells and calls that mean a queue show of it: by its words it is closed or not, holds so many messages, has used so
-  -- many positions, and holds these messages where no call is under way
+  -- many positions, and holds these messages if no call is under way
   pub record ShowsBy (capacity : Option ℕ) (closed : Bool) (count counted : ℕ) (held : List T) (c : Contents T) (q : Queue T) (calls : List (Phase T)) : Type 0 where
     pub limit : q.capacity ≡ capacity
     pub flag : closed ≡ q.closed
@@ -209,7 +209,7 @@ module _ {T : Type 0} where
   abbrev pub phases : List (ActiveQueueCall T) → List (Phase T)
   phases seats = map phase_of seats
 
-  -- how many steps a call still needs at most, where the others are quiet
+  -- how many steps a call still needs at most, if the others are quiet
   abbrev pub rank_first : Bool → ℕ → Contents T → QueueAsk T → ℕ
   rank_first true m c a = single_rank c (start a)
   rank_first false m c a = ring_rank m c (ring_start a)

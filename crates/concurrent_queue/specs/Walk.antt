@@ -9,7 +9,7 @@ module _ {T : Type 0} where
   abbrev pub walked : ExclusiveIter T → MutBor (Held T)
   walked s = s.queue
 
-  -- the next item is the oldest message, which leaves; None comes where there is none, and nothing is changed
+  -- the next item is the oldest message, which leaves; None comes if there is none, and nothing is changed
   abbrev pub NextGives : Held T → Option T → Held T → Type 0
   NextGives m r n = MatchOption r ((m.items ≡ []) × (n ≡ m)) (λ v. (m.items ≡ v ∷ n.items) × (n ≡ with_items m n.items))
 

@@ -1,14 +1,17 @@
 //! The ring: a queue of two slots or more, as a machine of atomic steps.
 //!
-//! A ring has a word `head`, a word `tail`, and for each slot a word `stamp`. Head and tail are *positions*: a
-//! multiple of a lap plus the index of a slot. A lap is twice the *mark*, and the mark is the least power of two above
-//! the capacity, so that no index reaches it; in `tail` the mark is set where the queue is closed. A stamp that is the
-//! position of a push says that its slot is free for that push, and one more than a position that its message is in.
+//! A ring has a word `head`, a word `tail`, and for each slot a word `stamp`. Head and tail are *positions*: a multiple of a lap plus the
+//! index of a slot. A lap is twice the *mark*, and the mark is the least power of two above the capacity, so that no index reaches it; in
+//! `tail` the mark is set once the queue is closed. A stamp that equals the position of a push says that its slot is free for that push,
+//! and one more than a position that its message is in.
 //!
-//! Each function below is one step: it touches at most one word or slot, and what it decides belongs to it. Over shared
-//! cells a word may hold anything, so no step relies on what it reads: sums wrap, and a name outside the cells reads 0.
-//! The places where the machine meets others' steps are those of `concurrent-queue` 2.5.0; the displacing push in two
-//! steps keeps the mark, since it adds to the tail and never stores it.
+//! The invariant: the call that moves the tail (a push) or the head (a pop) from a position owns the slot of that position until it stores
+//! the slot's stamp, and no other call touches the slot or writes the stamp meanwhile.
+//!
+//! Each function below is one step: it makes at most one operation on one word or slot, and decides what follows. Over shared cells a word
+//! may hold anything, so no step relies on what it reads: sums wrap, and a word outside the cells reads 0. The orders of operations are
+//! those of `concurrent-queue` 2.5.0, with two exceptions. A displacing push makes two steps, and adds to the tail where the Rust crate
+//! stores it, so it can't erase a closed mark. And a queue whose positions end closes itself, where the Rust crate lets them wrap.
 
 ghost use Rattle.std.specs.Prelude.{◌≡◌, ℕ, ◌<◌, ◌^◌, ◌*◌, ◌+◌, ◌-◌, ◌%◌, None, Some, if◌then◌else◌, bit_and};
 ghost use Rattle.concurrent_queue.specs.machine.RingWords.{cap_of, ring_mark, index, is_marked, unmarked, stride, next_word, count_of, shut_reply, pushed_reply, stays, marks, finishes, ring_start};
@@ -27,7 +30,7 @@ use crate::seen::Trace;
 /// The greatest capacity of a ring.
 pub(crate) const GREATEST: usize = 288_230_376_151_711_744;
 
-/// What a push does where the ring is full.
+/// What a push does if the ring is full.
 #[derive(Clone, Copy)]
 pub(crate) enum WhenFull {
     /// It is refused.
@@ -267,7 +270,7 @@ fn accepted<T>(when_full: WhenFull) -> QueueReply<T>
     }
 }
 
-/// A push that may be closed or at the end of positions: it reads the tail.
+/// A push that may find the queue closed, or positions at their end: it loads the tail.
 fn push_load<T: Drop, C: Cells<T>>(
     shape: Shape,
     when_full: WhenFull,
@@ -289,8 +292,7 @@ fn push_load<T: Drop, C: Cells<T>>(
     }
 }
 
-/// Positions end here: the queue closes itself, where the wait-free ring of the crates lets them wrap (own to this
-/// project).
+/// Positions end here: the queue closes itself, where the Rust crate lets them wrap.
 fn push_shut<T: Drop, C: Cells<T>>(
     shape: Shape,
     when_full: WhenFull,
@@ -342,7 +344,7 @@ fn push_look<T: Drop, C: Cells<T>>(
     stay(RingAction::Push(when_full, value))
 }
 
-/// Who moves the tail on from here owns the slot. A marked tail is no position, so a closed queue lets nobody in.
+/// The call that moves the tail from here owns the slot. A marked tail is no position, so this fails on a closed queue.
 fn push_swap<T: Drop, C: Cells<T>>(
     shape: Shape,
     when_full: WhenFull,
@@ -397,7 +399,7 @@ fn push_store<T: Drop, C: Cells<T>>(
     finish(accepted(when_full))
 }
 
-/// The queue is full where the message of the lap before is the oldest.
+/// The queue is full if the message of the lap before is still the oldest.
 fn push_head<T: Drop, C: Cells<T>>(value: T, head: u64, cells: &mut C) -> Stepped<RingAction<T>, T>
     requires ready { (x : ℕ) → C.may (loaded Word.Head x) cells.old }
     ensures answers { (cap : ℕ) → RingFollows cap (RingAction.PushHead value head) result }
@@ -412,8 +414,8 @@ fn push_head<T: Drop, C: Cells<T>>(value: T, head: u64, cells: &mut C) -> Steppe
     }
 }
 
-/// The oldest message of a full queue is displaced here; its slot then waits for the new one, since no other push takes
-/// the place at the tail while the stamp is of the lap before.
+/// Displaces the oldest message of a full queue. Its slot then waits for the new one, since no other push takes the position at the tail
+/// while the stamp is of the lap before.
 fn force_head<T: Drop, C: Cells<T>>(
     shape: Shape,
     value: T,
@@ -431,7 +433,7 @@ fn force_head<T: Drop, C: Cells<T>>(
     }
 }
 
-/// Adding leaves the mark as it is, where storing the tail could reopen a closed queue.
+/// Moves the tail on. Adding keeps the closed mark, where a store could reopen a closed queue.
 fn force_add<T: Drop, C: Cells<T>>(
     shape: Shape,
     value: T,
@@ -536,8 +538,8 @@ fn pop_swap<T: Drop, C: Cells<T>>(
     }
 }
 
-/// The queue is empty only where the tail is at the head too. While a displacing push's message is on its way the stamp
-/// was of the lap before, so a pop does not come here.
+/// The queue is empty only if the tail is at the head too. While a displacing push is under way the stamp is of the lap before, so a pop
+/// does not come here.
 fn pop_tail<T: Drop, C: Cells<T>>(
     shape: Shape,
     head: u64,
@@ -667,7 +669,7 @@ fn len_load<T: Drop, C: Cells<T>>(shape: Shape, cells: &mut C) -> Stepped<RingAc
     stay(RingAction::LenHead(shape.unmarked(tail), shape.is_marked(tail)))
 }
 
-/// The number between the two positions counts only where the tail rested.
+/// The difference of the two positions counts only if the tail stood still.
 fn len_again<T: Drop, C: Cells<T>>(
     shape: Shape,
     tail: u64,

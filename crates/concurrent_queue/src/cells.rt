@@ -1,4 +1,5 @@
-//! The words and slots that the steps of a queue work on, one operation on one of them at a time.
+//! The words and slots that the steps of a queue work on. The trait [`Cells`] is the only way in which the machines of `single`, `bounded`
+//! and `unbounded` touch memory: one atomic operation on one word or slot at a time.
 
 ghost use Rattle.std.specs.Prelude.{◌≡◌, IfErr};
 ghost use Rattle.concurrent_queue.specs.Deeds.{Deed, loaded, stored, exchanged, added, bits_set, bits_kept, did_put, did_take, spared, retired};
@@ -49,15 +50,17 @@ pub enum Slot {
     In(u64, u64),
 }
 
-/// The cells of one queue. Each call is one atomic operation on one word or slot, or one section of the spare list with
-/// the block that enters or leaves it. A word that does not exist reads 0 and stays so; a slot that does not exist holds
-/// nothing and takes nothing.
+/// The cells of one queue. Each call is one atomic operation on one word or slot, or one critical section of the spare list with the block
+/// that enters or leaves it. A word that does not exist reads 0 and stays so; a slot that does not exist holds nothing and takes nothing.
 ///
-/// Each method says which operation was done, with its answer, and nothing else: what it did to what the cells hold follows by
-/// the law `exact`. Where several parties work on them nobody can know what they hold, and then `known` is false.
+/// All atomic operations are sequentially consistent: the operations of all threads have one total order. The comments in the machines,
+/// such as "load the head before the tail", rely on that order.
 ///
-/// Each asks that the operation may be made, whatever it is answered. Whoever makes the steps of a call has that of where the call
-/// stands, by the laws `ready` and `leads`; cells of one owner allow all.
+/// The contract of a method says which operation was done, with its answer, and nothing else. What it did to the contents follows by the
+/// law `exact`. Over shared cells nobody can know the contents, and then `known` is false.
+///
+/// Each method requires that the operation may be made, whatever it is answered. A caller that makes the steps of a call has this from the
+/// state of the call, by the laws `ready` and `leads`. Cells of one owner allow every operation.
 pub trait Cells<T> {
     ghost use Rattle.concurrent_queue.specs.declared.cells.QueueForm.{QueueForm};
 
@@ -70,8 +73,8 @@ pub trait Cells<T> {
     /// Which kind of queue they are of.
     ghost form_of: { Self → QueueForm };
 
-    /// Whether this operation, with this answer, was done between the two. Each method says so of itself, also where nothing
-    /// is known of what is held; any relation may stand here that keeps the laws below.
+    /// Whether this operation, with this answer, was done between the two. Every method states it, also over unknown contents; any relation
+    /// that keeps the laws below may stand here.
     ghost did: { Deed T → Self → Self → Type 0 };
 
     ghost use Rattle.std.specs.Prelude.{ℕ, Result, Option};
@@ -82,7 +85,7 @@ pub trait Cells<T> {
     /// Whether this operation may be made and be answered so. Cells of one owner allow any.
     ghost may: { Deed T → Self → Type 0 };
 
-    /// Whether the call whose cells these are stands at this action of its machine. Where any operation is allowed, that is so of all.
+    /// Whether the call whose cells these are is at this action of its machine. Where any operation is allowed, every call is.
     ghost stands: { CallState T → Self → Type 0 };
 
     /// Which kind of queue it is; no operation changes that.
@@ -101,7 +104,7 @@ pub trait Cells<T> {
         ensures deed { did (stored at value) self.old self.new }
         ensures form { form_of self.new ≡ form_of self.old };
 
-    /// Writes the word where it holds `expected`; `Err` with what it holds where it does not.
+    /// Writes `next` if the word holds `expected`; otherwise `Err` with what it holds.
     fn compare_exchange(&mut self, at: Word, expected: u64, next: u64) -> Result<u64, u64>
         requires may { (o : Result ℕ ℕ) → may (exchanged at expected next o) self.old }
         ensures deed { did (exchanged at expected next result) self.old self.new }
@@ -125,40 +128,39 @@ pub trait Cells<T> {
         ensures deed { did (bits_kept at bits result) self.old self.new }
         ensures form { form_of self.new ≡ form_of self.old };
 
-    /// Fills an empty slot. `Err` hands the message back: it isn't time yet, since the slot is not empty or in another's hands.
+    /// Fills an empty slot. `Err` returns the message: the slot is not empty, or another call holds it, so the call has to try again.
     fn put(&mut self, at: Slot, value: T) -> Result<(), T>
         requires may { (o : Result Unit T) → may (did_put at value o) self.old }
         ensures deed { did (did_put at value result) self.old self.new }
         ensures back { IfErr result (λ back. back ≡ value) }
         ensures form { form_of self.new ≡ form_of self.old };
 
-    /// Empties a slot. `None`: it isn't time yet, since the slot is empty or in another's hands.
+    /// Empties a slot. `None`: the slot is empty, or another call holds it, so the call has to try again.
     fn take(&mut self, at: Slot) -> Option<T>
         requires may { (o : Option T) → may (did_take at o) self.old }
         ensures deed { did (did_take at result) self.old self.new }
         ensures form { form_of self.new ≡ form_of self.old };
 
-    /// The number of a blank block: the spare one that was given back last, or a new one, which is made together with its
-    /// place in the spare list. `Err`, and nothing is changed, where no block is spare and there is no memory for a new one.
+    /// The number of a blank block: the spare one that was retired last, or a new one, which gets its place in the spare list when it is
+    /// made. `Err`, with nothing changed, if no block is spare and there is no memory for a new one.
     fn spare(&mut self) -> Result<u64, NoMemory>
         requires may { (o : Result ℕ NoMemory) → may (spared o) self.old }
         ensures deed { did (spared result) self.old self.new }
         ensures form { form_of self.new ≡ form_of self.old };
 
-    /// Blanks a block and puts its number on the spare list, which has a place for each block that was made. It takes no
-    /// memory.
+    /// Blanks a block and puts its number on the spare list, which has a place for each block that was made. It takes no memory.
     fn retire(&mut self, block: u64)
         requires may { may (retired block) self.old }
         ensures deed { did (retired block) self.old self.new }
         ensures form { form_of self.new ≡ form_of self.old };
 
-    /// Lets other threads go first; it is called before a call makes an action again. It is no operation, and touches nothing that the
-    /// cells hold. Cells whose other calls run on no thread of their own let these go on here.
+    /// Lets other threads run; called before a call repeats an action. It is no operation and touches no cell. Cells whose other calls run
+    /// on no thread of their own run those here.
     fn give_way(&self) {
         thread::yield_now();
     }
 
-    /// Where a call stands, what its machine makes next may be made, whatever it is answered.
+    /// A call may make the next operation of its machine, whatever that is answered.
     ghost ready: { MayGoOn stands form_of may };
 
     /// Such an operation leads the call to where its machine goes by the answer.

@@ -1,5 +1,8 @@
-//! What a call of a queue is refused by. The names and predicates are those of `concurrent-queue` 2.5.0; the cases for want
-//! of memory and the texts are own to this project.
+//! Why a call of a queue is refused. The names and predicates are those of `concurrent-queue` 2.5.0.
+//!
+//! # Extensions
+//!
+//! The cases `NoMemory` of [`PushError`] and [`ForcePushError`], the type [`NoMemory`], its conversion to `AllocError`, and the texts.
 
 ghost use Rattle.std.specs.Prelude.{◌≡◌};
 ghost use Rattle.concurrent_queue.specs.Errors.{push_message, says_full, says_closed, force_message, says_empty, says_shut};
@@ -37,7 +40,7 @@ pub enum PopError {
     Closed,
 }
 
-/// There was no memory for another block, or for the words and slots, or the places, of a new queue.
+/// There was no memory for another block, or for the words and slots of a new queue, or for its places.
 #[derive(Clone, Copy, PartialEq, Eq, Debug)]
 pub struct NoMemory;
 
@@ -108,7 +111,7 @@ impl Error for PopError {}
 
 impl Error for NoMemory {}
 
-/// For who asks for memory of other kinds too and answers `AllocError`: one `?` serves both. Own to this project.
+/// One `?` serves a function that asks for memory of other kinds too and answers `AllocError`.
 impl From<NoMemory> for AllocError {
     fn from(_refusal: NoMemory) -> AllocError {
         AllocError

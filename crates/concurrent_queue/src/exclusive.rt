@@ -1,4 +1,9 @@
-//! A queue of one owner.
+//! A queue of one owner, a deque. The owner alone calls it, by `&mut`, so its contracts state each reply and each content exactly. The
+//! invariant: a bounded one holds no more messages than its capacity.
+//!
+//! # Extensions
+//!
+//! All of this module.
 
 use crate::bounded::GREATEST;
 use crate::error::{ForcePushError, NoMemory, PopError, PushError};
@@ -6,7 +11,7 @@ use std::alloc::Global;
 use std::collections::VecDeque;
 use std::marker::Model;
 
-/// A queue of one owner, which can be closed. None of its calls waits. Own to this project.
+/// A queue of one owner, which can be closed. None of its calls waits.
 #[derive(Drop)]
 pub struct Exclusive<T> {
     messages: VecDeque<T>,
@@ -31,8 +36,8 @@ impl<T: Drop> Exclusive<T> {
     ghost use Rattle.concurrent_queue.specs.Alone.{PushGives, ForceGives, PopGives, is_full, shut};
     ghost use Rattle.concurrent_queue.specs.Room.{HasPlace};
 
-    /// An open empty queue that holds at most `capacity` messages. `Err` where there is no memory for them, which for a
-    /// capacity above 2^58 nobody is asked for.
+    /// An open empty queue that holds at most `capacity` messages. `Err` if there is no memory for them, which is not even asked for above
+    /// 2^58.
     pub fn bounded(alloc: Global, capacity: usize) -> Result<Exclusive<T>, NoMemory>
         requires { 0 < capacity }
         ensures opened { IfOk result (λ q. q ≡ record { items = []; closed = false; capacity = Some capacity }) }
@@ -51,7 +56,7 @@ impl<T: Drop> Exclusive<T> {
         }
     }
 
-    /// An open empty queue with no bound. It takes no memory: that comes with the messages.
+    /// An open empty queue with no bound. It takes no memory until messages come.
     pub fn unbounded(alloc: Global) -> Exclusive<T>
         ensures { result ≡ record { items = []; closed = false; capacity = None } }
     {
@@ -62,9 +67,9 @@ impl<T: Drop> Exclusive<T> {
         }
     }
 
-    /// Appends the message. A refusal hands it back and leaves the queue as it was: there was no memory for it, which an open
-    /// queue with no bound may say, the queue was full, or it was closed. Where `HasPlace` of `specs/Room` holds it succeeds:
-    /// the queue has a bound, is open, and holds fewer messages than fit.
+    /// Appends the message. `Err` returns it and leaves the queue as it was: `Full`, `Closed`, or `NoMemory`, which only an open queue with
+    /// no bound answers. Where `HasPlace` of `specs/Room` holds the push succeeds: the queue has a bound, is open, and holds fewer messages
+    /// than fit.
     #[inline]
     pub fn push(&mut self, value: T) -> Result<(), PushError<T>>
         ensures answer { PushGives self.old value self.new result }
@@ -84,9 +89,8 @@ impl<T: Drop> Exclusive<T> {
         }
     }
 
-    /// Appends the message; where the queue is full, the oldest one leaves for it and is answered. A refusal hands the
-    /// message back and leaves the queue as it was: there was no memory for it, which an open queue with no bound may say, or
-    /// the queue was closed.
+    /// Appends the message; if the queue is full, removes and returns the oldest one. `Err` returns the message and leaves the queue as it
+    /// was: `Closed`, or `NoMemory`, which only an open queue with no bound answers.
     pub fn force_push(&mut self, value: T) -> Result<Option<T>, ForcePushError<T>>
         ensures { ForceGives self.old value self.new result }
     {
@@ -104,7 +108,7 @@ impl<T: Drop> Exclusive<T> {
         }
     }
 
-    /// Takes the oldest message. `Err` where there is none: `Empty` while the queue is open, `Closed` once it is closed.
+    /// Removes the oldest message. `Err` if there is none: `Empty` while the queue is open, `Closed` once it is closed.
     #[inline]
     pub fn pop(&mut self) -> Result<T, PopError>
         ensures answer { PopGives self.old self.new result }
@@ -119,7 +123,7 @@ impl<T: Drop> Exclusive<T> {
         }
     }
 
-    /// Closes the queue: nothing more comes in, and what is in can still be popped. True where it was open.
+    /// Closes the queue: nothing more comes in, and what is in can still be popped. True if it was open.
     pub fn close(&mut self) -> bool
         ensures answer { result ≡ not self.old.closed }
         ensures left { self.new ≡ shut self.old }
@@ -175,8 +179,8 @@ impl<T: Drop> Exclusive<T> {
     }
 }
 
-/// The messages of a queue of one owner, oldest first. Each one leaves the queue as it is given; what was not given when the
-/// iterator is dropped stays. Own to this project.
+/// The messages of a queue of one owner, oldest first. Each one leaves the queue when it is returned; the others stay if the iterator is
+/// dropped.
 #[derive(Drop)]
 pub struct ExclusiveIter<'a, T> {
     queue: &'a mut Exclusive<T>,
@@ -202,8 +206,7 @@ impl<T: Drop> Exclusive<T> {
     ghost use Rattle.std.specs.Prelude.{◌≡◌};
     ghost use Rattle.concurrent_queue.specs.Walk.{walked};
 
-    /// The messages, oldest first, each of which leaves the queue as it is given. It walks this very queue, which is what it
-    /// was until a message is asked for.
+    /// The messages, oldest first, each of which leaves the queue when it is returned. The queue is unchanged until a message is asked for.
     pub fn try_iter(&mut self) -> ExclusiveIter<'_, T>
         ensures same_queue { (walked result).ghost_name ≡ self.entry.ghost_name }
         ensures unchanged { (walked result).now ≡ self.old }

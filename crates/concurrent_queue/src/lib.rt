@@ -1,8 +1,14 @@
-//! Queues that can be closed, as `concurrent-queue` 2.5.0 has them: with a bound or without one, first in, first out.
+//! Closable first-in-first-out queues with and without a bound, as `concurrent-queue` 2.5.0 has them.
 //!
-//! [`ConcurrentQueue`] is shared by threads. Each of its calls runs the steps of a [`QueueCall`], of which it is proved what one
-//! does to the queue whatever other calls are under way; [`run_queue_steps`] runs any interleaving of such steps over the cells
-//! of one owner. [`Exclusive`] is a queue of one owner, a deque: each reply and each content is said exactly.
+//! [`ConcurrentQueue`] is shared by threads. Each of its calls makes the atomic steps of a [`QueueCall`]; what a step does to the queue is
+//! proved whatever other calls are under way. [`run_queue_steps`] runs any interleaving of such steps over the cells of one owner.
+//! [`Exclusive`] is a queue of one owner, a deque, whose contracts state every reply and every content exactly.
+//!
+//! # Extensions
+//!
+//! The Rust crate has [`ConcurrentQueue`], [`TryIter`], and the errors. Extensions are [`Exclusive`]; calls by steps ([`QueueCall`],
+//! [`run_queue_steps`], [`cells`], [`run`]); traces ([`seen`]), witnesses ([`Witnessed`], [`history`]) and [`laws`]; and the answer for
+//! want of memory. Each module with items of both kinds says which are which.
 #![tactic(auto)]
 
 mod bounded;

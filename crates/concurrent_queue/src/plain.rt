@@ -1,4 +1,4 @@
-//! The cells of one owner, over which runs step.
+//! The cells of one owner, over which runs step. Nobody else touches them, so what they hold is known and each operation's effect is exact.
 
 ghost use Rattle.std.specs.Prelude.{◌≡◌, IfOk};
 ghost use Rattle.concurrent_queue.specs.machine.RingMade.{numbers_below, vacant_slots};
@@ -23,7 +23,7 @@ pub struct PlainCells<T> {
     pool: Pool<T>,
 }
 
-/// By hand, so that what a crate above proves of cells that it lets go doesn't go into their blocks.
+/// Written by hand, so that crates above prove nothing about the blocks when they drop cells.
 impl<T: Drop> Drop for PlainCells<T> {
     fn drop(self) {
         let PlainCells {
@@ -178,7 +178,7 @@ impl<T: Drop> PlainCells<T> {
     ghost use Rattle.concurrent_queue.specs.Plain.{contents_of};
     ghost use Rattle.concurrent_queue.specs.Step.{closed_in};
 
-    /// Whether the words say that the queue is closed, by one look at one of them. Own to this project.
+    /// Whether the words say that the queue is closed, by one look at one of them.
     pub fn is_closed(&self) -> bool
         ensures { result ≡ closed_in (contents_of self.now) }
     {
@@ -199,8 +199,8 @@ impl<T: Drop> PlainCells<T> {
     ghost use Rattle.concurrent_queue.specs.Plain.{contents_of};
     ghost use Rattle.concurrent_queue.specs.declared.cells.Slot.TheVariants as slot;
 
-    /// The cells of an open and empty queue of this form. `Err` where there is no memory for its slots, which for a capacity
-    /// above 2^58 nobody is asked for.
+    /// The cells of an open and empty queue of this form. `Err` if there is no memory for its slots, which is not even asked for above
+    /// 2^58.
     pub fn new(alloc: Global, form: QueueForm) -> Result<PlainCells<T>, AllocError>
         requires form { CanBeMade form }
         ensures { IfOk result (λ cells. IsNew form (contents_of cells)) }
@@ -225,7 +225,7 @@ impl<T: Drop> PlainCells<T> {
         PlainCells::ring(alloc, capacity)
     }
 
-    /// The cells of an open and empty queue of one slot. `Err` where there is no memory for the slot.
+    /// The cells of an open and empty queue of one slot. `Err` if there is no memory for the slot.
     fn one_slot(alloc: Global) -> Result<PlainCells<T>, AllocError>
         ensures { IfOk result (λ cells. contents_of cells ≡ empty_slot) }
     {
@@ -238,7 +238,7 @@ impl<T: Drop> PlainCells<T> {
         Ok(PlainCells::blank(alloc, QueueForm::Bounded(1), stamps, slots))
     }
 
-    /// The cells of an open and empty ring. `Err` where there is no memory for its stamps and slots.
+    /// The cells of an open and empty ring. `Err` if there is no memory for its stamps and slots.
     fn ring(alloc: Global, capacity: usize) -> Result<PlainCells<T>, AllocError>
         ensures { IfOk result (λ cells. contents_of cells ≡ empty_ring capacity) }
     {
@@ -248,7 +248,7 @@ impl<T: Drop> PlainCells<T> {
         Ok(PlainCells::blank(alloc, form, stamps, slots))
     }
 
-    /// The cells of an open and empty unbounded queue. It takes no memory: blocks are made when messages come.
+    /// The cells of an open and empty unbounded queue. It takes no memory until messages come.
     fn unbounded(alloc: Global) -> PlainCells<T>
         ensures { contents_of result ≡ empty_blocks }
     {

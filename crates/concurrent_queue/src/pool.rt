@@ -1,4 +1,5 @@
-//! The blocks that unbounded cells of one owner have, by their numbers, and the list of those that are not in use.
+//! The blocks of unbounded cells of one owner, by their numbers, and the list of those that are not in use. The invariant: the spare list
+//! has room for every block that was made, so retiring a block takes no memory.
 
 ghost use Rattle.std.specs.Prelude.{◌≡◌, length, ◌≤◌, ◌++◌, map, take, drop, None, IfOk, vec_capacity, vec_len};
 ghost use Rattle.concurrent_queue.specs.Contents.{nones};
@@ -155,7 +156,7 @@ impl<T: Drop> Pool<T> {
         }
     }
 
-    /// A spare block, or a new one with its place in the spare list. It is refused only where no block is spare.
+    /// A spare block, or a new one with its place in the spare list. It is refused only if no block is spare.
     pub(crate) fn spare(&mut self) -> Result<u64, NoMemory>
         ensures gives { MatchResult result
             (λ b. (b ≡ spare_in self.old.spares.items (length self.old.blocks.items)) × (blocks_of self.new ≡ blocks_with self.old.spares.items (blocks_of self.old)) × (self.new.spares.items ≡ others_of self.old.spares.items) × (length self.new.blocks.items < 2 ^ 64))
@@ -195,7 +196,7 @@ impl<T: Drop> Pool<T> {
         }
     }
 
-    /// Blanks a block and puts its number on the spare list where a place is left.
+    /// Blanks a block and puts its number on the spare list if a place is left.
     #[tactic(auto, using(crate::proofs::Slots::found, crate::proofs::Slots::beyond, crate::proofs::Slots::changed, crate::proofs::Slots::unchanged))]
     pub(crate) fn retire(&mut self, block: u64)
         ensures blocks { blocks_of self.new ≡ slice_set (blocks_of self.old) block blank }

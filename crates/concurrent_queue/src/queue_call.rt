@@ -1,4 +1,9 @@
-//! A call of a queue, made one step at a time.
+//! A call of a queue, made one step at a time. `QueueCall` owns the call's program counter and its message, and touches cells only through
+//! the [`Cells`](crate::cells::Cells) that each step is given.
+//!
+//! # Extensions
+//!
+//! All of this module.
 
 ghost use Rattle.std.specs.Prelude.{◌≡◌};
 ghost use Rattle.concurrent_queue.specs.machine.Dispatch.{in_single, in_ring, in_blocks, ended};
@@ -42,7 +47,7 @@ pub struct QueueCall<T> {
     mark: QueueMark,
 }
 
-/// By hand, so that what a crate above proves of a call that it lets go doesn't go into the machines' stages.
+/// Written by hand, so that crates above prove nothing about the machines' program counters when they drop a call.
 impl<T: Drop> Drop for QueueCall<T> {
     fn drop(self) {
         let QueueCall { state, mark: _ } = self;
@@ -143,8 +148,7 @@ impl<T: Drop> QueueCall<T> {
         }
     }
 
-    /// A call that has answered: what stands where a call stood that was given away, to be made to its end. Its steps do nothing
-    /// and answer nothing. Own to this project.
+    /// A call that has answered: it stands in for a call that was moved out to be completed. Its steps do nothing and answer nothing.
     pub fn ended() -> QueueCall<T>
         ensures ended { HasEnded result }
         ensures unmarked { mark_of result ≡ QueueMark.Nothing }
@@ -155,15 +159,14 @@ impl<T: Drop> QueueCall<T> {
         }
     }
 
-    /// What the last step did; `Nothing` before the first one. A call that `complete` makes on end is used up, so that what it
-    /// did is said by its answer alone.
+    /// What the last step did; `Nothing` before the first one. `complete` uses the call up, so there the answer alone says what was done.
     pub fn last_mark(&self) -> QueueMark
         ensures { result ≡ mark_of self.now }
     {
         self.mark
     }
 
-    /// How far the call has come, of a call that is given away.
+    /// The program counter of a call that is given away.
     #[inline(always)]
     fn into_state(self) -> CallState<T>
         ensures { result ≡ self.state }
@@ -172,7 +175,7 @@ impl<T: Drop> QueueCall<T> {
         state
     }
 
-    /// What a call asks that has made no step; else the call.
+    /// What the call asks if it has made no step; otherwise the call.
     #[inline(always)]
     pub fn into_asked(self) -> Result<QueueAsk<T>, QueueCall<T>>
         ensures { MatchResult result (λ a. self.state ≡ CallState.Asked a) (λ rest. rest ≡ self) }
@@ -192,7 +195,7 @@ impl<T: Drop> QueueCall<T> {
         matches!(&self.state, CallState::Asked(QueueAsk::Capacity))
     }
 
-    /// The one step of that question. It touches no cell: the answer is known by the queue's form.
+    /// The one step of that question. It touches no cell: the queue's form has the answer.
     #[inline(always)]
     pub(crate) fn step_capacity<S: Trace<T>>(
         &mut self,
@@ -209,7 +212,7 @@ impl<T: Drop> QueueCall<T> {
         stepped.reply
     }
 
-    /// One step: one operation on the cells, as the machine of their form makes it, and what follows its answer.
+    /// Makes one step: one operation on the cells, as the machine of their form makes it, and what follows its answer.
     pub fn step<C: Cells<T>>(&mut self, cells: &mut C) -> Option<QueueReply<T>>
         requires stands { C.stands (standing (C.form_of cells.old) self.old.state) cells.old }
         ensures answers { Follows (C.form_of cells.old) self.old self.new result }
@@ -238,7 +241,7 @@ impl<T: Drop> QueueCall<T> {
         QueueCall::new(QueueAsk::Push(value))
     }
 
-    /// A call that appends this message; where the queue is full, the oldest one leaves for it.
+    /// A call that appends this message; if the queue is full, the oldest one leaves for it.
     pub fn force_push(value: T) -> QueueCall<T>
         ensures starts { Starts result (ask.ForcePush value) }
         ensures asked { IsAsking result (ask.ForcePush value) }

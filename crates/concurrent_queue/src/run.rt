@@ -1,4 +1,9 @@
-//! Runs of the calls of many parties, step by step, over the cells of one owner.
+//! Runs of the calls of many parties over the cells of one owner: what `concurrent-queue` 2.5.0 does between threads, one atomic operation
+//! a step.
+//!
+//! # Extensions
+//!
+//! All of this module.
 
 ghost use Rattle.std.specs.Prelude.{◌≡◌, ℕ, ◌+◌, ◌<◌, ◌++◌, ◌∷◌, ◌⊎◌, [], Some, slice_get, MatchOption, MatchResult, IfOk, vec_len, vec_capacity};
 ghost use Rattle.std.specs.VecDeque.{deque_len};
@@ -15,7 +20,7 @@ use crate::queue_call::QueueCall;
 use std::alloc::Global;
 use std::collections::VecDeque;
 
-/// A step of a run. A party begins a call by saying what it asks, so that no call begins that was stepped elsewhere.
+/// A step of a run. A party begins a call by saying what it asks, so no call that was stepped elsewhere can begin.
 #[derive(Debug, Drop, PartialEq, Eq)]
 pub enum QueueStep<T> {
     /// The party begins a call that asks this.
@@ -53,9 +58,9 @@ pub(crate) struct Party<T> {
 /// Where a run stopped before its end, and why.
 #[derive(Clone, Copy, PartialEq, Eq, Debug)]
 pub struct Stopped {
-    /// How many steps were made before.
+    /// How many steps were made before it.
     pub place: usize,
-    /// Why the next one was not.
+    /// Why the next step was refused.
     pub why: QueueRefusal,
 }
 
@@ -64,7 +69,7 @@ pub struct Stopped {
 pub struct QueueRun<T> {
     /// The entries, in the order of the steps.
     pub trace: Vec<QueueEntry<T>>,
-    /// `None` where all steps were made.
+    /// `None` if all steps were made.
     pub stopped: Option<Stopped>,
 }
 
@@ -123,7 +128,7 @@ fn step_at<T: Drop>(
     QueueEntry { mark, reply }
 }
 
-/// Makes a step that was admitted, within the room that was taken.
+/// Makes a step that was admitted, within the room that was reserved.
 fn make<T: Drop>(
     step: QueueStep<T>,
     cells: &mut PlainCells<T>,
@@ -183,11 +188,9 @@ fn turn<T: Drop>(
     }
 }
 
-/// Runs steps of any parties over the cells of a new queue of this form. A step that is refused stays in front, and the run
-/// stops there: a party that has a call under way can't begin another, one that has none can't make a step, and want of
-/// memory for the next entry or call refuses a step too. Where there is no memory for the cells the run stops at place 0.
-///
-/// Own to this project: what `concurrent-queue` 2.5.0 does between threads, one atomic operation a step.
+/// Runs steps of any parties over the cells of a new queue of this form. The run stops at a step that is refused, which stays in front: a
+/// party that has a call under way can't begin another, one that has none can't make a step, and a lack of memory for the next entry or
+/// call refuses a step too. If there is no memory for the cells the run stops at place 0.
 pub fn run_queue_steps<T: Drop>(
     alloc: Global,
     form: QueueForm,

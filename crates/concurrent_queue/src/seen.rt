@@ -1,4 +1,9 @@
-//! Cells of which a caller's trace sees each operation, with its answer.
+//! Traces: values that see each operation on the cells of a shared queue, with its answer. Only `Seen`, which joins cells to their trace,
+//! can report to a trace, since only this module makes a [`Sight`].
+//!
+//! # Extensions
+//!
+//! All of this module.
 
 ghost use Rattle.std.specs.Prelude.{◌≡◌};
 ghost use Rattle.concurrent_queue.specs.Deeds.{Deed, did_take};
@@ -12,20 +17,20 @@ use crate::shared::cells::{SharedCells, WordCells};
 use std::marker::PhantomData;
 use std::sync::Wait;
 
-/// What shows a trace of type `S` that it is the cells of a shared queue who tell it something. Nobody makes one but the
-/// functions of this file that join cells to their trace, and nobody is lent one but the trace itself. It has no size.
+/// The right to report to a trace of type `S`: only the functions of this module that join cells to their trace make one, and they lend it
+/// to that trace alone. It has no size.
 pub struct Sight<S> {
     of: PhantomData<S>,
 }
 
-/// What a trace is shown of a queue, each after it was done and with what it answered. Messages are shown by methods of their own.
+/// What a trace is shown of an operation on a queue, after it was done, with its answer. Messages are shown by methods of their own.
 #[derive(Drop)]
 pub enum Shown {
     /// A word was loaded, and held this.
     Loaded(Word, u64),
     /// A word was written.
     Stored(Word, u64),
-    /// A word that was to hold the first was written with the second, or was not: `Err` has what it held.
+    /// The first number was to be replaced by the second; `Err` has what the word held instead.
     Exchanged(Word, u64, u64, Result<u64, u64>),
     /// The first was added to a word that held the second.
     Added(Word, u64, u64),
@@ -33,18 +38,17 @@ pub enum Shown {
     BitsSet(Word, u64, u64),
     /// All other bits of a word that held the second were cleared.
     BitsKept(Word, u64, u64),
-    /// The message that was brought to the slot is in, or was handed back.
+    /// A message was put into the slot, or was returned.
     Put(Slot, bool),
     /// A blank block was asked for.
     Spared(Result<u64, NoMemory>),
-    /// A block was given back.
+    /// A block was retired.
     Retired(u64),
 }
 
-/// What sees the operations on the cells of a queue, each after it was made and with what it answered. Each method says of
-/// itself that this deed was seen, and no other: so a trace of which nothing is known but this trait can be led from one value
-/// to another by these very deeds alone. Each takes a sight of this very trace, so no code but the cells' own can tell it
-/// anything, another trace that has a sight of its own least of all.
+/// What sees the operations on the cells of a queue, each after it was made, with its answer. The contract of a method says that this
+/// operation was seen, and no other. So if nothing is known of a trace but this trait, it can be led from one value to another by these
+/// operations alone. Each method takes a sight of this very trace, so no code but the cells' own can report to it, not even another trace.
 pub trait Trace<T> {
     ghost use Rattle.concurrent_queue.specs.declared.cells.Slot.{Slot};
 
@@ -58,7 +62,7 @@ pub trait Trace<T> {
     fn operated(&mut self, sight: &Sight<Self>, it: Shown)
         ensures { Sees did brought it self.old self.new };
 
-    /// This message is brought to a slot. What came of it is shown next, by [`Shown::Put`].
+    /// This message is about to be put into a slot. [`Shown::Put`] then shows what came of it.
     fn bring(&mut self, sight: &Sight<Self>, at: Slot, message: &T)
         ensures { brought at message.now self.old self.new };
 
@@ -67,7 +71,7 @@ pub trait Trace<T> {
         ensures { did (did_take at found.now) self.old self.new };
 }
 
-/// A trace that keeps nothing. It has no size, and seeing by it takes no instruction.
+/// A trace that keeps nothing. It has no size, and reporting to it takes no instruction.
 #[derive(Clone, Copy, Debug)]
 pub struct NoTrace;
 
@@ -86,7 +90,7 @@ impl<T> Trace<T> for NoTrace {
     fn taken(&mut self, _sight: &Sight<NoTrace>, _at: Slot, _found: &Option<T>) {}
 }
 
-/// A trace that is lent for one call, and sees what is shown to this.
+/// A trace that is lent for one call.
 #[derive(Drop)]
 pub(crate) struct Lent<'a, S> {
     trace: &'a mut S,
@@ -136,7 +140,7 @@ impl<T, S: Trace<T>> Trace<T> for Lent<'_, S> {
     }
 }
 
-/// Cells of a shared queue, and a trace that sees each operation on them. Nobody else can see them, or tell the trace anything.
+/// Cells of a shared queue, and a trace that sees each operation on them. Nobody else can see them or report to the trace.
 pub(crate) struct Seen<C, S> {
     cells: C,
     trace: S,

@@ -1,5 +1,5 @@
-//! The queue that threads share, and what it stands on: tables of words and slots, blocks under their numbers, and cells
-//! over both, on which the steps of a call run.
+//! The queue that threads share, and what it is made of: tables of words and slots, blocks by their numbers, and cells over both, on which
+//! the steps of a call run.
 
 pub(crate) mod blocks;
 pub mod calls;

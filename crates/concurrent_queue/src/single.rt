@@ -1,8 +1,8 @@
 //! The steps of a queue of one slot.
 //!
-//! The word `State` has three bits: a call holds the slot, there is a message, the queue is closed. Who exchanges the word
-//! for one with the first bit set owns the slot until it clears that bit. So a push that meets a slot whose message is
-//! taken but still being read tries again, since it may not answer that the queue is full.
+//! The word `State` has three bits: a call holds the slot (`LOCKED`), there is a message (`PUSHED`), the queue is closed (`CLOSED`). The
+//! invariant: the call whose exchange set the first bit owns the slot until it clears that bit, and no other call touches the slot. So a
+//! push that finds a slot whose message is taken but still being read tries again, since `Full` would be false.
 
 ghost use Rattle.std.specs.Prelude.{◌≡◌, ℕ};
 ghost use Rattle.concurrent_queue.specs.machine.Single.{stays, marks, finishes, start};
@@ -43,12 +43,12 @@ pub(crate) enum SingleAction<T> {
     Push(T),
     PushPut(T),
     PushUnlock,
-    /// Win the slot for this message, where the state is this.
+    /// Win the slot for this message, if the state is this.
     Force(T, u64),
     ForceTake(T),
     ForcePut(T, Option<T>),
     ForceUnlock(Option<T>),
-    /// Win the message, where the state is this.
+    /// Win the message, if the state is this.
     Pop(u64),
     PopTake,
     PopUnlock(T),
@@ -206,7 +206,7 @@ fn push<T: Drop, C: Cells<T>>(value: T, cells: &mut C) -> Stepped<SingleAction<T
     }
 }
 
-/// Wins the slot, empty or full, of an open queue. The exchange fails where the closed bit is set, so it cannot lose it.
+/// Wins the slot, empty or full, of an open queue. The exchange fails if the closed bit is set, so it cannot lose it.
 fn force_push<T: Drop, C: Cells<T>>(
     value: T,
     expected: u64,

@@ -1,5 +1,9 @@
-//! The steps of an unbounded queue: a chain of blocks of 31 slots each. Blocks go by their numbers, and one whose messages
-//! were all read is used again.
+//! The steps of an unbounded queue: a chain of blocks of 31 slots each, by their numbers.
+//!
+//! Head and tail count positions; every 32nd position lies between two blocks. The low bit of the tail is the closed mark. The invariants:
+//! the call that moves the tail (a push) or the head (a pop) from a position owns the slot of that position; the call that wins a block's
+//! last slot alone moves that end to the next block; the pop that counts a block's last read alone retires the block, which is then used
+//! again and never freed while the queue lives.
 
 ghost use Rattle.std.specs.Prelude.{◌≡◌, None};
 ghost use Rattle.concurrent_queue.specs.machine.BlocksMoves.{answer_as};

@@ -7,8 +7,8 @@ mod cases;
 mod plain;
 
 use crate::beside::plain::{Event, Kind};
-use crate::said::{Said, replied};
-use crate::scarce::Scarce;
+use crate::said::Said;
+use crate::scarce::{Scarce, stepped};
 use concurrent_queue::call::QueueMark;
 use concurrent_queue::cells::{Cells, QueueForm, Slot, Word};
 use concurrent_queue::error::NoMemory;
@@ -49,16 +49,12 @@ impl Other {
     /// Makes up to so many steps, and notes what they did. Where it is to be refused, no block can be made meanwhile.
     fn go_on(&mut self, by: usize, steps: u32, cells: &mut Scarce, events: &mut Events) {
         let left = cells.left;
-        if self.is_refused {
-            cells.left = 0;
-        }
+        cells.left = if self.is_refused { 0 } else { left };
         for _ in 0..steps {
             if self.said.is_some() {
                 break;
             }
-            if let Some(reply) = self.call.step(cells) {
-                self.said = Some(replied(&reply));
-            }
+            self.said = stepped(&mut self.call, cells);
             events.note(self.call.last_mark(), self.message, by);
         }
         cells.left = left;
@@ -68,25 +64,27 @@ impl Other {
 /// What steps of others did to the list, in their order.
 #[derive(Clone, Copy)]
 struct Events {
-    events: [Option<Event>; 6],
+    events: [Event; 6],
     count: usize,
 }
 
 impl Events {
     fn new() -> Events {
         Events {
-            events: [None; 6],
+            events: [Event {
+                mark: QueueMark::Nothing,
+                message: 0,
+                by: 0,
+            }; 6],
             count: 0,
         }
     }
 
     fn note(&mut self, mark: QueueMark, message: u64, by: usize) {
-        if mark == QueueMark::Nothing {
-            return;
-        }
+        let is_one = !matches!(mark, QueueMark::Nothing);
         if let Some(place) = self.events.get_mut(self.count) {
-            *place = Some(Event { mark, message, by });
-            self.count = self.count.wrapping_add(1);
+            *place = Event { mark, message, by };
+            self.count = self.count.wrapping_add(usize::from(is_one));
         }
     }
 }
@@ -115,17 +113,23 @@ impl Beside {
         ensures { self.new.form ≡ self.old.form }
     {
         self.made = self.made.wrapping_add(1);
-        let ways = if self.is_endless() {
-            1
+        let (first, second) = self.steps_now();
+        self.let_on(first, second);
+        let is_whole = self.made == self.turn && self.first.said.is_some();
+        self.came_whole = self.came_whole | is_whole;
+    }
+
+    /// How many steps each of the others makes before this operation.
+    fn steps_now(&self) -> (u32, u32) {
+        let ways = self.ways.replace(0);
+        if self.made < self.turn {
+            (0, 0)
+        } else if self.made == self.turn {
+            (self.first.steps, self.second.steps)
+        } else if self.is_endless() {
+            (1, 1)
         } else {
-            self.ways.replace(0)
-        };
-        if self.made == self.turn {
-            self.let_on(self.first.steps, 0);
-            self.came_whole = self.first.said.is_some();
-            self.let_on(0, self.second.steps);
-        } else if self.made > self.turn {
-            self.let_on(ways, ways);
+            (ways, ways)
         }
     }
 

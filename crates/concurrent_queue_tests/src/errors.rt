@@ -110,15 +110,22 @@ fn texts_of_refusals(rt: HostRuntime) {
     expect_equal(&rt, &said, &[true; 8]);
 }
 
+fn add(steps: &mut VecDeque<QueueStep<u64>>, step: QueueStep<u64>) {
+    let _ = steps.push_back(step);
+}
+
 /// The run of a pop that begins, and of two steps of it, over one slot.
 fn pop_alone(alloc: Global) -> QueueRun<u64> {
     let mut steps: VecDeque<QueueStep<u64>> = VecDeque::new(alloc);
-    let _ = steps.push_back(QueueStep::Begin {
-        party: 1,
-        call: QueueAsk::Pop,
-    });
-    let _ = steps.push_back(QueueStep::Step { party: 1 });
-    let _ = steps.push_back(QueueStep::Step { party: 1 });
+    add(
+        &mut steps,
+        QueueStep::Begin {
+            party: 1,
+            call: QueueAsk::Pop,
+        },
+    );
+    add(&mut steps, QueueStep::Step { party: 1 });
+    add(&mut steps, QueueStep::Step { party: 1 });
     run_queue_steps(alloc, QueueForm::Bounded(1), &mut steps)
 }
 

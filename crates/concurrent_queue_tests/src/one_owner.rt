@@ -2,7 +2,8 @@
 //! here has a `requires`.
 
 use crate::checks::expect_equal;
-use concurrent_queue::call::{QueueAsk, QueueReply};
+use crate::said::{Said, replied};
+use concurrent_queue::call::QueueAsk;
 use concurrent_queue::cells::{Cells, QueueForm, Slot, Word};
 use concurrent_queue::plain::PlainCells;
 use concurrent_queue::queue_call::{QueueCall, whole};
@@ -30,19 +31,24 @@ fn operate(cells: &mut PlainCells<u64>) -> (u64, Option<u64>) {
     (cells.load(Word::State), found)
 }
 
-/// A step of one call, an operation that is no call's, and the steps of another call up to its answer.
-fn step_among<R: Wait>(rt: &R, cells: &mut PlainCells<u64>) -> (bool, u64, Option<u64>) {
-    let mut pushing = QueueCall::push(5);
-    let first = pushing.step(cells);
+/// Makes a step of a call: whether it goes on.
+fn goes_on(call: &mut QueueCall<u64>, cells: &mut PlainCells<u64>) -> bool {
+    call.step(cells).is_none()
+}
+
+/// A step of a push, an operation that is no call's, and two steps more: whether each of these left it under way, and what the word held
+/// after the first one.
+fn push_among(cells: &mut PlainCells<u64>) -> ([bool; 3], u64) {
+    let mut push = QueueCall::push(5);
+    let first = goes_on(&mut push, cells);
     let word = cells.load(Word::State);
-    let _ = pushing.step(cells);
-    let _ = pushing.step(cells);
-    drop(pushing);
-    let popped = match whole::complete(rt, QueueCall::new(QueueAsk::Pop), cells) {
-        QueueReply::Pop(Ok(message)) => Some(message),
-        _ => None,
-    };
-    (first.is_none(), word, popped)
+    let second = goes_on(&mut push, cells);
+    ([first, second, goes_on(&mut push, cells)], word)
+}
+
+/// What the steps of a pop answer.
+fn pop_whole<R: Wait>(rt: &R, cells: &mut PlainCells<u64>) -> Said {
+    replied(whole::complete(rt, QueueCall::new(QueueAsk::Pop), cells))
 }
 
 #[test]
@@ -54,5 +60,6 @@ fn any_operation_may_come_next(rt: HostRuntime) {
 #[test]
 fn steps_of_a_call_may_come_among_other_operations(rt: HostRuntime) {
     let mut cells = one_slot(&rt);
-    expect_equal(&rt, &step_among(&rt, &mut cells), &(true, 3, Some(5)));
+    expect_equal(&rt, &push_among(&mut cells), &([true, true, false], 3));
+    expect_equal(&rt, &pop_whole(&rt, &mut cells), &("popped", 5));
 }

@@ -113,41 +113,76 @@ fn shared_call<R: Wait>(rt: &R, queue: &ConcurrentQueue<u64>, verb: &str, messag
     }
 }
 
-/// What a question says.
-fn alone_answers(
-    alloc: Global,
-    queue: &mut Exclusive<u64>,
-    verb: &str,
-    words: &mut Words<'_>,
-) -> Said {
-    match verb {
-        "close" => Said::flag(queue.close()),
-        "is_closed" => Said::flag(queue.is_closed()),
-        "is_empty" => Said::flag(queue.is_empty()),
-        "is_full" => Said::flag(queue.is_full()),
-        "len" => Said::count(queue.len()),
-        "capacity" => capacity(queue.capacity()),
-        "walk_unread" => {
-            walk_unread(queue);
-            Said::Ok
-        }
-        "walk" => match walk_to_the_end(alloc, queue) {
-            Ok(given) => in_order(given.as_slice(), words.number()),
-            Err(AllocError) => Said::Word("memory"),
-        },
-        _ => Said::NoSuchCall,
+/// A walk to the end of a queue of one owner, which is to give this message and so on.
+fn walk(alloc: Global, queue: &mut Exclusive<u64>, first: u64) -> Said {
+    match walk_to_the_end(alloc, queue) {
+        Ok(given) => in_order(given.as_slice(), first),
+        Err(AllocError) => Said::Word("memory"),
     }
 }
 
-fn shared_answers<R: Wait>(rt: &R, queue: &ConcurrentQueue<u64>, verb: &str) -> Said {
-    match verb {
-        "close" => Said::flag(queue.close()),
-        "is_closed" => Said::flag(queue.is_closed()),
-        "is_empty" => Said::flag(queue.is_empty()),
-        "is_full" => Said::flag(queue.is_full()),
-        "len" => Said::count(queue.len(rt)),
-        "capacity" => capacity(queue.capacity()),
-        _ => Said::NoSuchCall,
+/// The questions, which change nothing.
+static QUESTIONS: [&str; 5] = ["is_closed", "is_empty", "is_full", "len", "capacity"];
+
+/// What a queue of one owner answers to each of them.
+fn alone_answers(queue: &mut Exclusive<u64>) -> [Said; 5] {
+    [
+        Said::flag(queue.is_closed()),
+        Said::flag(queue.is_empty()),
+        Said::flag(queue.is_full()),
+        Said::count(queue.len()),
+        capacity(queue.capacity()),
+    ]
+}
+
+/// The same of a shared one.
+fn shared_answers<R: Wait>(rt: &R, queue: &ConcurrentQueue<u64>) -> [Said; 5] {
+    [
+        Said::flag(queue.is_closed()),
+        Said::flag(queue.is_empty()),
+        Said::flag(queue.is_full()),
+        Said::count(queue.len(rt)),
+        capacity(queue.capacity()),
+    ]
+}
+
+/// What is answered to this question.
+fn answered(verb: &str, answers: [Said; 5]) -> Said {
+    let mut said = Said::NoSuchCall;
+    for (question, answer) in QUESTIONS.iter().zip(answers.iter()) {
+        if *question == verb {
+            said = *answer;
+        }
+    }
+    said
+}
+
+impl Queue {
+    fn opened(&self) -> Said {
+        match self {
+            Queue::None => Said::Word("memory"),
+            _ => Said::Ok,
+        }
+    }
+
+    fn close(&mut self) -> Said {
+        match self {
+            Queue::Alone(queue) => Said::flag(queue.close()),
+            Queue::Shared(queue) => Said::flag(queue.close()),
+            Queue::None => NO_QUEUE,
+        }
+    }
+
+    /// A walk of a queue of one owner, unread or to its end.
+    fn walk(&mut self, alloc: Global, verb: &str, words: &mut Words<'_>) -> Said {
+        let Queue::Alone(queue) = self else {
+            return Said::NoSuchCall;
+        };
+        if verb == "walk" {
+            return walk(alloc, queue, words.number());
+        }
+        walk_unread(queue);
+        Said::Ok
     }
 }
 
@@ -163,10 +198,7 @@ impl<R: Wait + Copy> Queues<R> {
 
     /// Puts a queue in the place of the one before.
     fn put(&mut self, opened: Queue) -> Said {
-        let said = match &opened {
-            Queue::None => Said::Word("memory"),
-            _ => Said::Ok,
-        };
+        let said = opened.opened();
         drop(std::mem::replace(&mut self.queue, opened));
         said
     }
@@ -204,10 +236,10 @@ impl<R: Wait + Copy> Queues<R> {
         Said::Number(right)
     }
 
-    fn ask(&mut self, verb: &str, words: &mut Words<'_>) -> Said {
+    fn ask(&mut self, verb: &str) -> Said {
         match &mut self.queue {
-            Queue::Alone(queue) => alone_answers(self.alloc, queue, verb, words),
-            Queue::Shared(queue) => shared_answers(&self.rt, queue, verb),
+            Queue::Alone(queue) => answered(verb, alone_answers(queue)),
+            Queue::Shared(queue) => answered(verb, shared_answers(&self.rt, queue)),
             Queue::None => NO_QUEUE,
         }
     }
@@ -219,7 +251,9 @@ impl<R: Wait + Copy> Queues<R> {
                 Said::Number(self.many(verb, words.number(), words.number()))
             }
             "rounds" => self.rounds(words.number(), words.number()),
-            _ => self.ask(verb, words),
+            "close" => self.queue.close(),
+            "walk" | "walk_unread" => self.queue.walk(self.alloc, verb, words),
+            _ => self.ask(verb),
         }
     }
 

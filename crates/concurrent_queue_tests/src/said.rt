@@ -36,7 +36,7 @@ pub(crate) fn popped(answer: &Result<u64, PopError>) -> Said {
 }
 
 /// What any call says.
-pub(crate) fn replied(reply: &QueueReply<u64>) -> Said {
+pub(crate) fn said_by(reply: &QueueReply<u64>) -> Said {
     match reply {
         QueueReply::Push(answer) => pushed(answer),
         QueueReply::Force(answer) => forced(answer),
@@ -49,4 +49,9 @@ pub(crate) fn replied(reply: &QueueReply<u64>) -> Said {
         QueueReply::Cap(Some(room)) => ("room", *room as u64),
         QueueReply::Cap(None) => ("no bound", 0),
     }
+}
+
+/// The same of a reply that is dropped: once here, and not at each call.
+pub(crate) fn replied(reply: QueueReply<u64>) -> Said {
+    said_by(&reply)
 }

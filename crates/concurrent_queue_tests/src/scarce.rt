@@ -121,17 +121,22 @@ pub(crate) fn cells_with(alloc: Global, capacity: usize, left: u32) -> Result<Sc
     })
 }
 
+/// Makes a step of a call: what it answers, if it ends.
+pub(crate) fn stepped(call: &mut QueueCall<u64>, cells: &mut Scarce) -> Option<Answer> {
+    call.step(cells).map(replied)
+}
+
 /// Makes the steps of a call: what it answers.
 pub(crate) fn asked(cells: &mut Scarce, ask: QueueAsk<u64>) -> Answer {
     let mut call = QueueCall::new(ask);
-    let mut said = ("nothing", 0);
+    let mut said = None;
     for _ in 0..64 {
-        if let Some(reply) = call.step(cells) {
-            said = replied(&reply);
+        said = stepped(&mut call, cells);
+        if said.is_some() {
             break;
         }
     }
-    said
+    said.unwrap_or(("nothing", 0))
 }
 
 /// The cells of a row, and its call that is made step by step.
@@ -198,8 +203,8 @@ impl Wanting {
     }
 
     fn step(&mut self) -> Said {
-        match self.call.step(&mut self.cells) {
-            Some(reply) => in_words(replied(&reply)),
+        match stepped(&mut self.call, &mut self.cells) {
+            Some(said) => in_words(said),
             None => Said::Word("goes on"),
         }
     }

@@ -2,6 +2,7 @@
 
 use crate::checks::expect_true;
 use crate::shared::logged::wrong_logs;
+use crate::shared::witnesses::untold_looks;
 use concurrent_queue::error::{PopError, PushError};
 use concurrent_queue::shared::queue::ConcurrentQueue;
 use std::alloc::{AllocError, Global};
@@ -53,6 +54,8 @@ enum Working {
     InTurn,
     /// Each pushes and pops in turn, and looks at the logs.
     Logged,
+    /// One pushes with a witness, and looks after each push; the others displace and pop.
+    Looked,
 }
 
 /// Pushes messages, beginning with this one, each until it is in, until so many are in or the queue is closed: how many are in.
@@ -103,7 +106,8 @@ fn displace_from<R: Wait>(
 ) -> Vec<u64> {
     let mut messages = Vec::new(alloc);
     for number in 0..most {
-        if let Ok(Some(message)) = queue.force_push(rt, first.wrapping_add(number)) {
+        let left = queue.force_push(rt, first.wrapping_add(number));
+        if let Some(message) = left.unwrap_or(None) {
             let _ = messages.push(message);
         }
     }
@@ -178,6 +182,8 @@ fn work<R: Wait>(
         (Working::UntilClosed, 1) => push_from(rt, queue, 0, u64::MAX),
         (Working::InTurn, _) => push_and_pop(rt, queue, job.pushes()),
         (Working::Logged, _) => wrong_logs(rt, alloc, queue),
+        (Working::Looked, 0) => untold_looks(rt, queue),
+        (Working::Looked, _) => push_and_pop(rt, queue, true),
         _ => return (0, pop_all(rt, alloc, queue)),
     };
     (count, Vec::new(alloc))
@@ -204,6 +210,22 @@ fn at_once<R: Threads + Wait + Sync>(
             work(rt, alloc, queue, job, &ended)
         },
     )
+}
+
+/// So many threads at once: how often something was wrong by the first of them, so many. None where there is no memory.
+fn wrong_at_once<R: Threads + Wait + Sync>(
+    rt: &R,
+    alloc: Global,
+    queue: &ConcurrentQueue<u64>,
+    work: (Working, usize),
+    counting: usize,
+) -> Option<u64> {
+    let done = at_once(rt, alloc, queue, work).ok()?;
+    let mut wrong = 0u64;
+    for (count, _) in done.iter().take(counting) {
+        wrong = wrong.saturating_add(*count);
+    }
+    Some(wrong)
 }
 
 /// Whether the messages of each pushing thread stand in order, and none twice.
@@ -319,14 +341,8 @@ fn all_find_one<R: Threads + Wait + Sync>(rt: &R, alloc: Global, capacity: usize
     let Some(queue) = opened(alloc, capacity) else {
         return false;
     };
-    let done = at_once(rt, alloc, &queue, (Working::InTurn, 4));
-    let mut is_right = done.is_ok();
-    if let Ok(done) = &done {
-        for (missed, _) in done {
-            is_right = is_right & (*missed == 0);
-        }
-    }
-    is_right && queue.is_empty()
+    let missed = wrong_at_once(rt, alloc, &queue, (Working::InTurn, 4), 4);
+    missed == Some(0) && queue.is_empty()
 }
 
 /// Whoever has a message in the queue finds one to pop, whatever three others push, displace and pop.

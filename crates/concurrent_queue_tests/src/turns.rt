@@ -12,7 +12,7 @@
 ghost use Rattle.concurrent_queue.specs.Made.{CanBeMade};
 
 use crate::queues::in_words;
-use crate::said::replied;
+use crate::said::said_by;
 use concurrent_queue::call::{QueueAsk, QueueEntry, QueueMark};
 use concurrent_queue::cells::QueueForm;
 use concurrent_queue::run::{QueueRefusal, QueueRun, QueueStep, Stopped, run_queue_steps};
@@ -56,7 +56,7 @@ fn write_entry(
         Said::Word(mark).write(answer)?;
     }
     match &entry.reply {
-        Some(reply) => in_words(replied(reply)).write(answer),
+        Some(reply) => in_words(said_by(reply)).write(answer),
         None => Ok(()),
     }
 }
@@ -136,11 +136,16 @@ impl Turns {
     /// Adds so many steps of a party.
     fn go(&mut self, party: u32, count: usize) -> Said {
         for _ in 0..count {
-            if self.steps.push_back(QueueStep::Step { party }).is_err() {
+            if !self.add(QueueStep::Step { party }) {
                 return MEMORY;
             }
         }
         Said::Ok
+    }
+
+    /// Adds a step: whether there was memory for it.
+    fn add(&mut self, step: QueueStep<u64>) -> bool {
+        self.steps.push_back(step).is_ok()
     }
 
     /// Adds the begin of a call, and so many steps of it.
@@ -149,9 +154,10 @@ impl Turns {
         let Some(call) = ask_of(words.word(), words) else {
             return Said::NoSuchCall;
         };
-        match self.steps.push_back(QueueStep::Begin { party, call }) {
-            Ok(()) => self.go(party, count),
-            Err(_) => MEMORY,
+        if self.add(QueueStep::Begin { party, call }) {
+            self.go(party, count)
+        } else {
+            MEMORY
         }
     }
 

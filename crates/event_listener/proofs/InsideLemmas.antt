@@ -363,7 +363,7 @@ module _ {T W : Type 0} where
       of [] l c = omega arith
       of (x ∷ ws) l c = c x refl
 
-  -- While a notice tells: so many have their new state, up to this last one, and the next one stands behind it. So many are
+  -- While a notification tells: so many have their new state, up to this last one, and the next one stands behind it. So many are
   -- to be told in all.
   pub record Underway (a : list.Inside T W) (count many : ℕ) (last next : Option ℕ) : Type 0 where
     pub ks : List ℕ
@@ -377,7 +377,7 @@ module _ {T W : Type 0} where
     pub last_is : last ≡ last_or None front
     pub next_is : next ≡ first_or back None
 
-  -- the lists that a notice under way made
+  -- the lists that a notification under way made
   abbrev pub under : {a : list.Inside T W} {count many : ℕ} {last next : Option ℕ} → Underway a count many last next → Lists T W
   under {a} u = lists_at (entries a) ((u.ks ++ u.front) ++ u.back)
 

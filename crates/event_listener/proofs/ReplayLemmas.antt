@@ -56,7 +56,7 @@ poll-told (Some n) w tag answer e h = refl
 poll-told None true tag answer e h = absurd (cc)
 poll-told None false tag answer e h = absurd (cc)
 
--- a notice with n tags tells no more than it would move, and somebody where it has a tag and somebody to tell
+-- a notification with n tags tells no more than it would move, and somebody where it has a tag and somebody to tell
 pub told-given : (n many : ℕ) → told_by (if nat_lt n many then Err (record { told = n }) else Ok many) ≤ many
 told-given n many = at (nat_lt n many) refl
   where
@@ -83,7 +83,7 @@ some-told n many tags waiting = at (nat_lt n many)
 pub told-somebody : (P : Type 0) (told : ℕ) → 0 < told → told ≡ 0 → P
 told-somebody P told some none = absurd (let n : 0 < 0 = rw none at some in omega (arith, n))
 
--- a notice that ran out of no tags told as many as it moves
+-- a notification that ran out of no tags told as many as it moves
 pub ok-moved : {T W : Type 0} (n : ℕ) (a b : Bool) (k m : ℕ) (lists : Lists T W) → a ≡ b → k ≡ m → IfOk {E = NotifyError} (if nat_lt n (moved a k lists) then Err (record { told = n }) else Ok (moved a k lists)) (λ told. told ≡ moved b m lists)
 ok-moved n a b k m lists kind size = rw (sym kind) (rw (sym size) (at (nat_lt n (moved a k lists))))
   where

@@ -1,4 +1,4 @@
--- Runs of calls, and notices that hand out tags from a list.
+-- Runs of calls, and notifications that hand out tags from a list.
 use Rattle.std.proofs.Common.{◌≡◌, ℕ, ◌<◌, ◌≤◌, nat_lt, Bool, true, false, List, [], ◌∷◌, ◌++◌, length, take, Option, Some, None, Result, Ok, Err, MatchResult, if◌then◌else◌, refl, sym, ap, subst, ◌∙◌, arith, append_assoc, length-append, append-nil}
 use Rattle.std.proofs.lemmas.List.{take_all}
 use Rattle.std.proofs.Math.Seq.{take-append_seam}
@@ -54,7 +54,7 @@ module _ {T W : Type 0} where
   ends_empty (c ∷ cs) h = absurd (omega (arith, h))
 
 module _ {T W S : Type 0} (wakes : S → W → S → Type 0) where
-  -- what a notice with these tags did
+  -- what a notification with these tags did
   pub record HandedOut (additional : Bool) (count : ℕ) (tags : List T) (old new : Lists T W) (sink now : S) (r : Result ℕ NotifyError) : Type 0 where
     pub answer : r ≡ tags_answer additional count tags old
     pub lists : new ≡ notified additional (tags_given additional count tags old) old

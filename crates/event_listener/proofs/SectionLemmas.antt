@@ -17,7 +17,7 @@ woken_at_once [] = refl
 woken_at_once (task ∷ tasks) = (tt, tt, woken_at_once tasks)
 
 module _ {N T : Type 0} (gives : N → Result T NoMemory → N → Type 0) where
-  -- a notice answers by how many tags it drew
+  -- a notification answers by how many tags it drew
   pub answers_so : (many : ℕ) (tags : List T) (rest : N) (r : Result ℕ NotifyError) → IsAnswer gives many (length tags) rest r → Tells many tags r
   answers_so many tags rest (Ok told) a = a
   answers_so many tags rest (Err e) a = (a.0, a.1)
@@ -32,7 +32,7 @@ module _ {T : Type 0} where
     answer_so (Ok told) a = rw (lt-no (length tags) (moved additional size before.lists) (omega (arith, a.1))) (ap (λ n. Ok n) a.0)
     answer_so (Err e) a = rw (lt-yes (length tags) (moved additional size before.lists) a.1) (ap (λ n. Err (record { told = n })) a.0)
 
-    -- a notice that told by these tags made the call that a run makes with them
+    -- a notification that told by these tags made the call that a run makes with them
     pub tells_so : (r : Result ℕ NotifyError) → Tells (moved additional size before.lists) tags r → after.lists ≡ notified additional tags before.lists
         → after.serials ≡ before.serials → after.room ≡ before.room → after.visits ≤ 5 * told_by r → Makes (tells additional size tags r) before after
     tells_so r a lists serials room visits =

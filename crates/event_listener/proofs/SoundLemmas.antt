@@ -477,7 +477,7 @@ module _ {T W : Type 0} where
       fresh-same : (e : Entry T W) → Some (fresh_entry serials) ≡ Some e → ◌≡◌ {A = Entry T W} (fresh_entry serials) e
       fresh-same e h = cc
 
-  -- The fields while a notice tells: the first waiting nodes have their new state, and still stand in the waiting chain.
+  -- The fields while a notification tells: the first waiting nodes have their new state, and still stand in the waiting chain.
   pub record Telling (TA TB WA WB : Link) (E : ℕ → Option (Entry T W)) (count told serials : ℕ) (ks front back : List ℕ) : Type 0 where
     pub chains : Chains TA TB WA WB ks (front ++ back)
     pub covered : (k : ℕ) → IsSome (E k) → Among k ((ks ++ front) ++ back)

@@ -1,4 +1,4 @@
--- The tags that a notice is asked for before anybody is told.
+-- The tags that a notification is asked for before anybody is told.
 use Rattle.std.specs.Prelude.{◌≡◌, ◌<◌, ◌⊎◌, ℕ, List, length, Result, Err}
 use Rattle.event_listener.specs.declared.error.NoMemory.{NoMemory}
 use Rattle.event_listener.specs.declared.error.NotifyError.{NotifyError}
@@ -16,6 +16,6 @@ module _ {N T : Type 0} (gives : N → Result T NoMemory → N → Type 0) where
     pub drawn : Draws gives notice tags rest
     pub all : IsAll many (length tags) rest
 
-  -- It told as a notice tells; or nobody, where the record or its tags got no room.
+  -- It told as a notification tells; or nobody, where the record or its tags got no room.
   abbrev pub TellsOrNone : (N → ℕ) → N → Result ℕ NotifyError → Type 0
   TellsOrNone size notice result = Tells size gives notice result ⊎ (result ≡ Err (record { told = 0 }))

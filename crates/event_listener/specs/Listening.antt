@@ -67,7 +67,7 @@ module _ {T L : Type 0} (did : ℕ → Section T → L → L → Type 0) where
   abbrev pub Armed : Listening → Option T → Type 0
   Armed l tag = (key : Key) × (l.key ≡ Some key) × OnSome did l.list (arms key l.cell tag)
 
-  -- it was taken off, where it was on the list: whether it was told, and was to pass its notice on
+  -- it was taken off, where it was on the list: whether it was told, and was to pass its notification on
   abbrev pub LeftSo : Listening → Bool → Bool → Type 0
   LeftSo l pass_on told = ((l.key ≡ None) × (told ≡ false)) ⊎ ((key : Key) × (l.key ≡ Some key) × OnSome did l.list (removes key pass_on told))
 

@@ -10,11 +10,11 @@ use Rattle.event_listener.specs.declared.calls.Registered.TheVariants as registe
 use Rattle.event_listener.specs.declared.error.ListenError.{ListenError}
 use Rattle.event_listener.specs.declared.error.ListenError.TheVariants.{NoMemory, SerialsUsedUp}
 
--- whether a notice is for so many more, whoever is told already, or for so many in all
+-- whether a notification is for so many more, however many are told already, or for so many in all
 abbrev pub IsAdditional : Type 0
 IsAdditional = Bool
 
--- whether the notice of a told listener that is removed goes on to another
+-- whether the notification of a told listener that is removed goes on to another
 abbrev pub PassesOn : Type 0
 PassesOn = Bool
 
@@ -49,7 +49,7 @@ abbrev pub tasks_of : {W : Type 0} → List (Key × Option W) → List W
 tasks_of [] = []
 tasks_of (w ∷ ws) = option_to_list w.1 ++ tasks_of ws
 
--- how many a notice told
+-- how many a notification told
 abbrev pub told_by : Result ℕ NotifyError → ℕ
 told_by (Ok told) = told
 told_by (Err e) = e.told
@@ -79,7 +79,7 @@ module _ {T W : Type 0} where
   told_with additional (w ∷ ws) (t ∷ ts) = (w.0, record { additional = additional; tag = t }) ∷ told_with additional ws ts
   told_with additional ws ts = []
 
-  -- how many a notice for n moves
+  -- how many a notification for n moves
   abbrev pub moved : IsAdditional → ℕ → Lists T W → ℕ
   moved additional n lists = min (if additional then n else n - length lists.told) (length lists.waiting)
 
@@ -113,7 +113,7 @@ module _ {T W : Type 0} where
   abbrev pub polled : Key → Lists T W → Lists T W
   polled key lists = if is_some (told_as lists key) then without key lists else lists
 
-  -- a removal, which may pass a notice on
+  -- a removal, which may pass a notification on
   abbrev pub remove_answer : Key → Lists T W → Result Bool UnknownListener
   remove_answer key lists = elim (kind_of lists key) [ Some told ↦ Ok told | None ↦ Err (record {}) ]
 

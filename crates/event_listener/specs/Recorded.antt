@@ -13,7 +13,7 @@ use Rattle.event_listener.specs.declared.recorded.RecordedCall.{RecordedCall}
 use Rattle.event_listener.specs.declared.recorded.RecordedCall.TheVariants.{Listened, Registered as Registering, Polled, Removed, Notified}
 use Rattle.event_listener.specs.declared.recorded.RegisterError.{RegisterError}
 
--- a section and its answer; a removal and a notice say besides whom they woke, in order, and a notice by which tags it told
+-- a section and its answer; a removal and a notification also say which tasks they woke, in order, and a notification by which tags it told
 pub data Section (T W : Type 0) : Type 0 where
   inserts : Result Key ListenError → Section T W
   registers : Key → W → Result (Registered T) RegisterError → Section T W
@@ -45,7 +45,7 @@ module _ {T W : Type 0} where
   Stores (counts_told told) before after = (told ≡ length before.lists.told) × (after ≡ before)
   Stores (counts_all all) before after = (all ≡ total_of before.lists) × (after ≡ before)
 
--- these tags were drawn from the notice first, in order
+-- these tags were drawn from the notification first, in order
 abbrev pub IsDrawn : {N T : Type 0} → (N → Result T NoMemory → N → Type 0) → N → List T → Type 0
 IsDrawn {N} gives notice tags = (rest : N) × Draws gives notice tags rest
 

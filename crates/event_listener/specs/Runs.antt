@@ -23,23 +23,23 @@ inserted_key (reply.Remove result) = None
 inserted_key (reply.Notify result) = None
 inserted_key (reply.Reserve result) = None
 
--- whom a call names, after these replies: a key, or what the call at a place of the run inserted
+-- the listener that a call names, after these replies: a key, or what the call at a place of the run inserted
 abbrev pub key_named : {T : Type 0} → Target → List (ListReply T) → Option Key
 key_named (target.Key key) done = Some key
 key_named (target.Place place) done = elim (slice_get done place) [ Some r ↦ inserted_key r | None ↦ None ]
 
--- what is answered about a key, where there is one
+-- what is answered about a key, if there is one
 abbrev pub about : {A : Type 0} → Option Key → (Key → Result A UnknownListener) → Result A UnknownListener
 about None answer = Err (record {})
 about (Some key) answer = answer key
 
--- what a call with a key makes of a value, where there is a key
+-- what a call with a key makes of a value, if there is a key
 abbrev pub made_at : {A : Type 0} → Option Key → (Key → A → A) → A → A
 made_at None change value = value
 made_at (Some key) change value = change key value
 
 module _ {T W : Type 0} where
-  -- the tags that a notice with these tags hands out
+  -- the tags that a notification with these tags hands out
   abbrev pub tags_given : Bool → ℕ → List T → Lists T W → List T
   tags_given additional count tags lists = take (moved additional count lists) tags
 
@@ -116,7 +116,7 @@ module _ {T W : Type 0} where
         × Leaves old new (made_at key polled old.lists) (made_at key (room_polled old.lists) old.room)
         × (new.visits ≡ old.visits) × (sink' ≡ sink)
 
-    -- taking a listener off, which may pass its notice on
+    -- taking a listener off, which may pass its notification on
     abbrev pub Removes : Option Key → Bool → ListReply T → ListView T W → S → ListView T W → S → Type 0
     Removes key pass_on answer old sink new sink' =
         (answer ≡ reply.Remove (about key (λ k. remove_answer k old.lists)))
@@ -124,7 +124,7 @@ module _ {T W : Type 0} where
         × (pass_on ≡ false → new.visits ≤ 5)
         × Woken wakes sink (wakes_at key pass_on old.lists) sink'
 
-    -- a notice with these tags, each for one listener
+    -- a notification with these tags, each for one listener
     abbrev pub Notifies : ℕ → Bool → List T → ListReply T → ListView T W → S → ListView T W → S → Type 0
     Notifies count additional tags answer old sink new sink' =
         let given = tags_given additional count tags old.lists in

@@ -44,7 +44,7 @@ tag_given (Err error) = None
 
 -- A section and its answer. A listener is added with the task of a cell. A poll looks at a listener, and keeps its waker in the cell where
 -- the listener waits. A thread that waits registers with its parker, and looks again once it has slept on it. A timed wait leaves with the
--- tag of a told listener. A notice has a kind and a number, and told so many by these tags.
+-- tag of a told listener. A notification has a kind and a number, and told so many by these tags.
 pub data Section (T : Type 0) : Type 0 where
   listens : ℕ → Result Key ListenError → Section T
   polls : Key → ℕ → Waker → Option T → Section T
@@ -57,7 +57,7 @@ pub data Section (T : Type 0) : Type 0 where
   counts_told : ℕ → Section T
   counts_all : ℕ → Section T
 
--- A call of `List` with its answer: an insertion, a registration, a poll, a removal, or a notice with the tags that it gave.
+-- A call of `List` with its answer: an insertion, a registration, a poll, a removal, or a notification with the tags that it gave.
 pub data Call (T : Type 0) : Type 0 where
   inserts : Result Key ListenError → Call T
   registers : Key → Task → Result (Registered T) UnknownListener → Call T
@@ -69,7 +69,7 @@ pub data Call (T : Type 0) : Type 0 where
 abbrev pub wakes_at_once : Unit {0} → Task → Unit {0} → Type 0
 wakes_at_once before task after = Unit {0}
 
--- a notice that was to tell so many told these, or as many as it had tags for
+-- a notification that was to tell so many told these, or as many as it had tags for
 abbrev pub Tells : {T : Type 0} → ℕ → List T → Result ℕ NotifyError → Type 0
 Tells many tags (Ok told) = (told ≡ many) × (length tags ≡ many)
 Tells many tags (Err error) = (error.told ≡ length tags) × (length tags < many)

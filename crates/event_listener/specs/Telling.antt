@@ -1,4 +1,4 @@
--- What is known of a notice that tells listeners among other threads.
+-- What is known of a notification that tells listeners among other threads.
 use Rattle.std.specs.Prelude.{ℕ, ◌≤◌, List, length, Result}
 use Rattle.event_listener.specs.declared.error.NoMemory.{NoMemory}
 use Rattle.event_listener.specs.declared.error.NotifyError.{NotifyError}

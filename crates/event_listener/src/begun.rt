@@ -1,7 +1,7 @@
-//! What a call of an event does once it has begun: it looks at the event's lock, and makes one section where a list is there.
+//! What a call of an event does once it has begun: it looks whether the event has a list, and makes one critical section there.
 //!
-//! A body here has the right to that ([`Begun`]) and nothing else of the event, so a second section in it is no program: no second notice either,
-//! of a plain number, that could be made at will.
+//! A body here has the right to that ([`Begun`]) and nothing else of the event. So a body that makes a second section, as for a second
+//! notification, does not type-check.
 ghost use Rattle.std.specs.Prelude.{◌≡◌, ◌≤◌, false, nat_lt, true};
 ghost use Rattle.event_listener.specs.Notifying.{NotifiesEvent, TellsEvent, CountsEvent};
 ghost use Rattle.event_listener.specs.Sections.{counts_told, counts_all};
@@ -27,6 +27,7 @@ impl<T, L: Steps<T>> Begun<'_, T, L> {
         let notice = notice.into_notification();
         match self.turn() {
             Some(turn) => turn.notify(rt, notice),
+            // Nobody has listened yet: this one look is the whole call, and a listener that comes later isn't told by it.
             None => Ok(0),
         }
     }

@@ -1,6 +1,5 @@
-//! The calls that tell listeners, and those by which a listener learns that it was told.
-//!
-//! They are written over the two lists alone, and know nothing of how these are kept.
+//! The calls that tell listeners, and those by which a listener learns that it was told. They use the two lists alone, and not how these
+//! are kept.
 ghost use Rattle.std.specs.Prelude.{◌≡◌, ◌+◌, ◌*◌, ◌≤◌, if◌then◌else◌, is_some, IsSome, OnOk, false};
 ghost use Rattle.event_listener.specs.Lists.{moved, kind_of, told_as, registration, register_answer, polled, poll_answer, tag_told, removed, remove_answer, removed_wakes, told_by};
 ghost use Rattle.event_listener.specs.Order.{HasLeft};
@@ -23,11 +22,11 @@ pub enum Registered<T> {
 }
 
 impl<T: Drop, W: Drop> List<T, W> {
-    /// Stores the task to wake once the listener is told, or takes a told one off and gives its tag.
+    /// Stores the task to wake once the listener is told, or removes a told one and returns its tag.
     ///
-    /// The task takes the place of an older one, which is dropped. A told listener passes nothing on here: its notice
-    /// has reached it. A key of a listener that has left is refused by [`UnknownListener`], and then the task is
-    /// dropped. Never waits. As a poll of `event-listener` 5.4.2 registers.
+    /// An older task is replaced and dropped. A told listener passes nothing on here: its notification has reached it. [`UnknownListener`]
+    /// refuses the key of a listener that has left, and then the task is dropped. Never waits. As a poll of `event-listener` 5.4.2
+    /// registers.
     pub fn register(&mut self, key: Key, task: W) -> Result<Registered<T>, UnknownListener>
         ensures answer { result ≡ register_answer key self.old.lists }
         ensures lists { self.new.lists ≡ registration key task self.old.lists }
@@ -38,6 +37,7 @@ impl<T: Drop, W: Drop> List<T, W> {
         ensures visits { self.new.visits ≤ 5 }
         ensures looks { self.new.looks ≤ self.old.looks + 5 }
     {
+        // One call stores the task or finds the listener told, so a notification can't fall between a look and the registration.
         match self.store(key, task) {
             None => Err(UnknownListener),
             Some(false) => Ok(Registered::Waiting),
@@ -48,10 +48,10 @@ impl<T: Drop, W: Drop> List<T, W> {
         }
     }
 
-    /// Takes a told listener off and gives its tag; answers None of one that still waits.
+    /// Removes a told listener and returns its tag; `None` for one that still waits.
     ///
-    /// A key of a listener that has left is refused by [`UnknownListener`]. Never waits, and leaves the count of
-    /// [`List::last_visits`] as it was.
+    /// [`UnknownListener`] refuses the key of a listener that has left. Never waits, and leaves the count of [`List::last_visits`] as it
+    /// was.
     pub fn poll(&mut self, key: Key) -> Result<Option<T>, UnknownListener>
         ensures answer { result ≡ poll_answer key self.old.lists }
         ensures lists { self.new.lists ≡ polled key self.old.lists }
@@ -72,9 +72,9 @@ impl<T: Drop, W: Drop> List<T, W> {
         }
     }
 
-    /// Takes a listener off, told or not, and gives the tag of a told one. It passes nothing on.
+    /// Removes a listener, told or not, and returns the tag of a told one. It passes nothing on.
     ///
-    /// One whose time is up so leaves in the call that finds it untold: a told listener never gives `None`.
+    /// A listener whose time is up leaves in the call that finds it not told, so a told listener never gives `None`.
     pub(crate) fn take_off(&mut self, key: Key) -> Option<T>
         ensures tag { result ≡ tag_told key self.old.lists }
         ensures lists { self.new.lists ≡ removed key false self.old.lists }
@@ -95,13 +95,12 @@ impl<T: Drop, W: Drop> List<T, W> {
         }
     }
 
-    /// Tells the first waiting listeners, gives each the next tag of the notice, and wakes their tasks in order.
+    /// Tells the first waiting listeners, gives each the next tag of the notification, and wakes their tasks in order.
     ///
-    /// An additional notice for n tells the first n that wait. One of the default kind tells so many of them that n are
-    /// told, those told before it included, so it tells nobody where n are told already. The answer is how many it
-    /// told. A notice is not kept for listeners to come. Where a tag is refused, [`NotifyError`] says how many were
-    /// told before: they stay so, and nobody else is. Takes no memory of its own. As `Event::notify` of
-    /// `event-listener` 5.4.2.
+    /// An additional notification for n tells the first n that wait. One of the default kind tells so many that n are told, those told
+    /// before included; if n are told already it tells nobody. The answer is how many it told. A notification is not kept for listeners to
+    /// come. If a tag is refused, [`NotifyError`] says how many were told before it; they stay told. It takes no memory of its own, and
+    /// constant work for each one told. As `Event::notify` of `event-listener` 5.4.2.
     pub fn notify<N: Notification<Tag = T> + Drop, S: Wakes<W>>(
         &mut self,
         notice: N,
@@ -119,18 +118,18 @@ impl<T: Drop, W: Drop> List<T, W> {
         let additional = notice.is_additional();
         let count = notice.count();
         let many = self.to_move(additional, count);
+        // Before a tag is asked for: a notification for nobody must draw no tag.
         if many == 0 {
             return Ok(0);
         }
         self.tell(additional, many, notice, sink)
     }
 
-    /// Takes a listener off, and answers whether it was told.
+    /// Removes a listener, and answers whether it was told.
     ///
-    /// A told one passes its notice on where that is asked for: the list is then notified of one more of the same kind,
-    /// with its tag. Without passing on, the notice is lost. A waiting one changes nobody else, and its task is
-    /// dropped. A key of a listener that has left is refused by [`UnknownListener`]. As dropping, or discarding, a
-    /// listener of `event-listener` 5.4.2.
+    /// With `pass_on` a told one passes its notification on: one more listener of the list is told, of the same kind and with its tag.
+    /// Otherwise the notification is lost. Removing a waiting one changes nobody else, and its task is dropped. [`UnknownListener`] refuses
+    /// the key of a listener that has left. As dropping, or discarding, a listener of `event-listener` 5.4.2.
     pub fn remove<S: Wakes<W>>(
         &mut self,
         key: Key,
@@ -151,6 +150,8 @@ impl<T: Drop, W: Drop> List<T, W> {
             return Err(UnknownListener);
         };
         if let State::Told { additional, tag } = self.leave(key, told, true) {
+            // Pass on in the same call: the listener can't know whether what it was told of is still there, and if it is, nobody else was
+            // told of it.
             if pass_on && self.to_move(additional, 1) > 0 {
                 if let Some(next) = self.tell_first(additional, tag) {
                     sink.wake(next);

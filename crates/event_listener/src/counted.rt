@@ -1,4 +1,5 @@
-//! What stands behind the lock of a recorded event: a recording, and the book that counts its entries.
+//! What is behind the lock of a recorded event: a recording, and the book that counts its entries. The invariant: the book's total is the
+//! number of entries.
 ghost use Rattle.std.specs.Prelude.{◌≡◌, nat_lt};
 ghost use Rattle.event_listener.specs.Lists.{told_by};
 
@@ -17,7 +18,7 @@ use std::sync::ledger::{Book, Ledger, Share};
 
 /// A recording with a book, whose total is the number of its entries.
 ///
-/// A caller's share rises by one with each entry of its own. So what all shares count the record holds.
+/// A caller's share rises by one with each entry that it adds, so all shares together count the entries of the record.
 #[derive(Drop)]
 pub struct Counted<T: Copy, W: Copy, L: Ledger> {
     recording: Recording<T, W>,
@@ -138,7 +139,7 @@ impl<T: Copy, W: Copy, L: Ledger> Records<T, W, L> for Counted<T, W, L> {
     }
 }
 
-// Whether a notice told anybody, also where it was refused after that.
+// Whether a notification told anybody, also if it was refused after that.
 fn told_somebody(answer: &Result<usize, NotifyError>) -> bool
     ensures { result ≡ nat_lt 0 (told_by answer.now) }
 {

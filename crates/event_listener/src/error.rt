@@ -1,10 +1,14 @@
 //! What a list refuses, and why.
+//!
+//! # Extensions
+//!
+//! All of this module: in the Rust crate growth never fails.
 
 use std::alloc::AllocError;
 use std::error::Error;
 use std::fmt;
 
-/// A growth was refused by the allocator. Nothing was changed by the call that says so.
+/// A growth was refused by the allocator. The call that says so changed nothing.
 #[derive(Clone, Copy, PartialEq, Eq, Debug)]
 pub struct NoMemory;
 
@@ -16,7 +20,7 @@ impl fmt::Display for NoMemory {
 
 impl Error for NoMemory {}
 
-/// So that `?` serves in a function that fails by memory alone, whichever crate was refused. Own to this project.
+/// One `?` serves a function that fails by memory alone, whichever crate was refused.
 impl From<NoMemory> for AllocError {
     fn from(_: NoMemory) -> AllocError {
         AllocError
@@ -35,7 +39,7 @@ impl fmt::Display for UnknownListener {
 
 impl Error for UnknownListener {}
 
-/// Why nobody was added to a list. The listeners of the list are as before.
+/// Why a listener was not added to a list. The listeners of the list are as before.
 #[derive(Clone, Copy, PartialEq, Eq, Debug)]
 pub enum ListenError {
     /// The list had no room left, and the allocator refused more.
@@ -55,7 +59,7 @@ impl fmt::Display for ListenError {
 
 impl Error for ListenError {}
 
-/// A notice could not make the tag of its next listener. Those before it were told and stay so.
+/// A notification could not make the tag of its next listener. Those before it were told and stay so.
 #[derive(Clone, Copy, PartialEq, Eq, Debug)]
 pub struct NotifyError {
     /// How many listeners were told before the refusal: the first ones that waited.

@@ -1,4 +1,9 @@
-//! Events, on which threads and tasks listen for notices.
+//! Events, on which threads and tasks listen for notifications. An event owns its identity and its list; every call on it begins with
+//! `begin`, which gives the right to one critical section on the list.
+//!
+//! # Extensions
+//!
+//! `Event::with_lists`. `is_notified` has a meaning of its own: `event-listener` compares a count that it reads outside the lock.
 ghost use Rattle.std.specs.Prelude.{◌≡◌, ◌≤◌, true, false, nat_lt, IfOk, IfErr};
 ghost use Rattle.event_listener.specs.Listening.{Listened, RefusesToListen};
 ghost use Rattle.event_listener.specs.Notifying.{NotifiesEvent, TellsEvent, CountsEvent};
@@ -16,19 +21,19 @@ use std::alloc::Global;
 use std::marker::Model;
 use std::sync::Wait;
 
-/// An event: who waits for something listens on it first and looks for the thing again, and who brings it about
-/// notifies it afterwards, so that no notice falls between.
+/// An event. A waiter listens on it first and then checks its condition again; a notifier makes the condition true and then notifies. In
+/// this order no notification falls between.
 ///
-/// It takes no memory until the first listening. Contracts see it as its identity. As `event-listener` 5.4.2, but for
-/// the identity, the refusals, and the runtime and allocator that are passed in.
+/// It takes no memory until the first `listen`. Contracts see it as its identity. As `event-listener` 5.4.2, but for the identity, the
+/// refusals, and the runtime and allocator that are passed in.
 #[derive(Drop)]
 pub struct Event<T, L = List<T, Task>> {
     id: EventId,
     homes: Homes<T, L>,
 }
 
-/// What a call of an event is given once, where it begins: no section of the event's calls is made without one, and the section's right uses it
-/// up. It can't be copied, and nobody makes one but [`Event::begin`].
+/// What a call of an event is given once, when it begins: no critical section of the event's calls is made without one, and making the
+/// section uses it up. It can't be copied, and only [`Event::begin`] makes one.
 #[derive(Drop)]
 pub(crate) struct OneCall {
     made: (),
@@ -43,7 +48,7 @@ impl<T, L> Model for Event<T, L> {
 }
 
 impl<T: Drop> Event<T> {
-    /// An event of this identity without listeners, whose notices carry tags. It takes no memory.
+    /// An event of this identity without listeners, whose notifications carry tags. It takes no memory.
     pub fn with_tag(alloc: Global, id: EventId) -> Event<T>
         ensures { result.number ≡ id }
     {
@@ -52,7 +57,7 @@ impl<T: Drop> Event<T> {
 }
 
 impl<T: Drop, L: Steps<T>> Event<T, L> {
-    /// The same over lists of another type, as a test has that counts what is done to a list. It takes no memory. Own to this project.
+    /// An event over lists of another type, such as one that a test counts with. It takes no memory.
     pub fn with_lists(alloc: Global, id: EventId) -> Event<T, L>
         ensures { result.number ≡ id }
     {
@@ -62,17 +67,18 @@ impl<T: Drop, L: Steps<T>> Event<T, L> {
         }
     }
 
-    /// Adds a listener, which is told by the next notice that reaches it. It gives up its place when it is dropped, for which it
-    /// keeps a copy of the runtime.
+    /// Adds a listener, which the next notification that reaches it tells. When dropped it leaves the list, for which it keeps a copy of
+    /// the runtime.
     ///
-    /// Refused for memory, or where all serials of the event's list were given; the listeners are as before then. It
-    /// may wait for the list's lock, and the first time for another thread that listens first.
+    /// `Err` for want of memory, or if all serials of the event's list were given; the listeners are then as before. It may wait for the
+    /// list's lock, and the first time for another thread that listens first.
     pub fn listen<R: Wait + Copy>(&self, rt: &R) -> Result<EventListener<T, R, L>, ListenError>
         ensures event { IfOk result (λ listener. listener.event ≡ self.now.number) }
         ensures list { IfOk result (λ listener. L.holds self.now.lock listener.list) }
         ensures listens { IfOk result (Listened L.did) }
         ensures refused { IfErr result (RefusesToListen L.did L.holds L.refused self.now.lock) }
     {
+        // Before the list is touched: if memory is refused, nobody was listed.
         match L::share(self.alloc(), WakerCell::new()) {
             Ok(cell) => EventListener::new(*rt, self.begin(), self.number(), self.alloc(), cell),
             Err(_) => Err(ListenError::NoMemory),
@@ -97,12 +103,12 @@ impl<T: Drop, L: Steps<T>> Event<T, L> {
         self.homes.begin(OneCall { made: () })
     }
 
-    /// Tells listeners, the longest listening first: of the default kind so many that at least the notice's number are
-    /// told, those told before included; of an additional notice its number more. Each gets one tag and is woken at
-    /// once. The answer is how many were told now. A notice for nobody isn't kept.
+    /// Tells listeners, the longest listening first: with the default kind so many that at least the notification's number are told, those
+    /// told before included; with an additional one its number more. Each gets one tag and is woken at once. The answer is how many were
+    /// told now. A notification for nobody isn't kept.
     ///
-    /// Refused where a tag was; those told before it stay told. A notice of plain counts takes no memory and is never
-    /// refused. It may wait for the list's lock, and for the lock of the bell of a thread that it wakes.
+    /// `Err` if a tag was refused; those told before it stay told. A notification of plain counts takes no memory and is never refused. It
+    /// may wait for the list's lock, and for the lock of a task or thread that it wakes.
     pub fn notify<N: IntoNotification<Tag = T>, R: Wait>(
         &self,
         rt: &R,
@@ -111,13 +117,11 @@ impl<T: Drop, L: Steps<T>> Event<T, L> {
         requires { (n : N.Notify) → N.becomes notice n → N.Notify.can_give n }
         ensures tells { (n : N.Notify) × N.becomes notice n × NotifiesEvent N.Notify.size N.Notify.additional N.Notify.gives L.did L.holds L.lacks self.now.lock n result }
     {
-        // The notice is taken by value, so no clause says what became of it: only a test shows that a notice for nobody makes no tag.
+        // The notification is taken by value, so no clause says what became of it: only a test shows that one for nobody makes no tag.
         self.begin().notify(rt, notice)
     }
 
-    /// Whether some listener was told and has not taken its tag yet. It may wait for the list's lock.
-    ///
-    /// Never so on an event without listeners. Own meaning: `event-listener` compares a count read outside the lock.
+    /// Whether some listener was told and has not taken its tag yet; never on an event without listeners. It may wait for the list's lock.
     pub fn is_notified<R: Wait>(&self, rt: &R) -> bool
         ensures counted { CountsEvent L.did L.holds L.lacks self.now.lock counts_told (λ told. result ≡ nat_lt 0 told) }
     {
@@ -142,7 +146,7 @@ impl Event<()> {
 }
 
 impl<L: Steps<()>> Event<(), L> {
-    /// A default notice for so many listeners, which promises no order among other steps; here it is a plain one.
+    /// A default notification for so many listeners that promises no order among other steps; here it is a plain one.
     ///
     /// It takes no memory. It may wait for the list's lock.
     pub fn notify_relaxed<R: Wait>(&self, rt: &R, count: usize) -> usize
@@ -152,7 +156,7 @@ impl<L: Steps<()>> Event<(), L> {
         self.begin().notify_relaxed(rt, count)
     }
 
-    /// A notice that tells so many more listeners, whoever is told already: how many were told now.
+    /// A notification that tells so many more listeners, however many are told already; answers how many were told now.
     ///
     /// It takes no memory. It may wait for the list's lock.
     pub fn notify_additional<R: Wait>(&self, rt: &R, count: usize) -> usize
@@ -162,9 +166,7 @@ impl<L: Steps<()>> Event<(), L> {
         self.begin().notify_additional(rt, count)
     }
 
-    /// As [`notify_additional`](Event::notify_additional), relaxed, which here is the same.
-    ///
-    /// It takes no memory. It may wait for the list's lock.
+    /// As [`notify_additional`](Event::notify_additional).
     pub fn notify_additional_relaxed<R: Wait>(&self, rt: &R, count: usize) -> usize
         ensures at_most { result ≤ count }
         ensures told { TellsEvent L.did L.holds L.lacks self.now.lock true count result }

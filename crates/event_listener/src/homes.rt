@@ -1,4 +1,5 @@
-//! Where an event keeps its list, which is made at the first listening, and the right of a call that has begun.
+//! Where an event keeps its list, which the first `listen` makes, and the right of a call that has begun. The invariant: an event gets one
+//! list, once, and keeps it.
 
 ghost use Rattle.std.specs.Prelude.{◌≡◌, IfOk, OnErr, IfSome, IfNone};
 ghost use Rattle.std.specs.Arc.{arc_value};
@@ -19,10 +20,10 @@ pub(crate) struct Homes<T, L> {
     once: OnceLock<Arc<Home<T, L>>>,
 }
 
-/// The right of a call of an event, once it has begun: one look at the event's lock, and one section on the list there.
+/// The right of a call of an event that has begun: one look at where the event keeps its list, and one critical section on that list.
 ///
-/// It can't be copied, and the look uses it up. What a call does with it stands in files that can't read its fields. So a body there that makes a
-/// second section, of whatever notice, is no program.
+/// It can't be copied, and the look uses it up. What a call does with it is in modules that can't read its fields, so a body there that
+/// makes a second section does not type-check.
 #[derive(Drop)]
 pub(crate) struct Begun<'a, T, L> {
     homes: &'a Homes<T, L>,
@@ -52,15 +53,18 @@ impl<T, L> Homes<T, L> {
 }
 
 impl<T, L: Steps<T>> Homes<T, L> {
-    /// What shows the list, made here where nobody listened yet. Where two threads make it, the first one's stays.
+    /// Access to the list, which is made here if nobody has listened yet. If two threads make one, the first one's stays.
     fn shown<R: Wait>(&self, rt: &R) -> Result<OnceToken<'_, Arc<Home<T, L>>>, NoMemory>
         ensures of { IfOk result (λ token. token.of ≡ self.now.once.id) }
         ensures refused { OnErr result L.refused }
     {
+        // Look first: once a list is there, this one load is all, and no memory is asked for.
         if let Some(token) = L::find(&self.once) {
             return Ok(token);
         }
         let made = L::share(self.alloc, Home::new(L::empty(self.alloc)))?;
+        // Of two threads that made a list only one inserts it. The other drops its own and uses the first, so that all listeners are in one
+        // list.
         match self.once.try_insert(rt, made) {
             Ok(token) => Ok(token),
             Err((token, late)) => {
@@ -72,13 +76,14 @@ impl<T, L: Steps<T>> Homes<T, L> {
 }
 
 impl<'a, T, L: Steps<T>> Begun<'a, T, L> {
-    /// The right to one section on the list, where somebody has listened.
+    /// The right to one critical section on the list, if somebody has listened.
     #[inline(always)]
     pub(crate) fn turn(self) -> Option<EventTurn<'a, T, L>>
         ensures held { IfSome result (λ turn. L.holds self.entry.homes.now.once.id turn.step.seal.now.id) }
         ensures lacked { IfNone result (L.lacks self.entry.homes.now.once.id) }
     {
         let Begun { homes, call } = self;
+        // One load. A call that finds no list is over: a thread that inserts one later also listens later.
         match L::find(&homes.once) {
             Some(token) => {
                 L::see(&token);
@@ -88,7 +93,7 @@ impl<'a, T, L: Steps<T>> Begun<'a, T, L> {
         }
     }
 
-    /// The list, made where nobody listened yet, and the right to one section on it.
+    /// The list, made if nobody has listened yet, and the right to one critical section on it.
     pub(crate) fn open<R: Wait>(
         self,
         rt: &R,

@@ -1,4 +1,8 @@
-//! Identities of events.
+//! Identities of events. Only a source makes them, and an event owns its own. The invariant: a source gives no number twice.
+//!
+//! # Extensions
+//!
+//! All of this module: `event-listener` tells events apart by their addresses.
 ghost use Rattle.std.specs.Prelude.{◌≡◌, ◌+◌, ◌-◌, ◌^◌, ◌<◌, ◌∷◌, [], IfOk, OnOk, OnErr};
 
 use std::error::Error;
@@ -7,9 +11,8 @@ use std::marker::Model;
 
 /// The identity of one event.
 ///
-/// [`EventIds`] alone makes one, no two that come from one source are equal, and there is no copy of it: the event
-/// that it is moved into is the only one of its name. Equality of identities waits for nobody. Own to this project:
-/// `event-listener` tells events apart by their addresses.
+/// [`EventIds`] alone makes identities, no two that come from one source are equal, and none can be copied: the event that it is moved into
+/// is the only one of its name. Comparing identities never waits.
 #[derive(Drop)]
 pub struct EventId {
     number: u64,
@@ -23,7 +26,7 @@ impl Model for EventId {
     ghost view = { λ id. id.number };
 }
 
-// Two identities are equal exactly where their numbers are: the model above is the number.
+// Two identities are equal exactly if their numbers are: the model above is the number.
 impl PartialEq for EventId {
     ghost use Rattle.std.specs.Prelude.{nat_eq};
     ghost use Rattle.std.specs.Cmp.Rules.{comparing};
@@ -54,10 +57,9 @@ impl EventId {
     }
 }
 
-/// A source of identities, which never gives one twice: the numbers from 0 on, each below 2^64 - 1.
+/// A source of identities: the numbers from 0 on, each below 2^64 - 1, none of them twice.
 ///
-/// It takes no memory and waits for nobody. A contract sees it as the number of identities given so far, which is the
-/// next one's number too. Own to this project.
+/// It takes no memory and never waits. A contract sees it as the number of identities given so far, which is the next one's number too.
 #[derive(Drop)]
 pub struct EventIds {
     given: u64,
@@ -88,8 +90,8 @@ impl fmt::Display for IdsUsedUp {
 impl Error for IdsUsedUp {}
 
 impl EventIds {
-    /// A source that has given none. Identities of two sources may be equal, and nothing tells sources apart: make one in a program,
-    /// and pass it on to whoever makes events or channels.
+    /// A source that has given none. Identities of two sources may be equal, and nothing tells sources apart: make one in a program, and
+    /// pass it to whatever makes events or channels.
     pub fn new() -> EventIds
         ensures { result ≡ 0 }
     {
@@ -103,9 +105,7 @@ impl EventIds {
         self.given
     }
 
-    /// The next identity, which was never given before.
-    ///
-    /// Refused where all 2^64 - 1 were given; nothing is changed then.
+    /// The next identity, which was never given before. `Err` if all 2^64 - 1 were given; nothing is changed then.
     pub fn next(&mut self) -> Result<EventId, IdsUsedUp>
         ensures id { IfOk result (λ id. id ≡ self.old) }
         ensures given { OnOk result (self.new ≡ self.old + 1) }
@@ -120,9 +120,7 @@ impl EventIds {
         Ok(EventId { number })
     }
 
-    /// The next four identities, for the four events of a channel.
-    ///
-    /// Refused where fewer than four are left; none is taken then.
+    /// The next four identities, for the four events of a channel. `Err` if fewer than four are left; none is taken then.
     pub fn next_four(&mut self) -> Result<[EventId; 4], IdsUsedUp>
         ensures ids { IfOk result (λ ids. ids ≡ self.old ∷ (self.old + 1) ∷ (self.old + 2) ∷ (self.old + 3) ∷ []) }
         ensures given { OnOk result (self.new ≡ self.old + 4) }

@@ -1,11 +1,11 @@
-//! Integers as notices.
+//! Integers as notifications of the default kind.
 ghost use Rattle.std.specs.Prelude.{◌≡◌, ◌^◌, ◌-◌, min};
 ghost use Rattle.std.specs.Int.{saturate_unsigned, w64};
 
 use crate::into_notification::IntoNotification;
 use crate::notify::Notify;
 
-// A plain notice for this many: none for a negative number, the greatest `usize` for one past it.
+// A plain notification for this many: none for a negative number, the greatest `usize` for one past it.
 fn signed(count: i128) -> Notify
     ensures { result.count ≡ saturate_unsigned w64 count }
 {

@@ -1,4 +1,4 @@
-//! What can be made a notice, and the ways to shape it.
+//! What can be made a notification, and the ways to shape it.
 ghost use Rattle.std.specs.Prelude.{◌≡◌};
 
 use crate::notify::{Additional, Notification};
@@ -7,25 +7,24 @@ use crate::tagged::Tag;
 use crate::tagged_with::TagWith;
 use std::marker::PhantomData;
 
-/// What can be made a notice: each notice, and each integer as a notice of the default kind for so many listeners.
+/// What can be made a notification: each notification, and each integer as one of the default kind for so many listeners.
 ///
-/// As `event-listener` 5.4.2, but that a negative number counts as 0 and one past `usize` as its greatest value, where
-/// that crate panics.
+/// As `event-listener` 5.4.2, but a negative number counts as 0 and one past `usize` as its greatest value, where that crate panics.
 pub trait IntoNotification: Sized {
     /// What each told listener is given.
     type Tag;
 
-    /// The notice that it is made.
+    /// The notification that it is made.
     type Notify: Notification<Tag = Self::Tag> + Drop;
 
-    /// The notice that a value is made.
+    /// The notification that a value is made.
     ghost becomes: { Self → Self.Notify → Type 0 };
 
-    /// The notice itself. It takes no memory.
+    /// The notification itself. It takes no memory.
     fn into_notification(self) -> Self::Notify
         ensures { becomes self result };
 
-    /// The notice made additional: it tells as many more, whoever is told already.
+    /// The notification made additional: it tells as many more, however many are told already.
     final fn additional(self) -> Additional<Self::Notify>
         ensures { becomes self result.inner }
     {
@@ -33,7 +32,7 @@ pub trait IntoNotification: Sized {
         Additional { inner }
     }
 
-    /// The notice relaxed, which here changes nothing.
+    /// The notification relaxed, which here changes nothing.
     final fn relaxed(self) -> Relaxed<Self::Notify>
         ensures { becomes self result.inner }
     {
@@ -41,7 +40,7 @@ pub trait IntoNotification: Sized {
         Relaxed { inner }
     }
 
-    /// The notice with a tag, of which each listener gets a clone. A clone of this tag must equal it.
+    /// The notification with a tag, of which each listener gets a clone. A clone of this tag must equal it.
     final fn tag<T: Clone>(self, tag: T) -> Tag<Self::Notify, T>
         requires { (y : _) → T.is_clone tag y → y ≡ tag }
         ensures notice { becomes self result.inner }
@@ -51,7 +50,7 @@ pub trait IntoNotification: Sized {
         Tag { inner, tag }
     }
 
-    /// The notice with tags that `make` gives, one for each listener in the order of telling.
+    /// The notification with tags that `make` returns, one for each listener in the order in which they are told.
     final fn tag_with<T, F: FnMut() -> T>(self, make: F) -> TagWith<Self::Notify, F, T>
         requires { F.IsAlwaysCallable make }
         ensures notice { becomes self result.inner }

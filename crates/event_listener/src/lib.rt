@@ -1,19 +1,24 @@
-//! Events and their listeners, and the lists of listeners inside them, as `event-listener` 5.4.2 has them.
+//! Events, their listeners, and the lists of listeners inside them, as `event-listener` 5.4.2 has them.
 //!
-//! An [`Event`] is a list of listeners behind a lock, with an identity from [`EventIds`]. An [`EventListener`] is a place in
-//! it that is given up when it is dropped; it is polled, or a thread waits on it. A [`StackSlot`] and its [`StackListener`],
-//! which [`listener!`](crate::listener) writes, do the same. A notice is a number, perhaps with a tag for each one told
-//! ([`IntoNotification`]). A [`RecordedEvent`] keeps a record of its calls beside the list.
+//! An [`Event`] is a list of listeners behind a lock, with an identity from [`EventIds`]. An [`EventListener`] has a place in it, which it
+//! gives up when it is dropped; it is polled, or a thread waits on it. A [`StackSlot`] and its [`StackListener`], which
+//! [`listener!`](crate::listener) writes, do the same. A notification is a number, perhaps with a tag for each listener that it tells
+//! ([`IntoNotification`]).
 //!
-//! A [`List`] is such a list by itself: its listeners in the order of listening, of which each is told or waits, the told ones
-//! first. A notice tells the first ones that wait, hands each a tag, and gives their tasks to a sink ([`Wakes`]). Every call is
-//! one operation on two lists, told and waiting, and its contract names that operation.
+//! A [`List`] is such a list by itself: its listeners in the order of listening, of which each is told or waiting, the told ones first. A
+//! notification tells the first ones that wait, gives each a tag, and passes their tasks to a sink ([`Wakes`]). Every call is one operation
+//! on two lists, told and waiting, and its contract names that operation.
 //!
-//! A list behind a lock is [`Locked`], on which each call is one section by type: it is handed the right to take the lock once
-//! ([`Section`]).
+//! [`Locked`] is a value behind a lock. A call is given the right to take the lock once ([`Section`]), so by its type it makes one critical
+//! section. Events and their listeners are written over any type of lists with [`Steps`], by whose contracts a call says which critical
+//! sections it made; an ordinary event has a [`List`].
 //!
-//! Events and their listeners are written over any type of lists with [`Steps`], by whose contracts a call says which sections it made; each
-//! event that is made has a [`List`].
+//! # Extensions
+//!
+//! The Rust crate has events, listeners, stack listeners and notifications. Extensions are [`List`], [`Key`] and their runs;
+//! [`RecordedEvent`], which keeps a record of its calls; [`EventId`] and [`EventIds`], where the crate tells events apart by address;
+//! [`Wakes`], [`WakerCell`], [`Task`], [`WakeNow`] and [`Parker`]; [`Locked`] and [`Steps`]; [`laws`]; and the answers for want of memory
+//! and serials.
 #![tactic(auto)]
 
 mod begun;

@@ -1,4 +1,5 @@
-//! The links between nodes. What comes after nobody is the first of a chain, and what stands before nobody its last.
+//! The links between nodes. A link to nobody forwards ends a chain, one to nobody backwards begins it: then the chain's `Ends` are written
+//! in place of a node. Only this module writes links, so a chain and its two ends are changed together.
 ghost use Rattle.std.specs.Prelude.{◌≡◌, ◌≢◌, ℕ, ◌+◌, ◌^◌, ◌<◌, ◌≤◌, List, ◌++◌, Option, IfSome, Some, None, true, false, IsOk, IfOk, OnOk, OnErr};
 ghost use Rattle.slab.specs.Slab.{slab_len, ContainsKey, HasRoomFor};
 ghost use Rattle.event_listener.specs.Chain.{after_of, before_of, first_or, last_or, entry_at, fresh_entry, Unlinks, Links_last, ChainsOf, Beside};
@@ -7,7 +8,7 @@ ghost use Rattle.event_listener.specs.Nodes.{Stays};
 use crate::error::NoMemory;
 use crate::node::{Ends, Node, Nodes, State};
 
-/// Lets this node, or the end, be followed by another.
+/// Makes this node, or the end of the chain, be followed by another.
 #[inline(always)]
 pub(crate) fn set_after<T: Drop, W: Drop>(
     nodes: &mut Nodes<T, W>,
@@ -30,7 +31,7 @@ pub(crate) fn set_after<T: Drop, W: Drop>(
     }
 }
 
-/// Lets this node, or the end, stand behind another.
+/// Makes this node, or the end of the chain, be preceded by another.
 #[inline(always)]
 pub(crate) fn set_before<T: Drop, W: Drop>(
     nodes: &mut Nodes<T, W>,
@@ -83,7 +84,7 @@ pub(crate) fn link_last<T: Drop, W: Drop>(
         after: None,
         state: State::Waiting(None),
     };
-    // Make the node before anything is linked: where memory is refused the chain is unchanged.
+    // Make the node before anything is linked: if memory is refused the chain is unchanged.
     let at = nodes.insert(node)?;
     set_after(nodes, ends, last, Some(at), true);
     ends.last = Some(at);
@@ -111,13 +112,13 @@ pub(crate) fn unlink<T: Drop, W: Drop>(
     ensures looks { nodes.new.looks ≤ nodes.old.looks + 3 }
 {
     let node = nodes.take(at);
-    // Two writes wherever the node stood: where it has no neighbour the end of the chain is written.
+    // Two writes wherever the node was: without a neighbour the end of the chain is written, so no list is walked.
     set_after(nodes, ends, node.before, node.after, counted);
     set_before(nodes, ends, node.after, node.before, counted);
     node.state
 }
 
-/// Gives a node another state, and gives back the one that it had and the node behind it. No link changes.
+/// Gives a node another state, and returns the old one and the node behind it. No link changes.
 #[inline(always)]
 pub(crate) fn restate<T: Drop, W: Drop>(
     nodes: &mut Nodes<T, W>,
@@ -137,7 +138,7 @@ pub(crate) fn restate<T: Drop, W: Drop>(
     nodes.restate(at, state, counted)
 }
 
-/// Lets a run stand between these two, from its first node to its last: by one write where they are one node.
+/// Puts a run between these two, from its first node to its last: by one write if it is one node.
 #[inline(always)]
 fn set_outer<T: Drop, W: Drop>(
     nodes: &mut Nodes<T, W>,
@@ -164,10 +165,10 @@ fn set_outer<T: Drop, W: Drop>(
     }
 }
 
-/// Moves the first waiting nodes, up to this last one, behind which the next one stands, to the end of the told ones.
+/// Moves the first waiting nodes, up to `last`, which `next` follows, to the end of the told ones.
 ///
-/// They are linked to one another already, so four links are written, however many they are: the next one's to the run and
-/// the run's to it, the last told one's to the run and the run's to that.
+/// They are linked to one another already, so four links are written however many they are: from the next one to the run and back, and from
+/// the last told one to the run and back.
 #[inline(always)]
 pub(crate) fn move_run<T: Drop, W: Drop>(
     nodes: &mut Nodes<T, W>,

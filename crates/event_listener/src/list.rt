@@ -1,8 +1,13 @@
-//! The type of lists, with the calls that touch its fields.
+//! Lists of listeners, with the calls that touch their fields.
 //!
-//! The told listeners stand in one chain and the waiting ones in another, each in the order of listening. Those that a
-//! notice tells are the first of the second chain, and move to the end of the first as one run. The list keeps how many are
-//! told.
+//! The told listeners are in one chain and the waiting ones in another, each in the order of listening. A notification tells the first ones
+//! of the second chain, which move to the end of the first as one run. The list owns its nodes; it is reached by `&mut` alone, from behind
+//! the lock of its event. The invariants: each node is in one of the two chains, by its state; `told_count` is the length of the first; and
+//! serials are never given twice.
+//!
+//! # Extensions
+//!
+//! All of this module: in `event-listener` 5.4.2 the list is private to its event.
 ghost use Rattle.std.specs.Prelude.{◌≡◌, ◌+◌, ◌-◌, ◌*◌, ◌^◌, ◌<◌, ◌≤◌, [], length, IsOk, IfOk, OnOk, OnErr, IfErr, Err};
 ghost use Rattle.std.specs.Prelude.{◌≢◌, if◌then◌else◌, ◌∷◌, take, Option, Some, None, true, false};
 ghost use Rattle.std.specs.Option.{option_to_list};
@@ -23,12 +28,11 @@ use std::marker::Model;
 
 /// The listeners of one event, each told or waiting, with tags of type `T` and tasks of type `W`.
 ///
-/// To its callers it is two lists: the told listeners, each with the kind of its notice and its tag, and the waiting
-/// ones, each perhaps with a task. Both keep the order of listening. Besides, it has the number of serials that it
-/// gave, the room for listeners that takes no more memory, the visits of its last call, and the looks of all its calls:
-/// each read and each write of a node ever but the making of one, that of a call's own listener too. What a call adds to them is bounded, and
-/// nothing takes from them; they are counted modulo 2^64, which takes centuries to come round.
-/// Own to this project: in `event-listener` 5.4.2 the list is private to its event.
+/// To its callers it is two lists, both in the order of listening: the told listeners, each with the kind of its notification and its tag,
+/// and the waiting ones, each perhaps with a task. It also has the number of serials that it gave, the room for listeners that takes no
+/// more memory, the visits of its last call, and the looks of all its calls: every read and write of a node except the making of one, those
+/// of a call's own listener too. What a call adds to them is bounded, and nothing takes from them; they are counted modulo 2^64, which
+/// takes centuries to wrap.
 pub struct List<T, W> {
     nodes: Nodes<T, W>,
     /// Of the chain of the told ones.
@@ -49,7 +53,7 @@ fn task_of<T: Drop, W>(state: State<T, W>) -> Option<W>
     }
 }
 
-/// By hand, so that what a crate above proves of a list that it lets go doesn't go into its nodes.
+/// Written by hand, so that crates above prove nothing about the nodes when they drop a list.
 impl<T: Drop, W: Drop> Drop for List<T, W> {
     fn drop(self) {
         let List {
@@ -107,7 +111,7 @@ impl<T: Drop, W: Drop> List<T, W> {
         self.nodes.find(key, false)
     }
 
-    /// Begins a call whose visits are counted with the same look.
+    /// Begins a call whose visits are counted, with the same look.
     pub(crate) fn begin(&mut self, key: Key) -> Option<bool>
         ensures answer { result ≡ kind_of self.old.lists key }
         ensures lists { self.new.lists ≡ self.old.lists }
@@ -121,9 +125,9 @@ impl<T: Drop, W: Drop> List<T, W> {
         self.nodes.find(key, true)
     }
 
-    /// Takes a listener off, told or waiting as it is said to be. A poll's visits aren't counted.
+    /// Removes a listener, told or waiting as `told` says. A poll's visits aren't counted.
     ///
-    /// It stands out of line, so that a call which takes nobody off is short.
+    /// It is out of line, so that a call which removes nobody is short.
     #[inline(never)]
     pub(crate) fn leave(&mut self, key: Key, told: bool, counted: bool) -> State<T, W>
         requires { kind_of self.old.lists key ≡ Some told }
@@ -147,9 +151,7 @@ impl<T: Drop, W: Drop> List<T, W> {
         }
     }
 
-    /// Begins a registration: stores the task where the listener waits.
-    ///
-    /// It says whether the key is listed, and then whether it is told.
+    /// Begins a registration: stores the task if the listener waits. It answers whether the key is listed, and then whether it is told.
     pub(crate) fn store(&mut self, key: Key, task: W) -> Option<bool>
         ensures answer { result ≡ kind_of self.old.lists key }
         ensures stored { result ≡ Some false → self.new.lists ≡ with_task key task self.old.lists }
@@ -166,9 +168,8 @@ impl<T: Drop, W: Drop> List<T, W> {
 
     /// Adds a listener, which waits behind all others and without a task.
     ///
-    /// Within the room that [`List::reserve`] made it isn't refused for memory. [`ListenError::NoMemory`] comes where
-    /// there was no room and a growth was refused, [`ListenError::SerialsUsedUp`] once all 2^64 - 1 serials were given;
-    /// after either the listeners are as before.
+    /// [`ListenError::NoMemory`] if there was no room and a growth was refused, which can't happen within the room that [`List::reserve`]
+    /// made; [`ListenError::SerialsUsedUp`] once all 2^64 - 1 serials were given. After either the listeners are as before.
     pub fn insert(&mut self) -> Result<Key, ListenError>
         ensures lists { IfOk result (λ key. self.new.lists ≡ listened key self.old.lists) }
         ensures serial { IfOk result (λ key. serial_of key ≡ self.old.serials) }
@@ -199,7 +200,7 @@ impl<T: Drop, W: Drop> List<T, W> {
         }
     }
 
-    /// Tells the first waiting listener, and gives its task.
+    /// Tells the first waiting listener, and returns its task.
     #[inline(always)]
     pub(crate) fn tell_first(&mut self, additional: bool, tag: T) -> Option<W>
         requires waiting { 0 < length self.old.lists.waiting }
@@ -223,14 +224,14 @@ impl<T: Drop, W: Drop> List<T, W> {
             Some(at),
             next,
         );
+        // With the move: the count is the length of the told chain.
         self.told_count += 1;
         task_of(was)
     }
 
-    /// Tells so many of the first waiting listeners, each with the next tag of the notice, and wakes their tasks in order.
+    /// Tells this many of the first waiting listeners, each with the next tag of the notification, and wakes their tasks in order.
     ///
-    /// Each gets its new state in its place, and then they move as one run: all of them, or those before the first that was
-    /// refused its tag.
+    /// Each gets its new state where it is, and then they move as one run: all of them, or those before the first whose tag was refused.
     #[inline(always)]
     pub(crate) fn tell<N: Notification<Tag = T> + Drop, S: Wakes<W>>(
         &mut self,
@@ -287,8 +288,8 @@ impl<T: Drop, W: Drop> List<T, W> {
 
     /// How many are told.
     ///
-    /// They are the first ones in the order of listening: that is the order in which serials are given, and the serials
-    /// of the told and then of the waiting ones ascend. So no key stands in a list twice either.
+    /// They are the first ones in the order of listening: serials are given in that order, and those of the told and then of the waiting
+    /// ones ascend. So no key is listed twice.
     pub fn told(&self) -> usize
         ensures count { result ≡ length self.now.lists.told }
         ensures in_order { IsInOrder self.now.lists self.now.serials }
@@ -303,18 +304,18 @@ impl<T: Drop, W: Drop> List<T, W> {
         self.nodes.len()
     }
 
-    /// How many nodes the last insert, register, remove or notify read or wrote, its own listener's left out.
+    /// How many nodes the last insert, register, remove or notify read or wrote, except its own listener's; 0 before the first such call.
     ///
-    /// Each read and each write of a node counts as one visit. Before the first such call it is 0.
+    /// Each read and each write of a node counts as one visit.
     pub fn last_visits(&self) -> u128
         ensures { result ≡ self.now.visits }
     {
         self.nodes.last() as u128
     }
 
-    /// Makes room for this many more listeners, in all; where there is so much already it isn't refused.
+    /// Makes room for this many more listeners in all; if there is as much already it isn't refused.
     ///
-    /// [`NoMemory`] where a growth was refused; the listeners are then as before.
+    /// [`NoMemory`] if a growth was refused; the listeners are as before.
     pub fn reserve(&mut self, extra: usize) -> Result<(), NoMemory>
         ensures room { OnOk result (extra ≤ self.new.room) }
         ensures kept_room { self.old.room ≤ self.new.room }
@@ -335,7 +336,7 @@ impl<T: Drop, W: Drop> List<T, W> {
         self.nodes.start();
     }
 
-    /// How many a notice for so many moves.
+    /// How many listeners a notification for this many moves.
     pub(crate) fn to_move(&self, additional: bool, count: usize) -> usize
         ensures value { result ≡ moved additional count self.now.lists }
         ensures within { result ≤ length self.now.lists.waiting }

@@ -1,4 +1,6 @@
-//! Listeners of events.
+//! Listeners of events. A listener owns its place on the event's list, and gives it up when it is dropped.
+//!
+//! Every method that takes the list's lock may wait for it: polls, waits, `discard`, and drops.
 ghost use Rattle.std.specs.Prelude.{◌≡◌, ⊤, Result, ℕ, Bool, Option, Some, None, true, false, ◌↔◌, IsTrue, IfOk, IfErr, Ok, Err, is_none};
 ghost use Rattle.std.specs.declared.time.Duration.{Duration as Span};
 ghost use Rattle.std.specs.declared.time.Instant.{Instant as Moment};
@@ -24,7 +26,7 @@ use std::marker::Model;
 use std::sync::{Arc, Wait};
 use std::time::{Clock, Duration, Instant};
 
-/// Why a poll of a listener has neither a tag to give nor one to wait for.
+/// Why a poll of a listener can neither return a tag nor pend.
 #[derive(Clone, Copy, PartialEq, Eq, Debug)]
 pub enum PollFault {
     /// The listener has taken its tag already, so it is on no list. Nothing was changed.
@@ -39,12 +41,12 @@ impl fmt::Display for PollFault {
 
 impl Error for PollFault {}
 
-/// Why a wait didn't begin. It hands the listener back unchanged.
+/// Why a wait didn't begin. It returns the listener unchanged.
 #[derive(Drop)]
 pub enum WaitError<L> {
-    /// What the thread was to sleep on was refused for memory.
+    /// There was no memory for what the thread sleeps on.
     NoMemory(L),
-    /// The listener has taken its tag already, so it is on no list. This is looked at first.
+    /// The listener has taken its tag already, so it is on no list. This is checked first.
     NeverInserted(L),
 }
 
@@ -83,8 +85,8 @@ impl<L> fmt::Debug for WaitError<L> {
 
 /// A listener, which is told once and then has a tag to take.
 ///
-/// It is finished once it has given its tag. One that is dropped unfinished leaves its event; if it was told, its
-/// notice is passed on. As `event-listener` 5.4.2; a poll by hand stands beside its futures.
+/// It is finished once it has given its tag. One that is dropped unfinished leaves its event; if it was told, its notification is passed
+/// on. As `event-listener` 5.4.2, with a poll by hand beside its futures.
 pub trait Listener<T>: Sized {
     /// The identity of its event.
     ghost identity: { Self → ℕ };
@@ -92,31 +94,30 @@ pub trait Listener<T>: Sized {
     /// Whether it has given its tag.
     ghost is_finished: { Self → Bool };
 
-    /// Whether a poll with this waker looked at it, in a section on its list, and found this: its tag, or that it waits.
+    /// Whether a poll with this waker looked at it, in a critical section on its list, and found this: its tag, or that it waits.
     ghost polled: { Self → OfTask → Option T → Type 0 };
 
     /// Whether a wait on it registered and slept so that it got this tag.
     ghost waited: { Self → T → Type 0 };
 
-    /// Whether a wait with this limit on it did, and left so, with its tag or without.
+    /// Whether a wait with this limit did, and left so, with its tag or without.
     ghost waited_for: { Self → Span → Option T → Type 0 };
 
     /// Whether a wait up to this moment did.
     ghost waited_until: { Self → Moment → Option T → Type 0 };
 
-    /// Whether what a thread sleeps on was refused for memory.
+    /// Whether memory for what a thread sleeps on was refused.
     ghost refused: { Self → Type 0 };
 
-    /// Whether it was taken off its list without passing a notice on, in one section, and was told, or was finished before.
+    /// Whether one critical section removed it from its list without passing a notification on, and it was told; or it was finished before.
     ghost discarded: { Self → Bool → Type 0 };
 
-    /// Takes the tag of a told listener; one that waits keeps the waker and wakes it when it is told.
+    /// Takes the tag of a told listener; one that waits keeps the waker, which a notification wakes.
     ///
-    /// `NeverInserted` exactly where it was finished; nothing is changed then. It may wait for the list's lock.
+    /// `NeverInserted` exactly if it was finished; nothing is changed then.
     ///
-    /// A waker wakes its task when it is let go. So a second poll of a waiting listener wakes the task that the first
-    /// one's waker is of, and a poll with another end than pending the task of its own. A listener that is polled as a
-    /// `Future` of `futures` wakes nobody by that.
+    /// A waker wakes its task when it is dropped. So a second poll of a waiting listener wakes the task of the first one's waker, and a
+    /// poll that doesn't pend wakes its own task. Polling a listener as a `Future` of `futures` wakes nobody.
     fn poll(&mut self, waker: Waker) -> Poll<Result<T, PollFault>>
         ensures fault { (result ≡ Poll.Ready (Err PollFault.NeverInserted)) ↔ (is_finished self.old ≡ true) }
         ensures ready { (tag : T) → result ≡ Poll.Ready (Ok tag) → polled self.old waker (Some tag) }
@@ -125,22 +126,22 @@ pub trait Listener<T>: Sized {
         ensures pending { OnPending result (self.new ≡ self.old) }
         ensures event { identity self.new ≡ identity self.old };
 
-    /// Blocks the thread until the listener is told, and gives its tag.
+    /// Blocks the thread until the listener is told, and returns its tag. It may wait for ever.
     ///
-    /// The thread sleeps on a lock and a condition variable of its own, which want memory. It may wait for ever.
+    /// `NoMemory` if there is none for the lock and condition variable that the thread sleeps on.
     fn wait(self) -> Result<T, WaitError<Self>>
         ensures never_inserted { (result ≡ Err (WaitError.NeverInserted self)) ↔ (is_finished self ≡ true) }
         ensures handed_back { IfErr result (λ e. listener_of e ≡ self) }
         ensures no_memory { (l : _) → result ≡ Err (WaitError.NoMemory l) → refused self }
         ensures waited { IfOk result (waited self) };
 
-    /// Blocks the thread until the listener is told or the time is up: its tag, or `None` after the listener has left.
+    /// Blocks the thread until the listener is told or the time is up: its tag, or `None` once it has left.
     ///
-    /// A listener that was told never gives `None`: when the time is up it leaves the list in the very section that finds
-    /// it untold, and passes nothing on. So each listener that a notice counts as told by it takes its tag.
+    /// A listener that was told never gives `None`: when the time is up it leaves the list in the very critical section that finds it not
+    /// told, and passes nothing on. So each listener that a notification counts as told by it takes its tag.
     ///
-    /// The time counts from the call; a timeout of zero doesn't sleep. A clock that can't be read ends the wait as a
-    /// timeout. It may wait for the list's lock besides.
+    /// The time counts from the call, waiting for the list's lock included; a timeout of zero doesn't sleep. A clock that can't be read
+    /// ends the wait as a timeout.
     fn wait_timeout<K: Clock>(
         self,
         clock: &K,
@@ -162,32 +163,29 @@ pub trait Listener<T>: Sized {
         ensures no_memory { (l : _) → result ≡ Err (WaitError.NoMemory l) → refused self }
         ensures waited { IfOk result (waited_until self deadline) };
 
-    /// Leaves the event without passing a notice on: whether it was told and had not given its tag.
-    ///
-    /// It may wait for the list's lock.
+    /// Leaves the event without passing a notification on, and answers whether it was told and had not given its tag.
     fn discard(self) -> bool
         ensures finished { is_finished self ≡ true → result ≡ false }
         ensures discarded { discarded self result };
 
-    /// Whether this is the event that it listens to: whether the identities are equal. It waits for nobody.
+    /// Whether this is the event that it listens to: whether the identities are equal. It never waits.
     ///
-    /// This tells apart events whose identities came from one `EventIds`. Each source begins with the same number, so of an event
-    /// from another source it may be true though it is another one.
+    /// This tells apart events whose identities came from one `EventIds`. Each source begins with the same number, so it may be true of
+    /// another event from another source.
     fn listens_to(&self, event: &Event<T>) -> bool
         ensures { IsTrue result ↔ (identity self.now ≡ event.now.number) };
 
-    /// Whether both listen to one event: whether the identities are equal. It waits for nobody.
+    /// Whether both listen to one event: whether the identities are equal. It never waits.
     ///
-    /// This tells apart events whose identities came from one `EventIds`. Of events from two sources it may be true though they
-    /// are two.
+    /// This tells apart events whose identities came from one `EventIds`. Of events from two sources it may be true though they are two.
     fn same_event(&self, other: &Self) -> bool
         ensures { IsTrue result ↔ (identity self.now ≡ identity other.now) };
 }
 
-/// A listener that stands by itself, apart from its event's lifetime.
+/// A listener of its own, apart from its event's lifetime.
 ///
-/// It has the runtime with it, since its drop takes the list's lock. Contracts see its event's identity and whether it
-/// is finished. As `event-listener` 5.4.2, but that its place is in the list's own memory.
+/// It keeps the runtime, since its drop takes the list's lock. Contracts see its event's identity and whether it is finished. As
+/// `event-listener` 5.4.2, but its node is in the list's own memory.
 pub struct EventListener<T: Drop, R: Wait + Copy, L: Steps<T> = List<T, Task>> {
     place: Place<T, L>,
     rt: R,
@@ -303,11 +301,11 @@ impl<T: Drop, R: Wait + Copy, L: Steps<T>> Future for EventListener<T, R, L> {
 
     ghost use Rattle.event_listener.specs.Listening.{GivesTag};
 
-    // A listener that has given its tag is refused, and no other.
+    // A poll or wait refuses a listener that has given its tag, and no other.
     ghost gives = { GivesTag };
 
     /// As [`Listener::poll`], with the waker of the task that is polled. A second poll wakes nobody.
-    // The trait's clauses say nothing of a section, so behind them stand those of the method itself.
+    // The trait's clauses say nothing of a critical section, so those of the method itself do.
     fn poll(&mut self, cx: &mut Context<'_>) -> Poll<Result<T, PollFault>>
         ensures value { IfReady result (GivesTag self.old) }
         ensures again { OnPending result ⊤ }

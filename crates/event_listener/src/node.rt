@@ -1,4 +1,5 @@
-//! The nodes of a list. Each look at a node, and each change of one, is counted.
+//! The nodes of a list. `Nodes` owns them and counts each look at a node and each change of one: `read` and `write` are the only ways to a
+//! node, so no walk over a list goes uncounted.
 ghost use Rattle.std.specs.Prelude.{◌≡◌, ◌+◌, ◌^◌, ◌<◌, ◌≤◌, [], IsOk, IfOk, OnOk, OnErr, ◌≢◌, ℕ, None, Some};
 ghost use Rattle.std.specs.Borrow.{sem};
 ghost use Rattle.slab.specs.Slab.{get, slab_len, Updates, HasRoomFor, ContainsKey};
@@ -42,12 +43,11 @@ pub(crate) struct Ends {
 
 /// The nodes, and how often they were read or written.
 ///
-/// A node is reached by [`Nodes::read`] and [`Nodes::write`] alone, and all other calls on one are made of these in another file. Both
-/// count in `looks`, whosever the node is, and no call sets that back: so the bound on it holds of what was really looked at. Those that
-/// are said to be counted, which are the visits of a call with a number to nodes that are not its own, count in `last` besides, which each
-/// such call begins. A node is made uncounted, and read where it is taken out.
-/// Both count modulo 2^64, which takes centuries to come round: so to count is one addition in memory. They stand apart,
-/// since side by side they are added to as a pair, and such a read waits until the writes of each by itself are done.
+/// A node is reached by [`Nodes::read`] and [`Nodes::write`] alone; all other calls on nodes are made of these in another module. Both
+/// count in `looks`, whichever listener's the node is, and no call sets that back, so the bound on it holds of what was really looked at.
+/// Counted accesses, which are a call's visits to nodes that are not its own, also count in `last`, which each such call resets. Making a
+/// node isn't counted, and taking it out counts as a read. Both counts wrap modulo 2^64, so that counting is one addition in memory. The
+/// two fields stand apart: side by side they are added to as a pair, and such a read waits for the writes of each.
 #[derive(Drop)]
 pub(crate) struct Nodes<T, W> {
     last: u64,
@@ -95,9 +95,9 @@ impl<T: Drop, W: Drop> Nodes<T, W> {
         }
     }
 
-    /// Reads the node in a place, where one stands.
+    /// Reads the node at this index, if there is one.
     ///
-    /// It is a visit where that is counted and the node is another's: not that of the call's own serial.
+    /// It is a visit if `counted` and the node is another's: its serial is not the call's own.
     #[inline(always)]
     pub(crate) fn read(&mut self, at: usize, own: Option<u64>, counted: bool) -> Option<Seen>
         ensures seen { result ≡ seen (get self.old.slab at) }
@@ -113,7 +113,7 @@ impl<T: Drop, W: Drop> Nodes<T, W> {
         Some(seen)
     }
 
-    /// Writes the node in a place, in any of its parts.
+    /// Writes the node at this index, in any of its parts.
     #[inline(always)]
     pub(crate) fn write(&mut self, at: usize, counted: bool) -> &mut Node<T, W>
         requires present { ContainsKey self.old.slab at }

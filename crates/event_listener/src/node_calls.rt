@@ -1,4 +1,5 @@
-//! The calls on nodes. Each is made of reads and writes, which alone count.
+//! The calls on nodes, each made of counted reads and writes. They reach a node by its index, and compare its serial number if they have a
+//! key.
 ghost use Rattle.std.specs.Prelude.{◌≡◌, ◌≢◌, ◌+◌, ◌≤◌, IfSome, None, Some, false, true, ℕ};
 ghost use Rattle.slab.specs.Slab.{get, slab_len, with_value, ContainsKey};
 ghost use Rattle.event_listener.specs.Nodes.{found, found_looks, found_visits, stored_looks, more, more_if, Stays};
@@ -11,7 +12,7 @@ use std::mem;
 impl<T: Drop, W: Drop> Nodes<T, W> {
     /// Whether the key's node is there, and then whether it is told: one read.
     ///
-    /// The node in its place is the call's own, or that of another listener, at which the read may be a visit.
+    /// The node at the key's index is the call's own, or that of another listener, and then the read may be a visit.
     #[inline(always)]
     pub(crate) fn find(&mut self, key: Key, counted: bool) -> Option<bool>
         ensures answer { result ≡ found (get self.old.slab key.slot) key.serial }
@@ -21,6 +22,7 @@ impl<T: Drop, W: Drop> Nodes<T, W> {
         ensures rest { self.new ≡ record self.old { last = found_visits counted (get self.old.slab key.slot) key.serial self.old.last; looks = found_looks (get self.old.slab key.slot) self.old.looks } }
     {
         let seen = self.read(key.slot, Some(key.serial), counted)?;
+        // The serial, not the index: an index is used again, and the key of a listener that has left must not name another one.
         if seen.serial == key.serial {
             Some(seen.is_told)
         } else {
@@ -28,8 +30,7 @@ impl<T: Drop, W: Drop> Nodes<T, W> {
         }
     }
 
-    /// Begins the number of a call that stores a task, and stores it where the key's node is there and waits: a read, and
-    /// then a write.
+    /// Begins a call that stores a task, and stores it if the key's node is there and waits: a read, and then a write.
     ///
     /// Answers as [`Nodes::find`] does. The older task is dropped.
     #[inline(always)]
@@ -51,7 +52,7 @@ impl<T: Drop, W: Drop> Nodes<T, W> {
         Some(is_told)
     }
 
-    /// Lets a node be followed by another.
+    /// Makes a node be followed by another.
     #[inline(always)]
     pub(crate) fn set_after(&mut self, at: usize, to: Option<usize>, counted: bool)
         requires present { ContainsKey self.old.slab at }
@@ -64,7 +65,7 @@ impl<T: Drop, W: Drop> Nodes<T, W> {
         node.after = to;
     }
 
-    /// Lets a node stand behind another.
+    /// Makes a node be preceded by another.
     #[inline(always)]
     pub(crate) fn set_before(&mut self, at: usize, to: Option<usize>, counted: bool)
         requires present { ContainsKey self.old.slab at }
@@ -77,7 +78,7 @@ impl<T: Drop, W: Drop> Nodes<T, W> {
         node.before = to;
     }
 
-    /// Lets a node stand between these two, by one write.
+    /// Puts a node between these two, by one write.
     #[inline(always)]
     pub(crate) fn set_both(
         &mut self,
@@ -97,7 +98,7 @@ impl<T: Drop, W: Drop> Nodes<T, W> {
         node.after = after;
     }
 
-    /// Gives a node another state, and gives back the one that it had and the node behind it: a read and a write.
+    /// Gives a node another state, and returns the old one and the node behind it: a read and a write.
     #[inline(always)]
     pub(crate) fn restate(
         &mut self,

@@ -1,4 +1,9 @@
-//! What a thread sleeps on until its listener is told.
+//! What a thread sleeps on until its listener is told. The invariant: a ring stays until the one thread that sleeps has heard it, so a ring
+//! before the sleep is not lost.
+//!
+//! # Extensions
+//!
+//! All of this module.
 
 use futures::task::Source;
 use std::sync::atomic::{AtomicBool, Ordering};
@@ -6,11 +11,11 @@ use std::sync::{Condvar, Mutex, Wait};
 use std::time::{Clock, Duration};
 use std::{io, thread};
 
-/// How often a thread looks, and lets others run, before it sleeps: most tellings come sooner than a sleep would begin.
+/// How often a thread looks, and yields, before it sleeps: most notifications come sooner than a sleep would begin.
 const LOOKS: usize = 16;
 
-/// A bell that stays rung until the one thread that sleeps on it has heard it. As the parker of the crate `parking`, over
-/// std's lock and condition variable. Own to this project.
+/// A bell that stays rung until the one thread that sleeps on it has heard it: the parker of the crate `parking`, over std's lock and
+/// condition variable.
 #[derive(Drop)]
 pub struct Parker {
     seal: Source,
@@ -53,34 +58,41 @@ impl Parker {
         }
     }
 
-    /// Sleeps until the bell is rung. It may wait for ever.
+    /// Sleeps until the bell rings. It may wait for ever.
     pub fn sleep<R: Wait>(&self, rt: &R) {
         for _ in 0..LOOKS {
+            // A hint, read without the lock: `is_rung` below decides, so a late value costs a sleep and loses no ring.
             if self.has_rung.load(Ordering::SeqCst) {
                 break;
             }
             thread::yield_now();
         }
+        // Tests and sleeps under one lock, so a ring between the test and the sleep isn't lost.
         let mut is_rung = self
             .rung
             .wait_while(rt, self.is_rung.lock(rt), |is_rung| !*is_rung);
+        // The ring has been heard; the next sleep waits for the next one.
         *is_rung = false;
     }
 
-    /// Sleeps until the bell is rung or the time is up. A clock that can't be read ends the sleep.
+    /// Sleeps until the bell rings or the time is up. A clock that can't be read ends the sleep.
     pub fn sleep_for<R: Wait, K: Clock>(&self, rt: &R, clock: &K, limit: Duration) {
         let timed = Timed { _rt: rt, clock };
         let guard = self.is_rung.lock(rt);
+        // As in `sleep`.
         let (mut is_rung, _) = self
             .rung
             .wait_timeout_while(&timed, guard, limit, |is_rung| !*is_rung);
         *is_rung = false;
     }
 
-    /// Rings the bell, which ends the sleep of the thread, or its next one. It may wait for the bell's lock.
+    /// Rings the bell, which ends the thread's sleep, or its next one. It may wait for the bell's lock.
     pub fn ring<R: Wait>(&self, rt: &R) {
+        // Before the lock, so that a thread that still looks stops looking. It is never cleared, since each wait makes a parker of its own.
         self.has_rung.store(true, Ordering::SeqCst);
+        // Set under the lock and before the notification: a thread that has found it false is asleep when this thread gets the lock.
         *self.is_rung.lock(rt) = true;
+        // One: no other thread sleeps here.
         self.rung.notify_one();
     }
 }

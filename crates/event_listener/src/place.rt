@@ -1,4 +1,5 @@
-//! A listener's place in the list of its event.
+//! A listener's place in the list of its event. `Place` owns the listener: it is on the list until its tag is taken or it leaves, and each
+//! access is one critical section.
 ghost use Rattle.std.specs.Prelude.{◌≡◌, ◌↔◌, IsTrue, IfOk, IfErr, OnErr, Ok, Err, Some, None, is_none, true, false};
 ghost use Rattle.std.specs.Arc.{arc_value};
 ghost use Rattle.std.specs.Duration.{as_nanos};
@@ -24,12 +25,12 @@ use std::alloc::Global;
 use std::sync::{Arc, Wait};
 use std::time::{Clock, Duration, Instant};
 
-/// Where a listener stands: its event's list, its place there until it is finished, and the cell of its task.
+/// A listener's place: its event's list, its key there until it is finished, and the cell of its task.
 ///
-/// It is without the runtime, so its questions can't wait for anybody. It has no drop: who lets a listener go takes it off the list.
+/// It is without the runtime, so its questions can't wait. It has no drop, so a listener can't be dropped without leaving the list.
 pub(crate) struct Place<T, L> {
     home: Arc<Home<T, L>>,
-    // Kept here and not read in the list, which lies in a `OnceLock`: of what lies there a proof knows the type alone.
+    // Kept here and not read in the list, which is in a `OnceLock`: of what is there a proof knows the type alone.
     pub(crate) event: u64,
     cell: Arc<WakerCell>,
     listed: Listed,
@@ -37,8 +38,8 @@ pub(crate) struct Place<T, L> {
 }
 
 impl<T: Drop, L: Steps<T>> Place<T, L> {
-    /// A new place at the end of the list of the event with this number, with the cell as its task. The list is as before where it is
-    /// refused.
+    /// A new place at the end of the list of the event with this number, with the cell as its task. If it is refused, the list is as
+    /// before.
     pub(crate) fn open<R: Wait>(
         rt: &R,
         begun: Begun<'_, T, L>,
@@ -51,6 +52,7 @@ impl<T: Drop, L: Steps<T>> Place<T, L> {
         ensures listens { IfOk result (λ made. Listened L.did (seen made)) }
         ensures refused { IfErr result (RefusesToListen L.did L.holds L.refused begun.entry.homes.now.once.id) }
     {
+        // Before the list is touched: a refusal then leaves no listener behind.
         let Ok(task) = L::share_again(&cell) else {
             return Err(ListenError::NoMemory);
         };
@@ -74,7 +76,7 @@ impl<T: Drop, L: Steps<T>> Place<T, L> {
         self.listed.is_off()
     }
 
-    /// Takes the tag of a told listener, or keeps the waker for its telling.
+    /// Takes the tag of a told listener, or keeps the waker for its notification.
     pub(crate) fn poll<R: Wait>(&mut self, rt: &R, waker: Waker) -> Poll<Result<T, PollFault>>
         ensures fault { (result ≡ Poll.Ready (Err PollFault.NeverInserted)) ↔ (is_none self.old.listed.key ≡ true) }
         ensures ready { (tag : T) → result ≡ Poll.Ready (Ok tag) → Polled L.did (seen self.old) waker (Some tag) }
@@ -118,7 +120,7 @@ impl<T: Drop, L: Steps<T>> Place<T, L> {
         }
     }
 
-    /// What a thread sleeps on until the listener is told, for the list and for the thread.
+    /// What a thread sleeps on until the listener is told, once for the list and once for the thread.
     pub(crate) fn new_parker(&self) -> Result<(Arc<Parker>, Arc<Parker>), NoMemory>
         ensures same { IfOk result (λ both. arc_value both.0 ≡ arc_value both.1) }
         ensures refused { OnErr result L.refused }
@@ -133,6 +135,7 @@ impl<T: Drop, L: Steps<T>> Place<T, L> {
         requires same { arc_value task ≡ parker.now }
         ensures waited { Waited L.did L.slept (seen self.old) result }
     {
+        // Register before the sleep: a notification from here on rings the parker.
         match self.home.turn().park(rt, &mut self.listed, task) {
             Some(tag) => tag,
             None => self.sleep_until_told(rt, parker),
@@ -146,7 +149,9 @@ impl<T: Drop, L: Steps<T>> Place<T, L> {
         ensures looked { (key : Key) × (self.old.listed.key ≡ Some key) × OnSome L.did (seen self.old).list (looks key (parker_of parker.now) (Some result)) }
     {
         for _ in rt.forever() {
+            // The parker stays rung until it is slept on, so a ring since the registration ends this sleep at once.
             L::sleep(rt, self.home.seal(), self.listed.key(), parker);
+            // Look again: the list alone says whether the listener was told.
             if let Some(tag) = self.home.turn().look(rt, &mut self.listed, parker) {
                 return tag;
             }
@@ -154,8 +159,8 @@ impl<T: Drop, L: Steps<T>> Place<T, L> {
         unreachable!()
     }
 
-    /// Sleeps until the listener is told or the time is up, and leaves the list: with its tag if it was told. The time counts from here,
-    /// so what is waited for on the way is in it.
+    /// Sleeps until the listener is told or the time is up, and leaves the list, with its tag if it was told. The time counts from here, so
+    /// waiting for the lock is part of it.
     pub(crate) fn wait_for<R: Wait, K: Clock>(
         &mut self,
         rt: &R,
@@ -170,12 +175,13 @@ impl<T: Drop, L: Steps<T>> Place<T, L> {
         ensures left { is_none self.new.listed.key ≡ true }
     {
         let begun = L::now(clock);
+        // Register before the sleep, as in `wait`.
         if let Some(tag) = self.home.turn().park(rt, &mut self.listed, task) {
             return Some(tag);
         }
         self.sleep_out(rt, parker, clock, begun, timeout);
-        // The look and the leaving are one section: a notice that reaches the listener before it leaves is in the answer, and none
-        // reaches it afterwards.
+        // The look and the removal are one critical section: a notification that reaches the listener before it leaves is in the answer,
+        // and none reaches it afterwards.
         let turn = self.home.turn();
         turn.leave(rt, &mut self.listed, parker, timeout)
     }
@@ -200,7 +206,7 @@ impl<T: Drop, L: Steps<T>> Place<T, L> {
         }
     }
 
-    /// Leaves the list, where it is on it: whether it was told. A told one may pass its notice on.
+    /// Leaves the list, if it is on it, and answers whether it was told. A told one may pass its notification on.
     pub(crate) fn leave<R: Wait>(self, rt: &R, pass_on: bool) -> bool
         ensures { LeftSo L.did (seen self) pass_on result }
     {
@@ -211,6 +217,7 @@ impl<T: Drop, L: Steps<T>> Place<T, L> {
             listed,
             alloc: _,
         } = self;
+        // A listener that gave its tag has left already, and passes nothing on.
         if listed.is_off() {
             listed.end();
             return false;
@@ -233,7 +240,7 @@ impl<T: Drop, L: Steps<T>> Place<T, L> {
     }
 }
 
-// What is left of the time, where the clock read so at the beginning and so later; nothing where it can't be read.
+// What is left of the time, by two readings of the clock; nothing if it couldn't be read.
 fn time_left(begun: Option<Instant>, later: Option<Instant>, timeout: Duration) -> Duration
     ensures { as_nanos result ≡ left_of begun later timeout }
 {

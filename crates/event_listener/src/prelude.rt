@@ -1,4 +1,4 @@
-//! The traits whose methods are called on notices and on listeners. As `event-listener` 5.4.2.
+//! The traits whose methods are called on notifications and on listeners. As `event-listener` 5.4.2.
 
 pub use crate::into_notification::IntoNotification;
 pub use crate::listener::Listener;

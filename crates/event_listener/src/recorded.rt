@@ -1,4 +1,11 @@
 //! An event that keeps a record of its calls.
+//!
+//! Every call takes the event's lock, and may wait for it. The invariant behind the lock: the record leads from an empty list to the list
+//! as it is, call by call and answer by answer.
+//!
+//! # Extensions
+//!
+//! All of this module.
 ghost use Rattle.std.specs.Prelude.{◌≡◌, ◌+◌, ◌≤◌, ◌<◌, length, OnErr, OnOk, Ok, Some, None, List as Names};
 ghost use Rattle.event_listener.specs.Drawing.{TellsOrNone};
 ghost use Rattle.event_listener.specs.Lists.{told_by};
@@ -29,7 +36,7 @@ pub enum RecordedCall<T, W> {
         /// Its key.
         key: Key,
     },
-    /// A listener was registered: a told one was taken off, one that waits got the task.
+    /// A listener was registered: a told one was removed, one that waits got the task.
     Registered {
         /// Whose task it is.
         key: Key,
@@ -38,25 +45,25 @@ pub enum RecordedCall<T, W> {
         /// The tag of a told one.
         tag: Option<T>,
     },
-    /// A told listener was polled, and so taken off.
+    /// A told listener was polled, and so removed.
     Polled {
         /// Whose tag it is.
         key: Key,
         /// Its tag.
         tag: T,
     },
-    /// A listener was taken off.
+    /// A listener was removed.
     Removed {
         /// Which one.
         key: Key,
-        /// Whether a notice was to be passed on.
+        /// Whether a notification was to be passed on.
         pass_on: bool,
         /// Whether it was told.
         told: bool,
     },
     /// Listeners were told.
     Notified {
-        /// How many the notice was for.
+        /// How many the notification was for.
         count: usize,
         /// Whether it was additional.
         additional: bool,
@@ -70,7 +77,7 @@ pub enum RecordedCall<T, W> {
 /// Why a registration was refused. Nothing was changed.
 #[derive(Clone, Copy, PartialEq, Eq, Debug)]
 pub enum RegisterError {
-    /// Room for the record was refused.
+    /// There was no room for the record.
     NoMemory,
     /// The key names no listener of the event.
     UnknownListener,
@@ -89,13 +96,11 @@ impl Error for RegisterError {}
 
 /// A list of listeners under one lock, with a record of what was done to it.
 ///
-/// The record leads from an empty list to the list as it stands, call by call and answer by answer: that holds each
-/// time the lock is taken. Room for a record is taken before a call changes anything, and room for a listener's end
-/// when it listens, so that no listener is kept by want of memory. Own to this project.
+/// Room for an entry is reserved before a call changes anything, and room for a listener's end when it is added, so that a listener can
+/// always leave.
 ///
-/// It is used in a function over its ledger `L`, whose book is this event's alone. A call that may add an entry takes a
-/// share of the ledger, and adds one to its amount where it adds an entry. So who gathers all parts knows how many
-/// entries the record has.
+/// It is used in a function over its ledger `L`, whose book is this event's alone. A call that may add an entry takes a share of the
+/// ledger, and adds one to its amount if it adds an entry. So the owner of all shares knows how many entries the record has.
 #[derive(Drop)]
 pub struct RecordedEvent<T: Copy, W: Copy, L: Ledger, C = Counted<T, W, L>> {
     alloc: Global,
@@ -117,9 +122,9 @@ impl<T: Copy, W: Copy, L: Ledger> RecordedEvent<T, W, L> {
 }
 
 impl<T: Copy, W: Copy, L: Ledger, C: Records<T, W, L>> RecordedEvent<T, W, L, C> {
-    /// Adds a listener, which waits without a task. It is counted where it is not refused.
+    /// Adds a listener, which waits without a task. It is counted if it is not refused.
     ///
-    /// Refused for memory, of the list or of the record, or where all serials were given. It may wait for the lock.
+    /// `Err` for want of memory, of the list or of the record, or if all serials were given.
     pub fn insert<R: Wait>(&self, rt: &R, mine: &mut Share<L>) -> Result<Key, ListenError>
         requires { 0 < mine.old.parts }
         ensures counted { OnOk result (mine.new.amount ≡ mine.old.amount + 1) }
@@ -130,9 +135,8 @@ impl<T: Copy, W: Copy, L: Ledger, C: Records<T, W, L>> RecordedEvent<T, W, L, C>
         self.inner.lock(rt).insert(mine)
     }
 
-    /// Takes a told listener off, or stores the task of one that waits. It is counted where it is not refused.
-    ///
-    /// A told one is never refused for memory. It may wait for the lock.
+    /// Removes a told listener, or stores the task of one that waits. It is counted if it is not refused. A told one is never refused for
+    /// memory.
     pub fn register<R: Wait>(
         &self,
         rt: &R,
@@ -149,8 +153,7 @@ impl<T: Copy, W: Copy, L: Ledger, C: Records<T, W, L>> RecordedEvent<T, W, L, C>
         self.inner.lock(rt).register(mine, key, task)
     }
 
-    /// Takes a told listener off and gives its tag, which is counted; `None` while it waits, which isn't. It may wait for
-    /// the lock.
+    /// Removes a told listener and returns its tag, which is counted; `None` while it waits, which isn't.
     pub fn poll<R: Wait>(
         &self,
         rt: &R,
@@ -167,8 +170,8 @@ impl<T: Copy, W: Copy, L: Ledger, C: Records<T, W, L>> RecordedEvent<T, W, L, C>
         self.inner.lock(rt).poll(mine, key)
     }
 
-    /// Takes a listener off: whether it was told. A told one may pass its notice on. It is counted where the key names a
-    /// listener. It may wait for the lock.
+    /// Removes a listener, and answers whether it was told. A told one may pass its notification on. It is counted if the key names a
+    /// listener.
     pub fn remove<R: Wait, S: Wakes<W>>(
         &self,
         rt: &R,
@@ -186,10 +189,10 @@ impl<T: Copy, W: Copy, L: Ledger, C: Records<T, W, L>> RecordedEvent<T, W, L, C>
         self.inner.lock(rt).remove(mine, key, pass_on, sink)
     }
 
-    /// Tells listeners, as [`Event::notify`](crate::event::Event::notify); their tasks go to the sink, in order. It is
-    /// counted where it told anybody.
+    /// Tells listeners, as [`Event::notify`](crate::event::Event::notify); their tasks go to the sink, in order. It is counted if it told
+    /// anybody.
     ///
-    /// Refused for room of the record before anybody is told, or where a tag is. It may wait for the lock.
+    /// `Err` if room for the record is refused, before anybody is told, or if a tag is.
     pub fn notify<N: IntoNotification<Tag = T>, R: Wait, S: Wakes<W>>(
         &self,
         rt: &R,
@@ -210,33 +213,32 @@ impl<T: Copy, W: Copy, L: Ledger, C: Records<T, W, L>> RecordedEvent<T, W, L, C>
         self.inner.lock(rt).notify(self.alloc, mine, notice, sink)
     }
 
-    /// Makes room for so many more listeners, for their records and their ends. It may wait for the lock.
+    /// Makes room for this many more listeners, their records and their ends.
     pub fn reserve<R: Wait>(&self, rt: &R, extra: usize) -> Result<(), NoMemory>
         ensures { OnRecord C.did (makes_room extra result) }
     {
         self.inner.lock(rt).reserve(extra)
     }
 
-    /// How many are listed. It may wait for the lock.
+    /// How many are listed.
     pub fn total<R: Wait>(&self, rt: &R) -> usize
         ensures { OnRecord C.did (counts_all result) }
     {
         self.inner.lock(rt).total()
     }
 
-    /// How many are told. It may wait for the lock.
+    /// How many are told.
     pub fn told<R: Wait>(&self, rt: &R) -> usize
         ensures { OnRecord C.did (counts_told result) }
     {
         self.inner.lock(rt).told()
     }
 
-    /// The list as it stands at the event's end, and the record that leads there from an empty one, in which each new
-    /// listener's key is one that was never given before. Both are those that the calls of this event left. The book's total is the number of
-    /// the entries.
+    /// The list at the event's end, and the record that leads there from an empty one, in which each new listener's key is one that was
+    /// never given before. Both are those that the calls of this event left. The book's total is the number of entries.
     ///
-    /// Who has all parts of the ledger learns by `Book::audit` that this is the amount of its share: as many calls as
-    /// changed the list.
+    /// By `Book::audit` the owner of all parts of the ledger learns that this is the amount of its share: as many calls as changed the
+    /// list.
     pub fn into_parts(self) -> (List<T, W>, Vec<RecordedCall<T, W>>, Book<L>)
         ensures stored { (found : C) × C.parted found result.0 result.1.items }
         ensures replays { Replays nobody 0 result.1.items result.0.lists result.0.serials }

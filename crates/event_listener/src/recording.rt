@@ -1,4 +1,5 @@
-//! A list of listeners with the record of its calls.
+//! A list of listeners with the record of its calls. Room for an entry is reserved before the list is changed, so the record is always
+//! complete.
 ghost use Rattle.std.specs.Prelude.{◌≡◌, ◌+◌, ◌≤◌, ◌<◌, ◌↔◌, length, IfOk, OnErr, OnOk, IfErr, IsOk, Ok, Err, Some, None, true, false, [], take, vec_len};
 ghost use Rattle.std.specs.Vec.{vec_capacity};
 ghost use Rattle.event_listener.specs.Lists.{kind_of, register_answer, poll_answer, remove_answer, removed_wakes, tasks_of, told_by, moved};
@@ -48,7 +49,7 @@ impl<T: Copy, W: Copy> Recording<T, W> {
         }
     }
 
-    /// Adds a listener, and takes room for its record and for that of its end.
+    /// Adds a listener, and reserves room for its record and for that of its end.
     pub(crate) fn insert(&mut self) -> Result<Key, ListenError>
         ensures recorded { IfOk result (λ key. self.new ≡ recorded (RecordedCall.Listened key) self.old) }
         ensures unchanged { OnErr result (self.new ≡ self.old) }
@@ -67,7 +68,7 @@ impl<T: Copy, W: Copy> Recording<T, W> {
         }
     }
 
-    /// Takes a told listener off, or stores the task of one that waits, for which it takes room.
+    /// Removes a told listener, or stores the task of one that waits, for which it reserves room.
     pub(crate) fn register(&mut self, key: Key, task: W) -> Result<Registered<T>, RegisterError>
         ensures answer { IfOk result (λ answer. register_answer key self.old.lists ≡ Ok answer) }
         ensures recorded { IfOk result (λ answer. self.new ≡ recorded (RecordedCall.Registered key task (tag_found answer)) self.old) }
@@ -82,7 +83,7 @@ impl<T: Copy, W: Copy> Recording<T, W> {
         }
     }
 
-    // Takes a told listener off; the room for its record was taken when it listened.
+    // Removes a told listener; the room for its record was reserved when it was added.
     fn register_told(&mut self, key: Key, task: W) -> Registered<T>
         requires { kind_of self.old.lists key ≡ Some true }
         ensures answer { register_answer key self.old.lists ≡ Ok result }
@@ -123,7 +124,7 @@ impl<T: Copy, W: Copy> Recording<T, W> {
         Ok(Registered::Waiting)
     }
 
-    /// Takes a told listener off; the room for its record was taken when it listened.
+    /// Removes a told listener; the room for its record was reserved when it was added.
     pub(crate) fn poll(&mut self, key: Key) -> Result<Option<T>, UnknownListener>
         ensures answer { result ≡ poll_answer key self.old.lists }
         ensures recorded { (tag : T) → result ≡ Ok (Some tag) → self.new ≡ recorded (RecordedCall.Polled key tag) self.old }
@@ -140,7 +141,7 @@ impl<T: Copy, W: Copy> Recording<T, W> {
         }
     }
 
-    /// Takes a listener off; the room for its record was taken when it listened.
+    /// Removes a listener; the room for its record was reserved when it was added.
     pub(crate) fn remove<S: Wakes<W>>(
         &mut self,
         key: Key,
@@ -162,7 +163,7 @@ impl<T: Copy, W: Copy> Recording<T, W> {
         }
     }
 
-    /// Tells listeners, for whose tags and whose record it takes room first.
+    /// Tells listeners, for whose tags and whose record it reserves room first.
     pub(crate) fn notify<N: Notification<Tag = T> + Drop, S: Wakes<W>>(
         &mut self,
         alloc: Global,
@@ -242,7 +243,7 @@ impl<T: Copy, W: Copy> Recording<T, W> {
     }
 }
 
-// The first tags of a notice, at most so many, for the record and for the list. No tag is drawn where room is refused.
+// The first tags of a notification, at most so many, for the record and for the list. No tag is drawn if room is refused.
 fn draw<N: Notification>(
     alloc: Global,
     notice: &mut N,

@@ -1,4 +1,9 @@
-//! What stands behind the lock of a recorded event, by what is done to it in a section.
+//! What is behind the lock of a recorded event, by what is done to it in a critical section. The recorded event reaches it by these methods
+//! alone.
+//!
+//! # Extensions
+//!
+//! All of this module.
 ghost use Rattle.std.specs.Prelude.{◌≡◌, length, ◌+◌, ◌≤◌, ◌<◌, OnErr, OnOk, Ok, Some, None, List as Names};
 ghost use Rattle.event_listener.specs.Drawing.{TellsOrNone};
 ghost use Rattle.event_listener.specs.Lists.{told_by};
@@ -18,9 +23,8 @@ use crate::wakes::Wakes;
 use std::alloc::Global;
 use std::sync::ledger::{Book, Ledger, Share};
 
-/// A list with its record and the book that counts its entries. Each method says of itself that this was done, with this answer, and nothing
-/// else. So a call over records of which nothing is known but this can be shown to have made a section only where it made it. Own to this
-/// project.
+/// A list with its record and the book that counts its entries. Each method's contract says that this was done, with this answer, and
+/// nothing else. So over records of which nothing is known but this, a call's contract shows that it made the section.
 pub trait Records<T: Copy, W: Copy, L: Ledger>: Drop {
     /// Whether this was done to the one record, so that it is the other.
     ghost did: { Section T W → Self → Self → Type 0 };
@@ -36,7 +40,7 @@ pub trait Records<T: Copy, W: Copy, L: Ledger>: Drop {
         ensures uncounted { OnErr result (mine.new.amount ≡ mine.old.amount) }
         ensures parts { mine.new.parts ≡ mine.old.parts };
 
-    /// Takes a told listener off, or stores the task of one that waits.
+    /// Removes a told listener, or stores the task of one that waits.
     fn register(
         &mut self,
         mine: &mut Share<L>,
@@ -49,7 +53,7 @@ pub trait Records<T: Copy, W: Copy, L: Ledger>: Drop {
         ensures uncounted { OnErr result (mine.new.amount ≡ mine.old.amount) }
         ensures parts { mine.new.parts ≡ mine.old.parts };
 
-    /// Takes a told listener off.
+    /// Removes a told listener.
     fn poll(&mut self, mine: &mut Share<L>, key: Key) -> Result<Option<T>, UnknownListener>
         requires { 0 < mine.old.parts }
         ensures did { did (polls key result) self.old self.new }
@@ -58,7 +62,7 @@ pub trait Records<T: Copy, W: Copy, L: Ledger>: Drop {
         ensures uncounted { OnErr result (mine.new.amount ≡ mine.old.amount) }
         ensures parts { mine.new.parts ≡ mine.old.parts };
 
-    /// Takes a listener off.
+    /// Removes a listener.
     fn remove<S: Wakes<W>>(
         &mut self,
         mine: &mut Share<L>,

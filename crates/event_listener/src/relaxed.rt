@@ -1,15 +1,14 @@
-//! Relaxed notices.
+//! Relaxed notifications.
 
 use crate::error::NoMemory;
 use crate::notify::Notification;
 
-/// The same notice, which promises no order of its own among the steps of other threads.
+/// The same notification, which promises no order of its own among the steps of other threads.
 ///
-/// Here all steps are in one order, so a relaxed notice is the notice itself. As `event-listener` 5.4.2, whose relaxed
-/// notices leave out a fence.
+/// Here all steps have one order, so a relaxed notification is a plain one; that of `event-listener` 5.4.2 leaves out a fence.
 #[derive(Drop)]
 pub struct Relaxed<N> {
-    /// The notice whose number, kind and tags these are.
+    /// The notification whose number, kind and tags these are.
     pub inner: N,
 }
 

@@ -1,4 +1,9 @@
-//! Whole lists of calls, made one after another.
+//! Whole lists of calls on a list of one owner, made one after another. Nothing comes between them, so the run's effect and answers are
+//! those of the calls.
+//!
+//! # Extensions
+//!
+//! All of this module.
 ghost use Rattle.std.specs.Prelude.{◌≡◌, ◌*◌, ◌≤◌, [], false, length, take, MatchResult, ◌∷◌};
 ghost use Rattle.event_listener.specs.Lists.{notified, tasks_of, polled, poll_answer, registration, register_answer, removed, remove_answer};
 ghost use Rattle.event_listener.specs.Notices.{Woken};
@@ -44,16 +49,16 @@ pub enum ListCall<T, W> {
     Remove {
         /// The listener that leaves.
         listener: Target,
-        /// Whether it passes its notice on, where it was told.
+        /// Whether it passes its notification on if it was told.
         pass_on: bool,
     },
-    /// [`List::notify`] of a notice that hands out these tags, and is refused the next one where they run out.
+    /// [`List::notify`] of a notification that gives these tags, and is refused the next one when they run out.
     Notify {
         /// How many listeners it is for.
         count: usize,
-        /// Whether it counts those alone that it tells itself.
+        /// Whether it counts only those that it tells itself.
         additional: bool,
-        /// The tags that it hands out, the first one first.
+        /// The tags that it gives, the first one first.
         tags: VecDeque<T>,
     },
     /// [`List::reserve`].
@@ -89,7 +94,7 @@ pub struct ListRun<T> {
     pub stopped: Option<NoMemory>,
 }
 
-/// A notice that hands out tags from a list.
+/// A notification that gives tags from a list.
 #[derive(Drop)]
 struct Tags<T> {
     count: usize,
@@ -253,10 +258,10 @@ impl<T: Drop, W: Drop> List<T, W> {
         }
     }
 
-    /// Makes these calls one after another, and takes each out of the list before it is made.
+    /// Makes these calls one after another, and removes each from the list before it is made.
     ///
-    /// Stops before its end only where the room for a reply was refused; that call then stays in front, and it and
-    /// those behind it changed nothing. What a call answers stops no run. Own to this project.
+    /// It stops early only if room for a reply was refused; that call then stays in front, and it and those behind it changed nothing. No
+    /// answer of a call stops a run.
     pub fn run<S: Wakes<W>>(
         &mut self,
         alloc: Global,

@@ -1,23 +1,27 @@
-//! A value behind a lock on which each call is one section by type.
+//! A value behind a lock, on which each call makes one critical section, by its type.
 //!
-//! Who is to change the value is handed a [`Section`], the right to take the lock once: it can't be copied, and taking the lock uses
-//! it up. What it gets by that gives the lock back where it ends, and hands it to nobody. So a function that is handed one right and
-//! not the [`Locked`] makes one section, and a body of it with two is no program.
+//! A function that is to change the value is given a [`Section`], the right to take the lock once: it can't be copied, and taking the lock
+//! uses it up. What it gets for that releases the lock when it ends. So a function with one right, and without the [`Locked`], makes one
+//! section; a body with two does not type-check.
+//!
+//! # Extensions
+//!
+//! All of this module.
 
 use std::sync::{Mutex, MutexGuard, Wait};
 
-/// A value behind a lock. Own to this project.
+/// A value behind a lock.
 #[derive(Drop)]
 pub struct Locked<L> {
     value: Mutex<L>,
 }
 
-/// The right to one section. It has no drop, so who has it makes the section. Own to this project.
+/// The right to one critical section. It has no drop, so a function that has it makes the section.
 pub struct Section<'a, L> {
     value: &'a Mutex<L>,
 }
 
-/// A section that has begun: the lock is this thread's until this is let go. Own to this project.
+/// A critical section that has begun: the lock is this thread's until this is dropped.
 #[derive(Drop)]
 pub struct Inside<'a, L> {
     guard: MutexGuard<'a, L>,
@@ -31,7 +35,7 @@ impl<L> Locked<L> {
         }
     }
 
-    /// The right to one section. It waits for nobody.
+    /// The right to one critical section. It never waits.
     #[inline(always)]
     pub fn section(&self) -> Section<'_, L> {
         Section { value: &self.value }
@@ -39,18 +43,19 @@ impl<L> Locked<L> {
 }
 
 impl<'a, L> Section<'a, L> {
-    /// Takes the lock, which this alone does. It may wait for the lock.
+    /// Takes the lock, which nothing else does. It may wait for the lock.
     #[inline(always)]
     pub fn enter<R: Wait>(self, rt: &R) -> Inside<'a, L> {
         let Section { value } = self;
         Inside {
+            // This right is used up, so the function that has it can't lock twice; the guard unlocks when it is dropped.
             guard: value.lock(rt),
         }
     }
 }
 
 impl<'a, L> Inside<'a, L> {
-    /// The value, as it stands.
+    /// The value behind the lock.
     #[inline(always)]
     pub fn value(&mut self) -> &mut L {
         &mut self.guard

@@ -1,4 +1,5 @@
-//! Listeners that live no longer than their event, and the macro that makes one.
+//! Listeners that live no longer than their event, and the macro that makes one. A listener owns its place on the list, as an
+//! `EventListener` does, and borrows the event.
 ghost use Rattle.std.specs.Prelude.{◌≡◌, ⊤, Result, ◌↔◌, Some, None, true, false, is_none, IfOk, IfErr, OnErr, Ok, Err};
 ghost use Rattle.futures.specs.Poll.{OnPending, IfReady};
 ghost use Rattle.futures.specs.Task.{Covers, IsArmed, Keeps};
@@ -19,8 +20,7 @@ use std::time::{Clock, Duration, Instant};
 
 /// The place of a listener that lives no longer than its event.
 ///
-/// It has the runtime with it, for its listeners. As `event-listener` 5.4.2, but that the node itself is in the list's
-/// memory, so that nothing is pinned.
+/// It keeps the runtime for its listeners. As `event-listener` 5.4.2, but the node itself is in the list's memory, so nothing is pinned.
 #[derive(Drop)]
 pub struct StackSlot<'ev, T, R: Wait + Copy, L = List<T, Task>> {
     rt: R,
@@ -38,9 +38,7 @@ impl<'ev, T, R: Wait + Copy, L> Model for StackSlot<'ev, T, R, L> {
 }
 
 impl<'ev, T: Drop, R: Wait + Copy, L: Steps<T>> StackSlot<'ev, T, R, L> {
-    /// A slot for listeners of this event, with what the first of them needs to be woken.
-    ///
-    /// Refused where that was refused for memory.
+    /// A slot for listeners of this event, with what the first of them needs to be woken. `Err` if there is no memory for that.
     pub fn new(rt: R, alloc: Global, event: &'ev Event<T, L>) -> Result<Self, NoMemory>
         ensures slot { IfOk result (λ slot. slot ≡ event.now) }
         ensures refused { OnErr result L.refused }
@@ -168,7 +166,7 @@ impl<'ev, T: Drop, R: Wait + Copy, L: Steps<T>> Future for StackListener<'ev, T,
     ghost gives = { GivesTag };
 
     /// As [`Listener::poll`], with the waker of the task that is polled. A second poll wakes nobody.
-    // The trait's clauses say nothing of a section, so behind them stand those of the method itself.
+    // The trait's clauses say nothing of a critical section, so those of the method itself do.
     fn poll(&mut self, cx: &mut Context<'_>) -> Poll<Result<T, PollFault>>
         ensures value { IfReady result (GivesTag self.old) }
         ensures again { OnPending result ⊤ }
@@ -186,7 +184,7 @@ impl<'ev, T: Drop, R: Wait + Copy, L: Steps<T>> Future for StackListener<'ev, T,
     }
 }
 
-// The listener that a wait hands back, in its slot again.
+// The listener that a wait returns, in its slot again.
 fn in_slot<'ev, T: Drop, R: Wait + Copy, L: Steps<T>>(
     event: &'ev Event<T, L>,
     error: WaitError<EventListener<T, R, L>>,
@@ -200,11 +198,11 @@ fn in_slot<'ev, T: Drop, R: Wait + Copy, L: Steps<T>>(
     }
 }
 
-/// A listener of the event under the name: `listener!(rt, alloc, event => name)`, where `event` is the event itself and not a
-/// reference to it. The name is bound `mut`, so that it can be polled and let go by name.
+/// A listener of the event under the name: `listener!(rt, alloc, event => name)`, where `event` is the event itself and not a reference to
+/// it. The name is bound `mut`, so that it can be polled, and dropped by name.
 ///
-/// It writes `let` statements that end in `?`, so it stands in a function whose error is made of [`NoMemory`] and of
-/// [`ListenError`]. As `event-listener` 5.4.2, but for the runtime and the refusals.
+/// It writes `let` statements that end in `?`, so it is used in a function whose error is made of [`NoMemory`] and of [`ListenError`]. As
+/// `event-listener` 5.4.2, but for the runtime and the refusals.
 #[macro_export]
 macro_rules! listener {
     ($rt:expr, $alloc:expr, $event:expr => $name:ident) => {

@@ -1,7 +1,11 @@
-//! The steps that the calls of an event and of its listeners are made of: sections on its list, and what a wait does between them.
+//! The steps that the calls of an event and of its listeners are made of: critical sections on its list, and what a wait does between them.
 //!
 //! The calls are written over any type of lists that has these steps. Each method's contract says that this very step was made, with this
-//! answer, by relations of which nothing else is known. So a call's contract, which names its steps, can be met only by making them.
+//! answer, by relations of which nothing else is known. So a call whose contract names its steps can meet it only by making them.
+//!
+//! # Extensions
+//!
+//! All of this module.
 ghost use Rattle.std.specs.Prelude.{◌≡◌, ℕ, Option, Some, None, IfOk, OnErr, IfSome, IfNone};
 ghost use Rattle.std.specs.Arc.{arc_value};
 ghost use Rattle.std.specs.declared.time.Duration.{Duration as Span};
@@ -25,10 +29,10 @@ use std::alloc::Global;
 use std::sync::{Arc, OnceLock, OnceToken, Wait};
 use std::time::{Clock, Duration, Instant};
 
-/// A list of the listeners of one event, by the steps that are made on it and for it. A [`List`] is one, and the list of each event. Own to
-/// this project.
+/// A list of the listeners of one event, by the steps that are made on it and for it. [`List`] implements it, and an ordinary event has a
+/// [`List`].
 ///
-/// A section is handed the right to one step on its list, which names the list by its seal. So what two steps do is no section.
+/// A section is given the right to one step on its list, which names the list by its seal. So a body with two steps is no section.
 pub trait Steps<T>: Drop {
     /// Whether this was done to the list with this seal, so that the one became the other.
     ghost did: { ℕ → Section T → Self → Self → Type 0 };
@@ -36,26 +40,25 @@ pub trait Steps<T>: Drop {
     /// Whether the list of an event may begin so.
     ghost begins: { Self → Type 0 };
 
-    /// Whether an event's lock of this name was seen to keep the list with this seal.
+    /// Whether the place of this name was seen to have the list with this seal.
     ghost holds: { ℕ → ℕ → Type 0 };
 
-    /// Whether an event's lock of this name was seen to keep no list yet.
+    /// Whether the place of this name was seen to have no list yet.
     ghost lacks: { ℕ → Type 0 };
 
-    /// Whether a clock was asked, and read so, or couldn't be read.
+    /// Whether a clock was read so, or couldn't be read.
     ghost read: { Option Moment → Type 0 };
 
-    /// Whether a clock was asked again, after it had read so first.
+    /// Whether a clock that had read so first was read again.
     ghost read_again: { Option Moment → Option Moment → Type 0 };
 
     /// Whether the thread slept on the parker of this name, without a limit or for so long at most.
     ghost slept: { ℕ → Option Span → Type 0 };
 
-    /// Whether memory was refused. It is a relation, which only `share` and `share_again` give, since no contract can say that an
-    /// allocator refused.
+    /// Whether memory was refused. Only `share` and `share_again` give this relation, since no contract can say that an allocator refused.
     ghost refused: { Type 0 };
 
-    /// Memory for a value that is shared.
+    /// Allocates a value that is shared.
     fn share<X: Drop>(alloc: Global, value: X) -> Result<Arc<X>, NoMemory>
         ensures shared { IfOk result (λ shared. arc_value shared ≡ value) }
         ensures refused { OnErr result refused };
@@ -69,20 +72,20 @@ pub trait Steps<T>: Drop {
     fn empty(alloc: Global) -> Self
         ensures { begins result };
 
-    /// Looks whether the lock of an event has a list.
+    /// Looks whether an event has a list.
     fn find<'a>(lock: &'a OnceLock<Arc<Home<T, Self>>>) -> Option<OnceToken<'a, Arc<Home<T, Self>>>>
         ensures of { IfSome result (λ token. token.of ≡ lock.now.id) }
         ensures lacks { IfNone result (lacks lock.now.id) };
 
-    /// Sees which list the lock of an event has.
+    /// Sees which list an event has.
     fn see(token: &OnceToken<'_, Arc<Home<T, Self>>>)
         ensures { holds token.now.of (seal_of (arc_value token.now.value)) };
 
-    /// Adds a listener, with the task whose waker lies in this cell.
+    /// Adds a listener, with the task whose waker is in this cell.
     fn listen(&mut self, step: Step<'_>, cell: Arc<WakerCell>) -> Result<Key, ListenError>
         ensures { did step.entry.seal.now.id (listens (cell_of (arc_value cell)) result) self.old self.new };
 
-    /// Takes a told listener off and gives its tag. Of one that waits it keeps the waker in its cell, so that no notice comes between.
+    /// Removes a told listener and returns its tag. For one that waits it keeps the waker in its cell.
     fn poll<R: Wait>(
         &mut self,
         step: Step<'_>,
@@ -106,22 +109,22 @@ pub trait Steps<T>: Drop {
         ensures armed { result ≡ None → IsArmed cx.new }
         ensures kept { Keeps cx.old cx.new };
 
-    /// Takes a told listener off and gives its tag. One that waits gets the thread that sleeps on this parker as its task.
+    /// Removes a told listener and returns its tag. One that waits gets the thread that sleeps on this parker as its task.
     fn park(&mut self, step: Step<'_>, key: Key, parker: Arc<Parker>) -> Option<T>
         ensures { did step.entry.seal.now.id (parks key (parker_of (arc_value parker)) result) self.old self.new };
 
-    /// Takes a told listener off and gives its tag, once the thread has slept on this parker.
+    /// Removes a told listener and returns its tag, once the thread has slept on this parker.
     fn look(&mut self, step: Step<'_>, key: Key, parker: &Parker) -> Option<T>
         requires { slept (parker_of parker.now) None }
         ensures { did step.entry.seal.now.id (looks key (parker_of parker.now) result) self.old self.new };
 
-    /// Takes a listener off, told or not, and gives the tag of a told one, once the thread has slept on this parker for as long as was left.
-    /// It passes nothing on.
+    /// Removes a listener, told or not, and returns the tag of a told one, once the thread has slept on this parker for as long as was
+    /// left. It passes nothing on.
     fn leave(&mut self, step: Step<'_>, key: Key, parker: &Parker, timeout: Duration) -> Option<T>
         requires { Lapsed read read_again slept (parker_of parker.now) timeout }
         ensures { did step.entry.seal.now.id (leaves key timeout result) self.old self.new };
 
-    /// Takes a listener off, and answers whether it was told. A told one may pass its notice on.
+    /// Removes a listener, and answers whether it was told. A told one may pass its notification on.
     fn remove<R: Wait>(&mut self, step: Step<'_>, rt: &R, key: Key, pass_on: bool) -> bool
         ensures { did step.entry.seal.now.id (removes key pass_on result) self.old self.new };
 
@@ -143,7 +146,7 @@ pub trait Steps<T>: Drop {
     fn total(&self, step: Step<'_>) -> usize
         ensures { did step.entry.seal.now.id (counts_all result) self.now self.now };
 
-    /// Sleeps on the parker that a listener registered with in this list, until it is rung. Clauses that name two steps give them no order,
+    /// Sleeps on the parker that a listener registered with in this list, until it rings. Clauses that name two steps give them no order,
     /// so the registration is a condition here, and this sleep is a condition of `look` and `leave`.
     fn sleep<R: Wait>(rt: &R, seal: &Source, key: Key, parker: &Parker)
         requires { OnSome did seal.now.id (parks key (parker_of parker.now) None) }
@@ -161,11 +164,11 @@ pub trait Steps<T>: Drop {
         requires { OnSome did seal.now.id (parks key (parker_of parker.now) None) }
         ensures { slept (parker_of parker.now) (Some limit) };
 
-    /// Asks the clock.
+    /// Reads the clock.
     fn now<K: Clock>(clock: &K) -> Option<Instant>
         ensures { read result };
 
-    /// Asks it again.
+    /// Reads it again.
     fn now_again<K: Clock>(clock: &K, begun: Option<Instant>) -> Option<Instant>
         ensures { read_again begun result };
 }
@@ -225,6 +228,7 @@ impl<T: Drop> Steps<T> for List<T, Task> {
     #[inline(always)]
     fn listen(&mut self, _step: Step<'_>, cell: Arc<WakerCell>) -> Result<Key, ListenError> {
         let key = self.insert()?;
+        // In the critical section of the insertion: a notification between the two would tell a listener without a task, and wake nobody.
         let _ = self.register(key, Task::Polled(cell));
         Ok(key)
     }
@@ -241,6 +245,8 @@ impl<T: Drop> Steps<T> for List<T, Task> {
         match List::poll(self, key) {
             Ok(Some(tag)) => Some(tag),
             Ok(None) | Err(_) => {
+                // Under the list's lock. Kept after it is released, a notification in between would find no waker, and the task might never
+                // be polled.
                 cell.keep(rt, waker);
                 None
             }
@@ -259,6 +265,7 @@ impl<T: Drop> Steps<T> for List<T, Task> {
         match List::poll(self, key) {
             Ok(Some(tag)) => Some(tag),
             Ok(None) | Err(_) => {
+                // Under the list's lock, as in `poll`.
                 let _armed = cell.arm(rt, cx);
                 None
             }
@@ -267,6 +274,7 @@ impl<T: Drop> Steps<T> for List<T, Task> {
 
     #[inline(always)]
     fn park(&mut self, _step: Step<'_>, key: Key, parker: Arc<Parker>) -> Option<T> {
+        // One step looks and registers: a notification is either found here, or it rings the parker.
         tag_given(self.register(key, Task::Parked(parker)))
     }
 
@@ -286,11 +294,13 @@ impl<T: Drop> Steps<T> for List<T, Task> {
         _parker: &Parker,
         _timeout: Duration,
     ) -> Option<T> {
+        // One step looks and removes: a notification can't reach a listener that has been found not told.
         self.take_off(key)
     }
 
     #[inline(always)]
     fn remove<R: Wait>(&mut self, _step: Step<'_>, rt: &R, key: Key, pass_on: bool) -> bool {
+        // One step removes the listener and tells the next one, so at no moment the notification has reached nobody.
         match List::remove(self, key, pass_on, &mut WakeNow { rt }) {
             Ok(told) => told,
             Err(_) => false,
@@ -304,6 +314,7 @@ impl<T: Drop> Steps<T> for List<T, Task> {
         rt: &R,
         notice: N,
     ) -> Result<usize, NotifyError> {
+        // Wakers run under the list's lock, in the order of listening.
         List::notify(self, notice, &mut WakeNow { rt })
     }
 

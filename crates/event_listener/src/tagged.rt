@@ -1,4 +1,4 @@
-//! Notices with a tag of which each listener gets a clone.
+//! Notifications with a tag of which each listener gets a clone.
 ghost use Rattle.std.specs.Prelude.{◌≡◌, MatchResult};
 
 use crate::error::NoMemory;
@@ -6,11 +6,11 @@ use crate::notify::Notification;
 
 /// The same number and kind, with one tag of which each listener gets a clone.
 ///
-/// A clone may want memory: where it is refused, so is the notice, after those that were told. A clone equals the tag;
-/// whoever makes the notice answers for that. As `event-listener` 5.4.2, whose clones can't be refused.
+/// A clone may want memory: if it is refused, so is the notification, after those that were told. The maker of the notification proves that
+/// a clone equals the tag. As `event-listener` 5.4.2, whose clones can't be refused.
 #[derive(Drop)]
 pub struct Tag<N, T: Clone> {
-    /// The notice whose number and kind these are.
+    /// The notification whose number and kind these are.
     pub inner: N,
     /// What each listener gets a clone of.
     pub tag: T,
@@ -27,7 +27,7 @@ impl<N: Notification, T: Clone + Drop> Notification for Tag<N, T> {
 
     ghost can_give = { λ n. Unit {0} };
 
-    // Each tag is the notice's own, and is refused only where a clone of it can be.
+    // Each tag is the notification's own, and is refused only if a clone of it can be.
     ghost gives = { λ n r m. MatchResult r (λ t. t ≡ n.tag) (λ _. ¬ (T.is_infallible n.tag)) × (m ≡ n) };
 
     fn count(&self) -> usize {

@@ -1,16 +1,16 @@
-//! Notices with tags that a closure makes.
+//! Notifications with tags that a closure makes.
 ghost use Rattle.std.specs.Prelude.{MatchResult};
 
 use crate::error::NoMemory;
 use crate::notify::Notification;
 use std::marker::PhantomData;
 
-/// The same number and kind, with tags that a closure makes, one for each listener in the order of telling.
+/// The same number and kind, with tags that a closure makes, one for each listener in the order in which they are told.
 ///
-/// The closure runs while the list is locked, so it must not ask for the same event. As `event-listener` 5.4.2.
+/// The closure runs while the list is locked, so it must not use the same event. As `event-listener` 5.4.2.
 #[derive(Drop)]
 pub struct TagWith<N, F, T> {
-    /// The notice whose number and kind these are.
+    /// The notification whose number and kind these are.
     pub inner: N,
     /// What makes each tag.
     pub make: F,

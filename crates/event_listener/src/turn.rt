@@ -1,4 +1,7 @@
-//! The rights to one section on the list of an event: a call's of the event, and a listener's, who has a place there.
+//! The rights to one critical section on the list of an event: for a call of the event, and for a listener, which has a place there.
+//!
+//! Each method takes the lock, makes one step, and releases the lock; in between nobody else sees or changes the list. `steps` has the
+//! reason for what a section does. `Listed` owns the listener's key until a section has removed the listener.
 ghost use Rattle.std.specs.Prelude.{◌≡◌, ℕ, Some, None, Ok, Err, IfOk, IfErr, IfSome, IfNone, is_none, false, true};
 ghost use Rattle.std.specs.Arc.{arc_value};
 ghost use Rattle.futures.specs.Task.{IsArmed, Keeps};
@@ -19,17 +22,17 @@ use std::marker::PhantomData;
 use std::sync::{Arc, Wait};
 use std::time::Duration;
 
-/// A listener's right to one section on its list, with one step in it. It has no drop, and each call uses it up and has nothing else of the list:
-/// so it is one section, and a body that makes two, or two steps in one, is no program.
+/// A listener's right to one critical section on its list, with one step in it. It has no drop, and each call uses it up and has nothing
+/// else of the list, so a body that makes two sections, or two steps in one, does not type-check.
 ///
-/// Each step is one on a listener's own place. So who has this alone can't add a listener beside, and can't notify.
+/// Each step is one on a listener's own place, so nobody can add a listener or notify by this.
 pub(crate) struct Turn<'a, T, L> {
     step: Step<'a>,
     section: Section<'a, L>,
     of: PhantomData<Locked<T>>,
 }
 
-/// The same right of a call of the event itself: a listener is added, a notice given, or a question asked. Only a call that has
+/// The same right for a call of the event itself: it adds a listener, notifies, or asks a question. Only a call that has
 /// [begun](crate::homes::Begun) has one.
 pub(crate) struct EventTurn<'a, T, L> {
     step: Step<'a>,
@@ -37,16 +40,16 @@ pub(crate) struct EventTurn<'a, T, L> {
     of: PhantomData<Locked<T>>,
 }
 
-/// A listener's place on a list: its key, until a section took the listener off.
+/// A listener's place on a list: its key, until a section has removed the listener.
 ///
-/// Only a section gives one, and only a section changes it. It has no drop, so whoever has it takes the listener off, once: a tag that was
-/// taken can't be asked for again, and a removal not made twice.
+/// Only a section makes one, and only a section changes it. It has no drop, so its owner has to remove the listener, once: a tag that was
+/// taken can't be asked for again, and no removal is made twice.
 pub(crate) struct Listed {
     key: Option<Key>,
 }
 
 impl Listed {
-    /// Whether a section took the listener off.
+    /// Whether a section has removed the listener.
     #[inline(always)]
     pub(crate) fn is_off(&self) -> bool
         ensures { result ≡ is_none self.now.key }
@@ -66,7 +69,7 @@ impl Listed {
         }
     }
 
-    /// Lets the place of a listener go that is off the list.
+    /// Drops the place of a listener that is off the list.
     #[inline(always)]
     pub(crate) fn end(self)
         requires { is_none self.key ≡ true }
@@ -74,7 +77,7 @@ impl Listed {
         let Listed { key: _ } = self;
     }
 
-    // What a section found: a listener that gave its tag is off the list.
+    // A listener that gave its tag is off the list.
     #[inline(always)]
     fn found<T>(&mut self, tag: &Option<T>)
         ensures taken { IfSome tag.now (λ _. self.new.key ≡ None) }
@@ -155,7 +158,7 @@ impl<'a, T, L: Steps<T>> Turn<'a, T, L> {
         tag
     }
 
-    /// Takes the tag of a told listener, or has the thread of this parker woken by its telling.
+    /// Takes the tag of a told listener, or registers the thread of this parker, which a notification then wakes.
     #[inline(always)]
     pub(crate) fn park<R: Wait>(self, rt: &R, listed: &mut Listed, parker: Arc<Parker>) -> Option<T>
         requires listed { is_none listed.old.key ≡ false }
@@ -192,7 +195,7 @@ impl<'a, T, L: Steps<T>> Turn<'a, T, L> {
         tag
     }
 
-    /// Takes a listener off, with the tag of a told one, once its time has gone by.
+    /// Removes a listener whose time is up, and takes the tag of a told one.
     #[inline(always)]
     pub(crate) fn leave<R: Wait>(
         self,
@@ -219,7 +222,7 @@ impl<'a, T, L: Steps<T>> Turn<'a, T, L> {
         tag
     }
 
-    /// Takes a listener off: whether it was told. A told one may pass its notice on.
+    /// Removes a listener, and answers whether it was told. A told one may pass its notification on.
     #[inline(always)]
     pub(crate) fn remove<R: Wait>(self, rt: &R, listed: Listed, pass_on: bool) -> bool
         requires { is_none listed.key ≡ false }

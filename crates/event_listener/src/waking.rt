@@ -1,9 +1,13 @@
 //! How a listener's task is kept and woken.
 //!
-//! A waker of `futures` wakes its task when it is let go, and there is no copying it. A list that held wakers would so
-//! wake a task that is polled a second time, and wake it again for ever. So what a list holds is a shared cell of the
-//! listener, made when it listens: a poll leaves its waker in the cell, and a telling takes it out again. Channels wake
-//! their operations by the same cells.
+//! A waker of `futures` wakes its task when it is dropped, and can't be copied. A list that held wakers would therefore wake a task that is
+//! polled a second time, again and again. So a list holds a shared cell, made when the listener is added: a poll leaves its waker in the
+//! cell, and a notification takes it out. The cell owns the waker, behind a lock of its own. Channels wake their operations by the same
+//! cells.
+//!
+//! # Extensions
+//!
+//! All of this module.
 
 ghost use Rattle.futures.specs.Task.{IsArmed, Keeps};
 
@@ -12,7 +16,7 @@ use crate::wakes::Wakes;
 use futures::task::{Context, Source, Waker};
 use std::sync::{Arc, Mutex, Wait};
 
-/// The place of the waker of one listener's task. Own to this project.
+/// Holds the waker of one listener's task.
 #[derive(Drop)]
 pub struct WakerCell {
     source: Source,
@@ -28,19 +32,21 @@ impl WakerCell {
         }
     }
 
-    /// Keeps this waker. The one before it is let go, which wakes its task. It may wait for the cell's lock.
+    /// Keeps this waker. An older one is dropped, which wakes its task. It may wait for the cell's lock.
     pub fn keep<R: Wait>(&self, rt: &R, waker: Waker) {
+        // Under the cell's lock a notification takes either the older waker or this one.
         *self.waker.lock(rt) = Some(waker);
     }
 
-    /// Keeps a waker of the task that is polled, the one that is there already where it is that task's: so a second poll
-    /// wakes nobody. Where no waker can be made, the task is polled again. It may wait for the cell's lock.
+    /// Keeps a waker of the task that is polled; one of the same task that is there already stays, so a second poll wakes nobody. If no
+    /// waker can be made, the task is polled again. It may wait for the cell's lock.
     ///
     /// The answer is whether the cell has a waker now.
     pub fn arm<R: Wait>(&self, rt: &R, cx: &mut Context<'_>) -> bool
         ensures armed { IsArmed cx.new }
         ensures kept { Keeps cx.old cx.new }
     {
+        // Under the cell's lock, so a notification takes the waker before this or after it.
         let mut guard = self.waker.lock(rt);
         let place = &mut *guard;
         let _pending: futures::task::Poll<()> = cx.register(&self.source, place);
@@ -48,6 +54,7 @@ impl WakerCell {
     }
 
     fn wake<R: Wait>(&self, rt: &R) {
+        // Take it out, so that one notification wakes once, and release the cell's lock before the wake runs the executor's code.
         let waker = self.waker.lock(rt).take();
         if let Some(waker) = waker {
             waker.wake();
@@ -55,7 +62,7 @@ impl WakerCell {
     }
 }
 
-/// Whom a listener's telling wakes. Own to this project.
+/// What a notification of a listener wakes.
 #[derive(Drop)]
 pub enum Task {
     /// The task that polls the listener, whose waker is in this cell.
@@ -64,8 +71,7 @@ pub enum Task {
     Parked(Arc<Parker>),
 }
 
-/// The sink that wakes each task at once, while the list is locked. A wake may wait for the lock of the task's cell or
-/// parker. Own to this project.
+/// The sink that wakes each task at once, while the list is locked. A wake may wait for the lock of the task's cell or parker.
 #[derive(Drop)]
 pub struct WakeNow<'a, R: Wait> {
     /// What lets a wake wait.
@@ -73,7 +79,7 @@ pub struct WakeNow<'a, R: Wait> {
 }
 
 impl<R: Wait> Wakes<Task> for WakeNow<'_, R> {
-    // It wakes at once and keeps nothing, so nothing can be said of what it has become.
+    // It wakes at once and keeps nothing, so no clause says what it has become.
     ghost wakes = { λ s t u. Unit {0} };
 
     fn wake(&mut self, task: Task) {

@@ -7,17 +7,12 @@ use worked_rows::{Player, play_rows};
 
 /// Ends the test where these differ, and shows both.
 pub fn expect_equal<A: Abort, T: PartialEq + Debug>(rt: &A, found: &T, wanted: &T) {
-    assert_eq!(rt; found, wanted);
+    assert!(rt; found == wanted, "{found:?} is not {wanted:?}");
 }
 
 /// Ends the test where this is false.
 pub fn expect_true<A: Abort>(rt: &A, it: bool) {
     assert!(rt; it);
-}
-
-/// Ends the test where something is found, and shows where and what.
-pub fn expect_none<A: Abort, S: Debug, T: Debug>(rt: &A, place: &S, found: &Option<T>) {
-    assert!(rt; found.is_none(), "{place:?}: {found:?}");
 }
 
 /// Plays these rows. Ends the test at the first call that answers another thing than its row says, and where there are not so many rows.
@@ -28,6 +23,6 @@ pub fn expect_rows<A: Abort + AllocGlobal, P: Player>(
     rows: u64,
 ) {
     let played = play_rows(rt.alloc(), text, player).expect(rt, "memory");
-    expect_none(rt, &rows, &played.differs);
-    expect_equal(rt, &played.rows, &rows);
+    let right = played.differs.is_none() && played.rows == rows;
+    assert!(rt; right, "of {rows} rows: {played:?}");
 }

@@ -1,5 +1,5 @@
-//! How many steps each call makes on the list of its event, by a list that counts them. A second plain notification beside the right one
-//! meets every contract; this test sees it.
+//! How many steps each call makes on the list of its event, by a list that counts them. A public call that is begun twice meets every
+//! contract; this test sees it.
 
 use crate::checks::expect_equal;
 use crate::event::{task, waker};
@@ -11,12 +11,14 @@ use event_listener::list::List;
 use event_listener::listener::Listener;
 use event_listener::notify::Notification;
 use event_listener::parker::Parker;
+use event_listener::stack::StackSlot;
 use event_listener::steps::Steps;
 use event_listener::waking::{Task, WakerCell};
 use event_listener::{Home, Step};
 use futures::task::{Context, Source, Waker};
 use futures::test::MockTask;
 use std::alloc::Global;
+use std::process::Abort;
 use std::sync::atomic::{AtomicUsize, Ordering};
 use std::sync::{Arc, OnceLock, OnceToken, Wait};
 use std::time::{Clock, Duration, Instant};
@@ -180,7 +182,7 @@ struct Watched<'ev, R> {
     before: usize,
 }
 
-impl<R: Wait + Clock + Copy> Watched<'_, R> {
+impl<R: Wait + Abort + Clock + Copy> Watched<'_, R> {
     /// How many steps were made since.
     fn made(&mut self) -> usize {
         let now = self.event.total_listeners(&self.rt);
@@ -203,45 +205,67 @@ impl<R: Wait + Clock + Copy> Watched<'_, R> {
     }
 
     /// Those of a listening, and of a wait for no time at all.
-    fn by_wait(&mut self) -> Option<[usize; 2]> {
-        let listener = self.event.listen(&self.rt).ok()?;
+    fn by_wait(&mut self) -> [usize; 2] {
+        let listener = self.event.listen(&self.rt).expect(&self.rt, "memory");
         let listen = self.made();
         let _ = listener.wait_timeout(&self.rt, Duration::ZERO).is_ok();
-        Some([listen, self.made()])
+        [listen, self.made()]
+    }
+
+    /// Those of a poll by hand and of one as a future, of a listener that waits.
+    fn by_polls(&mut self, task: &MockTask) -> [usize; 2] {
+        let waker = waker(task).expect(&self.rt, "a waker");
+        let mut listener = self.event.listen(&self.rt).expect(&self.rt, "memory");
+        self.made();
+        let _ = listener.poll(waker);
+        let poll = self.made();
+        let _ = task.poll(&mut listener);
+        [poll, self.made()]
+    }
+
+    /// Those of a slot, and of a listening in it.
+    fn by_slot(&mut self, alloc: Global) -> [usize; 2] {
+        self.made();
+        let mut slot = StackSlot::new(self.rt, alloc, self.event).expect(&self.rt, "memory");
+        let new = self.made();
+        let _listener = slot.listen().expect(&self.rt, "memory");
+        [new, self.made()]
     }
 
     /// Those of a discarding, and of a drop.
-    fn by_leaving(&mut self) -> Option<[usize; 2]> {
-        let discarded = self.event.listen(&self.rt).ok()?;
-        let dropped = self.event.listen(&self.rt).ok()?;
+    fn by_leaving(&mut self) -> [usize; 2] {
+        let discarded = self.event.listen(&self.rt).expect(&self.rt, "memory");
+        let dropped = self.event.listen(&self.rt).expect(&self.rt, "memory");
         self.made();
         discarded.discard();
         let discard = self.made();
         drop(dropped);
-        Some([discard, self.made()])
+        [discard, self.made()]
     }
 }
 
 /// How many steps four told listeners make that are polled by hand, polled as a future, and wait without and with a limit; and those of the
 /// notices that tell them.
-fn by_told<R: Wait + Clock + Copy>(
+fn by_told<R: Wait + Abort + Clock + Copy>(
     watched: &mut Watched<'_, R>,
     task: &MockTask,
-) -> Option<([usize; 5], [usize; 4])> {
+) -> ([usize; 5], [usize; 4]) {
     let (rt, event) = (watched.rt, watched.event);
-    let mut by_hand = event.listen(&rt).ok()?;
-    let mut future = event.listen(&rt).ok()?;
-    let (waiting, timed) = (event.listen(&rt).ok()?, event.listen(&rt).ok()?);
+    let waker = waker(task).expect(&rt, "a waker");
+    let mut by_hand = event.listen(&rt).expect(&rt, "memory");
+    let mut future = event.listen(&rt).expect(&rt, "memory");
+    let waiting = event.listen(&rt).expect(&rt, "memory");
+    let timed = event.listen(&rt).expect(&rt, "memory");
     watched.made();
     let notices = watched.by_notices();
-    let _ = by_hand.poll(waker(task)?);
+    let _ = by_hand.poll(waker);
     let poll = watched.made();
     let _ = task.poll(&mut future);
     let poll_future = watched.made();
     let _ = waiting.wait().is_ok();
     let wait = watched.made();
     let _ = timed.wait_timeout(&rt, Duration::from_secs(9)).is_ok();
-    Some((notices, [poll, poll_future, wait, watched.made()]))
+    (notices, [poll, poll_future, wait, watched.made()])
 }
 
 #[test]
@@ -254,8 +278,10 @@ fn each_call_makes_its_steps(rt: HostRuntime) {
         before: 0,
     };
     let polled = task(&rt);
-    let told = by_told(&mut watched, &polled).expect(&rt, "memory");
+    let told = by_told(&mut watched, &polled);
     expect_equal(&rt, &told, &([1, 1, 1, 1, 1], [1, 1, 1, 1]));
-    expect_equal(&rt, &watched.by_wait().expect(&rt, "memory"), &[1, 2]);
-    expect_equal(&rt, &watched.by_leaving().expect(&rt, "memory"), &[1, 1]);
+    expect_equal(&rt, &watched.by_wait(), &[1, 2]);
+    expect_equal(&rt, &watched.by_leaving(), &[1, 1]);
+    expect_equal(&rt, &watched.by_polls(&polled), &[1, 1]);
+    expect_equal(&rt, &watched.by_slot(rt.alloc()), &[0, 1]);
 }

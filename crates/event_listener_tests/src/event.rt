@@ -1,13 +1,12 @@
 //! Events and their listeners: the rows of [`event_rows`](crate::event_rows), and what tests of them share.
 
 use crate::checks::expect_rows;
-use crate::event_rows::{SLOT_ROWS, TAG_ROWS, UNIT_ROWS};
+use crate::event_rows::{TAG_ROWS, UNIT_ROWS};
 use crate::listening::Listening;
 use crate::tags::Tags;
 use crate::units::Units;
 use event_listener::event::Event;
 use event_listener::id::EventIds;
-use event_listener::stack::StackSlot;
 use futures::task::{Poll, Source, Waker};
 use futures::test::MockTask;
 use std::alloc::{AllocGlobal, Global};
@@ -43,13 +42,4 @@ fn rows(rt: HostRuntime) {
 fn rows_of_tags(rt: HostRuntime) {
     let all = Listening::of(rt, rt.alloc(), event(&rt, rt.alloc()), task(&rt));
     expect_rows(&rt, TAG_ROWS, &mut Tags { all, made: 0 }, 6);
-}
-
-#[test]
-fn rows_of_slots(rt: HostRuntime) {
-    let lent = event(&rt, rt.alloc());
-    let slot = StackSlot::new(rt, rt.alloc(), &lent).expect(&rt, "memory");
-    let mut all = Listening::of(rt, rt.alloc(), event(&rt, rt.alloc()), task(&rt));
-    all.lend(&lent, slot);
-    expect_rows(&rt, SLOT_ROWS, &mut Tags { all, made: 0 }, 1);
 }

@@ -175,20 +175,3 @@ notify 1 6 = 1
 wait_timeout 2 0 = 6
 total = 0
 ";
-
-// Listeners of one slot, which take turns in it or live side by side.
-pub(crate) const SLOT_ROWS: &str = "
-row a_slot_listens_again
-listen
-listen
-listen
-same_event 2 1 = true
-notify 1 4 = 1
-wait 0 = 4
-poll_future 1 = pending
-notify 1 5 = 1
-poll_future 1 = 5
-wait_deadline 1 0 = finished
-wait_timeout 2 0 = nothing
-total = 0
-";

@@ -44,33 +44,48 @@ fn send_tag<R: Wait + Clock + Copy>(rt: R, event: &Event<u32>) -> usize {
     event.notify(&rt, 1u8.tag(8u32)).unwrap_or(9)
 }
 
+/// Notifies the gate, if there is one, and waits by the listener: how many waits went on.
+fn open_and_wait<R: Wait + Copy>(
+    rt: R,
+    gate: Option<&Event<()>>,
+    listener: EventListener<(), R>,
+) -> usize {
+    if let Some(gate) = gate {
+        gate.notify_additional(&rt, 1);
+    }
+    usize::from(goes_on(listener))
+}
+
+/// Waits by the listener, if there is one, and tells one.
+fn wait_and_notify<R: Wait + Copy>(
+    rt: R,
+    listener: Option<EventListener<(), R>>,
+    event: &Event<()>,
+) -> usize {
+    if let Some(listener) = listener {
+        goes_on(listener);
+    }
+    event.notify_additional(&rt, 1)
+}
+
+/// Waits for up to half a minute: the tag that it got.
+fn wait_for_tag<R: Wait + Clock + Copy>(rt: R, listener: EventListener<u32, R>) -> Option<u32> {
+    listener
+        .wait_timeout(&rt, Duration::from_secs(30))
+        .unwrap_or(None)
+}
+
 /// Does it.
 fn done<R: Wait + Clock + Copy>(rt: R, job: Job<'_, R>) -> Done {
-    let mut tag = None;
-    let count = match job {
-        Job::Wait(gate, listener) => {
-            if let Some(gate) = gate {
-                gate.notify_additional(&rt, 1);
-            }
-            usize::from(goes_on(listener))
-        }
-        Job::Notify(listener, event) => {
-            if let Some(listener) = listener {
-                goes_on(listener);
-            }
-            event.notify_additional(&rt, 1)
-        }
-        Job::WaitBriefly(event, rounds) => waits_briefly(rt, event, rounds),
-        Job::NotifyEach(event, rounds) => notifies_each(rt, event, rounds),
-        Job::WaitForTag(listener) => {
-            let limit = Duration::from_secs(30);
-            tag = listener.wait_timeout(&rt, limit).unwrap_or(None);
-            0
-        }
-        Job::SendTag(event) => send_tag(rt, event),
-        Job::Drop(_listener) => 0,
-    };
-    (count, tag)
+    match job {
+        Job::Wait(gate, listener) => (open_and_wait(rt, gate, listener), None),
+        Job::Notify(listener, event) => (wait_and_notify(rt, listener, event), None),
+        Job::WaitBriefly(event, rounds) => (waits_briefly(rt, event, rounds), None),
+        Job::NotifyEach(event, rounds) => (notifies_each(rt, event, rounds), None),
+        Job::WaitForTag(listener) => (0, wait_for_tag(rt, listener)),
+        Job::SendTag(event) => (send_tag(rt, event), None),
+        Job::Drop(_listener) => (0, None),
+    }
 }
 
 /// Does both at once, the first one in a thread of its own: what came of each.

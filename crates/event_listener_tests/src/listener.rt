@@ -1,17 +1,18 @@
 //! Listeners among threads.
 
 use crate::checks::expect_equal;
-use crate::event::{event, task, waker};
+use crate::event::{event, task};
 use crate::jobs::{Done, Job, both, both_pairs};
+use crate::made::poll;
 use event_listener::event::Event;
 use event_listener::into_notification::IntoNotification;
-use event_listener::listener::{EventListener, Listener, PollFault};
-use futures::task::Poll;
+use event_listener::listener::EventListener;
 use futures::test::MockTask;
 use std::process::Abort;
 use std::sync::Wait;
 use std::thread::Threads;
 use std::time::Clock;
+use worked_rows::Said;
 
 fn crosses<X: Send + Sync>(_: &X) -> bool {
     true
@@ -65,22 +66,18 @@ fn parked<R: Wait + Threads + Clock + Abort + Copy + Send + Sync>(
     )
 }
 
-/// A listener that was told is dropped on another thread: whether all crosses threads, and what a poll of the second one gives.
+/// A listener that was told is dropped on another thread: whether all crosses threads, and what a poll of the second one says.
 fn dropped_elsewhere<R: Wait + Threads + Clock + Abort + Copy + Send + Sync>(
     rt: R,
     event: &Event<u32>,
     task: &MockTask,
-) -> (bool, Option<Poll<Result<u32, PollFault>>>) {
+) -> (bool, Said) {
     let told = event.listen(&rt).expect(&rt, "memory");
     let mut waiting = event.listen(&rt).expect(&rt, "memory");
     let crosses = all_cross(event, &told);
     let _ = event.notify(&rt, 1u8.tag(7u32));
     both(rt, Job::Drop(Some(told)), Job::Drop(None));
-    let polled = match waker(task) {
-        Some(waker) => Some(waiting.poll(waker)),
-        None => None,
-    };
-    (crosses, polled)
+    (crosses, poll(&mut waiting, task))
 }
 
 #[test]
@@ -89,5 +86,5 @@ fn threads(rt: HostRuntime) {
     let each = ((1, None), (1, None));
     expect_equal(&rt, &parked(rt, &woken, &gate), &each);
     let seen = dropped_elsewhere(rt, &event(&rt, rt.alloc()), &task(&rt));
-    expect_equal(&rt, &seen, &(true, Some(Poll::Ready(Ok(7)))));
+    expect_equal(&rt, &seen, &(true, Said::Number(7)));
 }

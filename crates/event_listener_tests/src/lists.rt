@@ -101,8 +101,39 @@ fn visits(count: u128) -> Said {
     Said::Number(u64::try_from(count).unwrap_or(u64::MAX))
 }
 
+/// The questions, which change nothing.
+static QUESTIONS: [&str; 3] = ["told", "total", "visits"];
+
+/// What is answered to this question.
+fn answered(verb: &str, answers: [Said; 3]) -> Said {
+    let mut said = Said::NoSuchCall;
+    for (question, answer) in QUESTIONS.iter().zip(answers.iter()) {
+        if *question == verb {
+            said = *answer;
+        }
+    }
+    said
+}
+
 fn target(words: &mut Words<'_>) -> Target {
     Target::Place(words.size())
+}
+
+/// A call of a run that names a listener, by its place in the run.
+fn later_of_listener(verb: &str, words: &mut Words<'_>) -> Option<ListCall<u32, u32>> {
+    let listener = target(words);
+    match verb {
+        "register" => Some(ListCall::Register {
+            listener,
+            task: words.small(),
+        }),
+        "poll" => Some(ListCall::Poll { listener }),
+        "leave" => Some(ListCall::Remove {
+            listener,
+            pass_on: true,
+        }),
+        _ => None,
+    }
 }
 
 impl Lists {
@@ -153,26 +184,39 @@ impl Lists {
         match verb {
             "register" => registered(self.list.register(key, task)),
             "poll" => polled(self.list.poll(key)),
-            "leave" => removed(self.list.remove(key, true, &mut self.names)),
-            "discard" => removed(self.list.remove(key, false, &mut self.names)),
+            "leave" | "discard" => {
+                removed(self.list.remove(key, verb == "leave", &mut self.names))
+            }
             _ => Said::NoSuchCall,
         }
+    }
+
+    /// A call that names a listener, by words.
+    fn call_by_words(&mut self, verb: &str, words: &mut Words<'_>) -> Said {
+        let Some(key) = self.key(words) else {
+            return Said::Word("no such number");
+        };
+        let task = if verb == "register" { words.small() } else { 0 };
+        self.call_of(verb, key, task)
+    }
+
+    /// What the list answers to each of the questions.
+    fn answers(&self) -> [Said; 3] {
+        [
+            Said::count(self.list.told()),
+            Said::count(self.list.total()),
+            visits(self.list.last_visits()),
+        ]
     }
 
     /// A question, or a call that names a listener.
     fn ask(&mut self, verb: &str, words: &mut Words<'_>) -> Said {
         match verb {
-            "told" => Said::count(self.list.told()),
-            "total" => Said::count(self.list.total()),
-            "visits" => visits(self.list.last_visits()),
+            "told" | "total" | "visits" => answered(verb, self.answers()),
             "most_visits" => visits(std::mem::replace(&mut self.most, 0)),
             "woken_by" => count_steps(self.names.woken.as_slice(), words.small(), words.small()),
             "same" => Said::flag(self.key(words) == self.key(words)),
-            _ => match self.key(words) {
-                Some(key) if verb == "register" => self.call_of(verb, key, words.small()),
-                Some(key) => self.call_of(verb, key, 0),
-                None => Said::Word("no such number"),
-            },
+            _ => self.call_by_words(verb, words),
         }
     }
 
@@ -220,20 +264,10 @@ impl Lists {
             "reserve" => Some(ListCall::Reserve {
                 extra: words.size(),
             }),
-            "register" => Some(ListCall::Register {
-                listener: target(words),
-                task: words.small(),
-            }),
-            "poll" => Some(ListCall::Poll {
-                listener: target(words),
-            }),
-            "leave" => Some(ListCall::Remove {
-                listener: target(words),
-                pass_on: true,
-            }),
-            "notify" => Some(self.later_notify(words, false)),
-            "notify_additional" => Some(self.later_notify(words, true)),
-            _ => None,
+            verb @ ("notify" | "notify_additional") => {
+                Some(self.later_notify(words, verb == "notify_additional"))
+            }
+            verb => later_of_listener(verb, words),
         }
     }
 
@@ -242,9 +276,10 @@ impl Lists {
         let Some(call) = self.later_call(words) else {
             return Said::NoSuchCall;
         };
-        match self.later.push_back(call) {
-            Ok(()) => Said::Ok,
-            Err(_) => Said::Word("memory"),
+        if self.later.push_back(call).is_ok() {
+            Said::Ok
+        } else {
+            Said::Word("memory")
         }
     }
 

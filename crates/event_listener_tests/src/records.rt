@@ -158,15 +158,27 @@ impl<R: Wait + Copy, L: Ledger> Records<R, L> {
         }
     }
 
-    /// A question, or a call that names a listener.
-    fn ask(&mut self, verb: &str, words: &mut Words<'_>) -> Said {
+    fn reserve(&self, extra: usize) -> Said {
+        match &self.event {
+            Some(event) => Said::flag(event.reserve(&self.rt, extra).is_ok()),
+            None => NO_EVENT,
+        }
+    }
+
+    /// How many are told, or how many there are.
+    fn count(&self, verb: &str) -> Said {
         let Some(event) = &self.event else {
             return NO_EVENT;
         };
+        let (told, total) = (event.told(&self.rt), event.total(&self.rt));
+        Said::count(if verb == "told" { told } else { total })
+    }
+
+    /// A question, or a call that names a listener.
+    fn ask(&mut self, verb: &str, words: &mut Words<'_>) -> Said {
         match verb {
-            "reserve" => Said::flag(event.reserve(&self.rt, words.size()).is_ok()),
-            "told" => Said::count(event.told(&self.rt)),
-            "total" => Said::count(event.total(&self.rt)),
+            "reserve" => self.reserve(words.size()),
+            "told" | "total" => self.count(verb),
             _ => match self.key(words) {
                 Some(key) => self.call_of(verb, key, words),
                 None => Said::Word("no such number"),

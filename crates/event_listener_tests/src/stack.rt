@@ -6,11 +6,13 @@ use crate::made::said_by_poll;
 use event_listener::error::{ListenError, NoMemory};
 use event_listener::event::Event;
 use event_listener::into_notification::IntoNotification;
-use event_listener::listener::Listener;
-use event_listener::stack::StackListener;
+use event_listener::listener::{Listener, WaitError};
+use event_listener::stack::{StackListener, StackSlot};
 use futures::test::MockTask;
 use std::alloc::Global;
+use std::process::Abort;
 use std::sync::Wait;
+use std::time::{Clock, Duration, Instant};
 use worked_rows::Said;
 
 /// No listener is made under a name, for want of memory or of serials.
@@ -112,6 +114,54 @@ fn slots(rt: HostRuntime) {
     expect_equal(&rt, &seen.told, &[1, 0, 1]);
     let (told, pending) = (Said::Word("told"), Said::Word("pending"));
     expect_equal(&rt, &seen.polls, &[told, told, pending]);
+}
+
+/// Whether a listener came back from a wait since it was finished, and had no tag left.
+fn is_back<R: Wait + Copy>(
+    waited: Result<Option<u32>, WaitError<StackListener<'_, u32, R>>>,
+) -> bool {
+    match waited {
+        Err(WaitError::NeverInserted(listener)) => !listener.discard(),
+        waited => {
+            drop(waited);
+            false
+        }
+    }
+}
+
+/// Three listeners of one slot: whether they are of one event, the second one comes back from a wait once it is finished, and the third one
+/// is told nothing; how many two notices told and how many are left; what the wait of the first one and two polls of the second one say.
+fn of_one_slot<R: Wait + Clock + Abort + Copy>(
+    rt: R,
+    alloc: Global,
+    event: &Event<u32>,
+    task: &MockTask,
+) -> ([bool; 3], [usize; 3], [Said; 3]) {
+    let mut slot = StackSlot::new(rt, alloc, event).expect(&rt, "memory");
+    let first = slot.listen().expect(&rt, "memory");
+    let mut second = slot.listen().expect(&rt, "memory");
+    let third = slot.listen().expect(&rt, "memory");
+    let are_of_one = third.same_event(&second) && third.listens_to(event);
+    let told = event.notify(&rt, 1u8.tag(4u32)).unwrap_or(9);
+    let waited = Said::Number(u64::from(first.wait().unwrap_or(0)));
+    let waits = said_by_poll(task.poll(&mut second));
+    let told_again = event.notify(&rt, 1u8.tag(5u32)).unwrap_or(9);
+    let polled = said_by_poll(task.poll(&mut second));
+    let now = Instant::now(&rt).expect(&rt, "a clock");
+    let is_back = is_back(second.wait_deadline(&rt, now));
+    let is_told_nothing = third.wait_timeout(&rt, Duration::ZERO).unwrap_or(Some(9)) == None;
+    (
+        [are_of_one, is_back, is_told_nothing],
+        [told, told_again, event.total_listeners(&rt)],
+        [waited, waits, polled],
+    )
+}
+
+#[test]
+fn listeners_of_one_slot(rt: HostRuntime) {
+    let seen = of_one_slot(rt, rt.alloc(), &event(&rt, rt.alloc()), &task(&rt));
+    let said = [Said::Number(4), Said::Word("pending"), Said::Number(5)];
+    expect_equal(&rt, &seen, &([true; 3], [1, 1, 0], said));
 }
 
 /// Whether the listener under the name is pending once polled; then what its wait gives after a notice.

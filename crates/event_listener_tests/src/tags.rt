@@ -11,22 +11,22 @@ use worked_rows::{Player, Said, Words};
 
 /// An event whose notices carry numbers, and the last number that a function made for one.
 #[derive(Drop)]
-pub(crate) struct Tags<'ev, R: Wait + Copy> {
-    pub(crate) all: Listening<'ev, u32, R>,
+pub(crate) struct Tags<R: Wait + Copy> {
+    pub(crate) all: Listening<u32, R>,
     pub(crate) made: u32,
 }
 
-impl<R: Wait + Clock + Copy> Tags<'_, R> {
+impl<R: Wait + Clock + Copy> Tags<R> {
     /// A notice with this tag for each.
     fn notify(&mut self, count: u64, tag: u32) -> Said {
         let rt = self.all.rt;
-        notified(self.all.event().notify(&rt, count.tag(tag)))
+        notified(self.all.event.notify(&rt, count.tag(tag)))
     }
 
     /// An additional notice for three that has so many tags, from 0 on.
     fn notify_scarce(&mut self, left: u32) -> Said {
         let rt = self.all.rt;
-        notified(self.all.event().notify(&rt, Counted::scarce(left)))
+        notified(self.all.event.notify(&rt, Counted::scarce(left)))
     }
 
     /// A notice whose tags are made as they are wanted, each one more than the last one made.
@@ -37,7 +37,7 @@ impl<R: Wait + Clock + Copy> Tags<'_, R> {
             *made = made.wrapping_add(1);
             *made
         });
-        notified(self.all.event().notify(&rt, notice))
+        notified(self.all.event.notify(&rt, notice))
     }
 
     fn call(&mut self, words: &mut Words<'_>) -> Said {
@@ -55,7 +55,7 @@ impl<R: Wait + Clock + Copy> Tags<'_, R> {
     }
 }
 
-impl<R: Wait + Clock + Copy> Player for Tags<'_, R> {
+impl<R: Wait + Clock + Copy> Player for Tags<R> {
     fn begin(&mut self) {
         self.made = 0;
         self.all.begin();

@@ -11,8 +11,8 @@ use worked_rows::{Player, Said, Words};
 
 /// An event whose notices carry nothing.
 #[derive(Drop)]
-pub(crate) struct Units<'ev, R: Wait + Copy> {
-    pub(crate) all: Listening<'ev, (), R>,
+pub(crate) struct Units<R: Wait + Copy> {
+    pub(crate) all: Listening<(), R>,
 }
 
 /// What a notice answered.
@@ -40,10 +40,10 @@ fn notify<R: Wait>(rt: &R, event: &Event<()>, word: &str, count: u8) -> Said {
     })
 }
 
-impl<R: Wait + Clock + Copy> Units<'_, R> {
+impl<R: Wait + Clock + Copy> Units<R> {
     fn call(&mut self, words: &mut Words<'_>) -> Said {
         let rt = self.all.rt;
-        let event = self.all.event();
+        let event = &self.all.event;
         match words.word() {
             "notify" => notify(&rt, event, words.word(), byte(words)),
             "notify_all" => notified(event.notify(&rt, usize::MAX)),
@@ -57,7 +57,7 @@ impl<R: Wait + Clock + Copy> Units<'_, R> {
     }
 }
 
-impl<R: Wait + Clock + Copy> Player for Units<'_, R> {
+impl<R: Wait + Clock + Copy> Player for Units<R> {
     fn begin(&mut self) {
         self.all.begin();
     }

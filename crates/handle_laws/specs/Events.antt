@@ -100,7 +100,7 @@ module _ {T W X : Type 0} (did : cell.Deed T → X → X → Type 0) (shown : De
   abbrev pub SawRested : QueueForm → Deed T W → X → X → Type 0
   SawRested form = Rested (Saw did shown form) parked slept
 
-  -- such a call made whole calls one after another; who has no task of its own may take any for the first poll
+  -- such a call made whole calls one after another; a call without a task of its own may take any for the first poll
   abbrev pub BlocksAct : (ℕ → X → X → Type 0) → Type 0
   BlocksAct entered =
       (channel : Handle) (b : Blocked T) (task : W) (s : X) (r : Reply T) (kept : Returned T) (t : X)

@@ -1,7 +1,7 @@
-//! A value that only its owner reaches, so that threads may share what holds it.
+//! A value that only its owner reaches, so that threads may share a struct that holds it.
 //!
-//! [`Kept<X>`] is `Sync` where `X` is `Send`, as `std::sync::Exclusive` of Rust's nightly is: a `&Kept<X>` gives no way to the value, so it
-//! says nothing that threads could disagree on. A handle that several threads share keeps in it what is `Send` alone.
+//! [`Kept<X>`] is `Sync` if `X` is `Send`, as `std::sync::Exclusive` of Rust's nightly: a `&Kept<X>` gives no way to the value, so threads
+//! can't race on it. A handle that several threads share keeps in it what is only `Send`.
 #![tactic(auto)]
 
 ghost use Rattle.std.specs.Prelude.{◌≡◌};
@@ -27,7 +27,7 @@ impl<X> Kept<X> {
         Kept { value }
     }
 
-    /// Gives back the value that was kept.
+    /// Returns the value that was kept.
     pub fn into_inner(self) -> X
         ensures { result ≡ self.value }
     {

@@ -1,4 +1,4 @@
-//! The locks, and the right to give a value back.
+//! The locks, and the right to give a value back. The table owns the values; a thread owns one only between `take` and [`Taken::give`].
 
 ghost use Rattle.std.specs.Prelude.{◌≡◌, ◌*◌, ◌^◌, ◌<◌, ◌≤◌, ℕ, None, Some, length, map, IfOk};
 ghost use Rattle.keyed_lock.specs.Locked.{HasLock, KeepsFrom, holds};
@@ -44,7 +44,7 @@ impl<'a, X, K, I: Keeps<X, K>> Model for Taken<'a, X, K, I> {
 }
 
 impl<X, K, I: Keeps<X, K>, const N: usize> KeyedLocks<X, K, I, N> {
-    /// Locks with these values, each of which keeps the fact about this key and its place. Where memory is refused the values are
+    /// Locks with these values, each of which keeps the fact about this key and its number. `Err` for want of memory; the values are then
     /// dropped.
     pub fn new(
         alloc: Global,
@@ -71,8 +71,7 @@ impl<X, K, I: Keeps<X, K>, const N: usize> KeyedLocks<X, K, I, N> {
         }
     }
 
-    /// Takes the value of lock `which`. It may wait, until no other thread has that value. A thread that has it already, and takes it
-    /// again, waits for ever.
+    /// Takes the value of lock `which`. It may wait until no other thread has that value. A thread that already has it waits for ever.
     pub fn take<R: Wait>(&self, rt: &R, which: usize) -> (X, Taken<'_, X, K, I>)
         requires { which < N }
         ensures keeps { I.keeps self.now which result.0 }
@@ -107,8 +106,8 @@ fn at_home<X: Drop, const N: usize>(
 }
 
 impl<'a, X, K, I: Keeps<X, K>> Taken<'a, X, K, I> {
-    /// Gives a value back, which keeps the fact too: the value that was taken, or another one. If a thread sleeps until the lock is
-    /// free, this wakes it. It doesn't wait.
+    /// Returns a value that keeps the fact too: the one that was taken, or another one. If a thread sleeps until the lock is free, this
+    /// wakes it. It never waits.
     pub fn give(self, value: X)
         requires { I.keeps self.0 self.1 value }
     {

@@ -21,7 +21,7 @@ pub(crate) struct Turn<K> {
     pub has: Option<u64>,
 }
 
-/// The rule: a value is at home, and keeps the fact, exactly while its lock's word is 0. Where it is 1 or 2 one seat has the value.
+/// The rule: a value is in its slot, and keeps the fact, exactly while its lock's word is 0. While it is 1 or 2 one seat has the value.
 pub(crate) struct Ruled<I> {
     of: PhantomData<I>,
 }

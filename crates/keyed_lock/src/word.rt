@@ -1,4 +1,6 @@
-//! What threads do with the word of a lock: take its value, wait for it, give it back.
+//! What threads do with the word of a lock: take its value, wait for it, return it. The invariant: only the thread that changed the word
+//! from 0 touches the value's slot until it sets the word to 0 again; and while a thread sleeps on the word, the word is 2, or a thread
+//! that was woken is about to set it to 2.
 
 ghost use Rattle.std.specs.Prelude.{◌≡◌, None};
 ghost use Rattle.keyed_lock.specs.Locked.{HasLock, Took, waits, holds};
@@ -10,17 +12,17 @@ use std::thread;
 /// How many words one lock takes: 128 bytes, so that the words of two locks share no cache line, nor a pair of lines.
 pub(crate) const STRIDE: usize = 16;
 
-/// The word of a lock whose value is at home.
+/// The word of a lock whose value is in its slot.
 pub(crate) const FREE: u64 = 0;
 
-/// The word of a lock whose value somebody has, which wakes nobody when it is given back. If threads sleep on the word nevertheless,
-/// one that was woken is about to write 2.
+/// The word of a lock whose value some thread has, which wakes nobody when it returns it. If threads sleep on the word nevertheless, one
+/// that was woken is about to write 2.
 const TAKEN: u64 = 1;
 
-/// The word of a lock whose value somebody has, while somebody may sleep on the word: a thread is woken when the value is given back.
+/// The word of a lock whose value some thread has, while another may sleep on the word: one is woken when the value is returned.
 const SLEPT_ON: u64 = 2;
 
-/// How often a thread looks, and lets others run, before it sleeps: most holders give the value back sooner than a sleep would begin.
+/// How often a thread looks, and yields, before it sleeps: most holders return the value sooner than a sleep would begin.
 const LOOKS: usize = 16;
 
 /// Waits until nobody has the value of this lock, and takes it.
@@ -56,8 +58,8 @@ fn try_take<X, K, I: Keeps<X, K>>(
     ensures table { seat.new.table_id ≡ locks.now.table_id }
     ensures took { Took I.keeps locks.now.key which result seat.new.me }
 {
-    // One atomic operation tests that the value is at home and says that it is taken: between a load and a store a second thread
-    // could find it at home too. Where it fails it leaves the word as it is, so it doesn't hide that somebody sleeps.
+    // One atomic operation tests that the value is in its slot and says that it is taken: between a load and a store a second thread could
+    // find it there too. If it fails it leaves the word as it is, so it doesn't hide that somebody sleeps.
     if locks.compare_exchange::<Takes<I>>(seat, STRIDE * which, FREE, TAKEN) == FREE {
         // Only the thread that took the lock touches the slot until the word is 0 again, so the value is there.
         return locks.exchange(seat, which, None);
@@ -65,7 +67,7 @@ fn try_take<X, K, I: Keeps<X, K>>(
     None
 }
 
-/// Takes the value, if nobody has it. Else whoever has it will wake a thread that sleeps on the word.
+/// Takes the value if nobody has it. Otherwise the holder will wake a thread that sleeps on the word.
 #[inline(always)]
 fn take_or_mark<X, K, I: Keeps<X, K>>(
     locks: &SharedLocks<X, K, I>,
@@ -77,16 +79,16 @@ fn take_or_mark<X, K, I: Keeps<X, K>>(
     ensures table { seat.new.table_id ≡ locks.now.table_id }
     ensures took { Took I.keeps locks.now.key which result seat.new.me }
 {
-    // A thread that slept can't know whether others sleep still, since one alone is woken. So it says 2 also where it takes the
-    // value: with 1 there, nobody would wake the others, and they would sleep for ever. Saying 2 where nobody sleeps costs one
-    // wake that finds nobody.
+    // A thread that slept can't know whether others sleep still, since only one is woken. So it writes 2 even if it takes the value: with 1
+    // there, nobody would wake the others, and they would sleep for ever. Writing 2 when nobody sleeps costs one wake that finds nobody.
     if locks.swap::<Takes<I>>(seat, STRIDE * which, SLEPT_ON) == FREE {
+        // As in `try_take`.
         return locks.exchange(seat, which, None);
     }
     None
 }
 
-/// Looks a few times whether nobody has the value, and takes it then. Others run between.
+/// Looks a few times whether nobody has the value, and takes it then. It yields in between.
 fn look<X, K, I: Keeps<X, K>>(
     locks: &SharedLocks<X, K, I>,
     seat: &mut LockSeat<X, K>,
@@ -99,7 +101,7 @@ fn look<X, K, I: Keeps<X, K>>(
 {
     for _ in 0..LOOKS {
         thread::yield_now();
-        // A plain load first: a compare_exchange that fails would still take the cache line from whoever has the value.
+        // A plain load first: a compare_exchange that fails would still take the cache line from the holder.
         if locks.peek(STRIDE * which) == FREE {
             if let Some(value) = try_take(locks, seat, which) {
                 return Some(value);
@@ -109,7 +111,7 @@ fn look<X, K, I: Keeps<X, K>>(
     None
 }
 
-/// Sleeps until the value can be taken. The thread says on the word that it sleeps, before it does.
+/// Sleeps until the value can be taken. The thread marks the word before it sleeps.
 fn sleep<X, K, I: Keeps<X, K>, R: Wait>(
     rt: &R,
     locks: &SharedLocks<X, K, I>,
@@ -125,14 +127,14 @@ fn sleep<X, K, I: Keeps<X, K>, R: Wait>(
         if let Some(value) = take_or_mark(locks, &mut seat, which) {
             return (value, seat);
         }
-        // The system looks once more whether the word is 2, and sleeps only then. If the value was given back since the mark, the
-        // word is 0 or 1 and this returns at once: a sleep that began in spite of that would miss its wake.
+        // The system checks once more that the word is 2, and sleeps only then. If the value was returned since the mark, the word is 0 or
+        // 1 and this returns at once: a sleep that began in spite of that would miss its wake.
         locks.park(rt, STRIDE * which, SLEPT_ON as u32);
     }
     unreachable!()
 }
 
-/// Gives the value back, and wakes a thread if somebody may sleep until the lock is free.
+/// Returns the value, and wakes a thread if one may sleep until the lock is free.
 pub(crate) fn put_back<X, K, I: Keeps<X, K>>(
     locks: &SharedLocks<X, K, I>,
     seat: &mut LockSeat<X, K>,
@@ -144,13 +146,13 @@ pub(crate) fn put_back<X, K, I: Keeps<X, K>>(
     requires keeps { I.keeps locks.now.key which value }
     ensures { seat.new.me ≡ waits locks.now.key }
 {
-    // The value is put in its slot before the word says so, while no other thread reads the slot.
+    // The value is put in its slot before the word says so, while no other thread touches the slot.
     let before = locks.exchange(seat, which, Some(value));
     let None = before else { unreachable!() };
-    // A swap and not a store: it says whether somebody may sleep, at the moment at which the lock becomes free. If a load before
-    // the store said it, a thread could mark the word between them and sleep, and nobody would wake it.
+    // A swap, not a store: it says whether somebody may sleep, at the moment at which the lock becomes free. With a load before a store, a
+    // thread could mark the word between the two and sleep, and nobody would wake it.
     if locks.swap::<Gives>(seat, STRIDE * which, FREE) == SLEPT_ON {
-        // One thread is enough, since it marks the word again for the others.
+        // One is enough, since it marks the word again for the others.
         locks.wake_one(STRIDE * which);
     }
 }

@@ -95,7 +95,7 @@ module _ {T : Type 0} (form : QueueForm) where
   last_reads f (s ∷ ss) [] g r h = absurd r
   last_reads f (s ∷ ss) (e ∷ es) g r h = last_reads r.0 ss es g r.3 r.2
 
-  -- whoever brings a message is a call of some party
+  -- what brings a message is a call of some party
   abbrev IsCallWith : List (CallUnderWay T) → T → Type 0
   IsCallWith us v = (u : CallUnderWay T) × (before : List (CallUnderWay T)) × (behind : List (CallUnderWay T)) × (calls_of u.party us ≡ before ++ u ∷ behind) × (message u.ask ≡ v ∷ [])
 

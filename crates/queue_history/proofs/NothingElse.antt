@@ -87,7 +87,7 @@ module _ {T : Type 0} where
   longer : (own l more : List T) → own ≡ l ++ more → length l ≤ length own
   longer own l more e = (let n : length own ≡ length l + length more = ap (λ (x : List T). length x) e ∙ length-append l more in omega (arith, n))
 
-  -- who has asked and was answered the same has pushed and popped the same
+  -- parties that have asked and were answered the same have pushed and popped the same
   pub same_pushed : (s t : Standing T) → IsLike s t → pushed s ≡ pushed t
   same_pushed s t (asked, replies) = ap (λ (l : List (QueueAsk T)). brought_by l s.replies) asked ∙ ap (λ (l : List (QueueReply T)). brought_by t.asked l) replies
 

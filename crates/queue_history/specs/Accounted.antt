@@ -107,7 +107,7 @@ module _ {T : Type 0} where
     pub counted : (capacity_of form ≡ Some 1) ⊎ (counted_in c ≡ length accepted)
     pub at_rest : ((p : ℕ) → (at p).call ≡ None) → held ≡ items_in c
 
--- one history of a queue's cells is a run of the queue, and where no more messages were accepted in it than there are positions, it accounts
+-- one history of a queue's cells is a run of the queue, and if no more messages were accepted in it than there are positions, it accounts
 -- for all of them, by what each party's calls asked and were answered
 abbrev pub HistoriesAreAccounted : Type 0 → Type 0
 HistoriesAreAccounted T =

@@ -54,7 +54,7 @@ module _ {T : Type 0} where
   AllAccounted [] accepted gone = Unit {0}
   AllAccounted (x ∷ ps) accepted gone = (of_party x.0 accepted ≡ pushed x.1) × (of_party x.0 gone ≡ popped x.1) × AllAccounted ps accepted gone
 
--- where as many messages were accepted as these parties pushed, nothing else was accepted. And where as many have left as they popped,
+-- if as many messages were accepted as these parties pushed, nothing else was accepted. And if as many have left as they popped,
 -- nothing else has left
 abbrev pub NothingElse : Type 0 → Type 0
 NothingElse T =
@@ -74,7 +74,7 @@ module _ {T : Type 0} where
     pub long : length_in c ≡ length held
     pub counted : (capacity_of form ≡ Some 1) ⊎ (counted_in c ≡ length accepted)
 
-  -- two parties that pushed, and one that popped. Where as many messages were accepted as the two pushed, nothing else was accepted. Where
+  -- two parties that pushed, and one that popped. If as many messages were accepted as the two pushed, nothing else was accepted. Where
   -- as many were accepted as the one popped and are held, what it popped, followed by what is held, is what was accepted
   pub record TwoPushedOnePopped (form : QueueForm) (c : Contents T) (one other popper : ℕ × Standing T) : Type 0 where
     pub accepted : List (ℕ × T)
@@ -100,7 +100,7 @@ module _ {T : Type 0} where
     pub once : EachOnce ps
     pub answered : AllAnswered (λ p. standing_of views p) ps
 
-  -- where no more messages were accepted in it than there are positions, they conclude so
+  -- if no more messages were accepted in it than there are positions, they conclude so
   pub record HaveConcluded (form : QueueForm) (ps : List (ℕ × Standing T)) : Type 0 where
     pub found : InOneHistory form ps
     pub so : IsCounted form found.run.trace → Concluded form found.cells ps

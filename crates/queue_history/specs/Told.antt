@@ -1,5 +1,5 @@
--- A look at a witness into which others were joined tells of one history, as what parties conclude asks it. And what a client concludes who
--- has three witnesses of one queue.
+-- A look at a witness into which others were joined tells of one history, as what parties conclude asks it. And what a client with three
+-- witnesses of one queue concludes.
 use Rattle.std.specs.Prelude.{◌≡◌, ℕ, List, [], ◌∷◌, None}
 use Rattle.concurrent_queue.specs.declared.call.QueueAsk.{QueueAsk}
 use Rattle.concurrent_queue.specs.declared.call.QueueReply.{QueueReply}

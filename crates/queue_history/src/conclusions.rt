@@ -1,5 +1,5 @@
-//! What clients whose threads pushed to a queue and popped from it conclude, from the witnesses of their calls, of each message. The last
-//! two functions have no proof of their own, as a client has none.
+//! What clients whose threads pushed to a queue and popped from it conclude of each message, from the witnesses of their calls. The last
+//! two functions have no proof file of their own: a client needs none.
 
 ghost use Rattle.std.specs.Prelude.{◌≡◌, IfSome, true, [], ◌∷◌};
 ghost use Rattle.concurrent_queue.specs.Witnessed.{table_of, view_of, asked_in, replied_in};
@@ -12,10 +12,9 @@ use crate::accounts::{looks_are_of_one_history, parties_conclude, three_are_told
 use concurrent_queue::{ConcurrentQueue, PopError, PushError, Witnessed};
 use std::sync::Wait;
 
-/// What the calls of a witness, and those of each witness that was joined into it, come to at this moment, whatever other threads are in the
-/// midst of. The messages of each stand in what was accepted, in its order, and what each popped stands in what has left. What has left,
-/// followed by what is held, is what was accepted. `false`: a call of the queue was stepped from outside, and nothing is told. It costs a
-/// load.
+/// What the calls of a witness, and those of each witness that was joined into it, come to at this moment, whatever other threads are
+/// doing. The messages of each are in what was accepted, in its order, and what each popped is in what has left. What has left, followed by
+/// what is held, is what was accepted. `false`: a call of the queue was stepped from outside, and nothing is known. It costs one load.
 pub fn conclude<T: Drop>(witnessed: &mut Witnessed<'_, T>) -> bool
     requires replied { AllReplied (party (view_of witnessed.old) ∷ (view_of witnessed.old).over) }
     ensures concluded { result ≡ true → HaveConcluded (view_of witnessed.old).form (party (view_of witnessed.old) ∷ (view_of witnessed.old).over) }
@@ -54,7 +53,7 @@ pub struct Answers<T: Drop> {
     pub other: Result<(), PushError<T>>,
     /// To the pop.
     pub popped: Result<T, PopError>,
-    /// Whether the witnesses told of it.
+    /// Whether the look proved it.
     pub is_told: bool,
 }
 
@@ -83,10 +82,10 @@ pub fn push_push_pop<'a, T: Drop, R: Wait>(
     }
 }
 
-/// Two parties push a message each to this queue, and a third pops once, whatever other threads do with the queue. What was accepted is what
-/// has left, followed by what is held, in order. Each push that was answered `Ok` stands in what was accepted, as the one message of its
-/// party, and what was popped is what the popper took of what has left. Where as many were accepted as were popped and are held, what was
-/// popped, followed by what is held, is what was accepted. `None` of a queue without a bound.
+/// Two parties push a message each to this queue, and a third pops once, whatever other threads do with the queue. What was accepted is
+/// what has left, followed by what is held, in order. Each push that was answered `Ok` is in what was accepted, as the one message of its
+/// party, and what was popped is what the popper took of what has left. If as many were accepted as were popped and are held, what was
+/// popped, followed by what is held, is what was accepted. `None` for a queue without a bound.
 pub fn two_pushes_and_a_pop<T: Drop, W: Copy, R: Wait>(
     queue: &ConcurrentQueue<T, W>,
     rt: &R,

@@ -39,7 +39,7 @@ module _ {T : Type 0} where
   abbrev pub became : Hand T → List T
   became v = v.received ++ (v.returned ++ v.carried)
 
-  -- who has no part has sent, received and taken back nothing
+  -- a seat with no part has sent, received and taken back nothing
   abbrev pub IdleIsEmpty : List (Hand T) → Type 0
   IdleIsEmpty views =
       (i : ℕ) (v : Hand T) → get_elem? views i ≡ some v → v.parts ≡ 0 → (v.sent ≡ []) × (v.received ≡ []) × (v.returned ≡ [])
@@ -50,6 +50,6 @@ module _ {T : Type 0} where
     pub even : IsPermutation (flat_map (λ (v : Hand T). v.sent) views) (flat_map became views)
     pub idle : IdleIsEmpty views
 
-  -- who has every part has learned that its lists balance
+  -- a pass that has every part has learned that its lists balance
   abbrev pub learned : Step (Unit {0}) → Me (Unit {0}) (Hand T) → ℕ → Me (Unit {0}) (Hand T) → Type 0
   learned st m found m' = (m' ≡ m) × (m.0.parts ≡ all_parts → IsBalanced m.0.sent m.0.received m.0.returned)

@@ -23,7 +23,7 @@ module _ {T : Type 0} where
   RisesFrom n [] = Unit {0}
   RisesFrom n (m ∷ ms) = (n ≤ m.number) × RisesFrom (m.number + 1) ms
 
-  -- the place after the last of them, or this one where there is none
+  -- the place after the last of them, or this one if there is none
   abbrev pub place_after : ℕ → List (Numbered T) → ℕ
   place_after n [] = n
   place_after n (m ∷ ms) = place_after (m.number + 1) ms

@@ -1,4 +1,4 @@
-//! How a waybill is written.
+//! How a waybill is written: a new seat is split off the pass, which so knows that it has sent.
 
 ghost use Rattle.std.specs.Prelude.{◌≡◌, [], ◌∷◌};
 ghost use Rattle.waybill.specs.Accounts.{after_sent};
@@ -19,5 +19,6 @@ pub(crate) fn bill<T, B: Room, I: Items<T>>(
     ensures same { pass.new ≡ after_sent pass.old value.now }
     ensures new { (result.table_id ≡ B.table) × (result.me ≡ (waybill (value.now ∷ []), [])) }
 {
+    // One atomic operation: a waybill exists exactly if the pass counts its message as sent.
     office.table.shared.split_seat::<Cuts<I>>(&mut pass.seat)
 }

@@ -1,4 +1,4 @@
-//! What one thread receives, kept beside its pass.
+//! What one thread receives, kept beside its pass. The invariant: the pass has received just these messages, and sent none.
 
 ghost use Rattle.std.specs.Prelude.{◌≡◌, List, [], ◌∷◌, ◌++◌, IfOk, IfErr};
 ghost use Rattle.waybill.specs.Accounts.{fresh, account};
@@ -35,7 +35,7 @@ impl<T: Drop, B: Room> Inbox<T, B> {
         }
     }
 
-    /// Unpacks a parcel and keeps its message, which now counts as received. `Err` hands the parcel on where there is no memory.
+    /// Unpacks a parcel and keeps its message, which now counts as received. `Err` returns the parcel if there is no memory.
     pub fn unpack(
         &mut self,
         office: &Office<T, B>,

@@ -1,5 +1,5 @@
-//! Messages that travel with a waybill: a token of no bytes by which whoever gets a message knows that it was sent, and that it
-//! comes once. A message may go through any queue or channel, since all is said by its type.
+//! Messages that travel with a waybill: a token of no bytes that proves to the receiver of a message that it was sent, and that it comes
+//! once. A message may go through any queue or channel, since everything is said by its type.
 #![tactic(auto)]
 
 pub mod bill;

@@ -8,13 +8,13 @@ pub struct Numbered<T> {
     pub value: T,
 }
 
-/// The message that a source handed back: it has sent 2^64 - 1 messages and has no number left.
+/// The message that a source returned: it has sent 2^64 - 1 messages and has no number left.
 #[derive(Drop)]
 pub struct NumbersUsedUp<T> {
     pub value: T,
 }
 
-/// A parcel that came out of turn, or of a sender whom the sink does not know. It is handed on as it came.
+/// A parcel that came out of turn, or from a sender that the sink does not know. It is passed on as it came.
 #[derive(Drop)]
 pub struct OutOfTurn<P> {
     pub parcel: P,

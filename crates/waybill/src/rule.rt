@@ -6,7 +6,7 @@ use atomic_table::{Join, Play, Split, TableRule};
 use std::collections::LinkedList;
 use std::marker::Brand;
 
-/// Which office a waybill is of. A caller picks it at one call, by `Brand`.
+/// Which office a waybill belongs to. A caller picks it at one call, by `Brand`.
 pub trait Room {
     ghost use Rattle.atomic_table.specs.Seated.{TableId};
 
@@ -30,8 +30,7 @@ impl<T> Items<T> for Brand {
     ghost items = { [] };
 }
 
-// What a pass has sent and received, with its parts of the right to know the whole; of a waybill, what it is for. No value of
-// it is made.
+// What a pass has sent and received, with its parts of the right to know the whole; of a waybill, what it is for. No value of it is made.
 pub(crate) struct Hand<T> {
     pub parts: u64,
     pub sent: LinkedList<T>,
@@ -40,7 +39,7 @@ pub(crate) struct Hand<T> {
     pub carried: LinkedList<T>,
 }
 
-/// The rule: what was sent was received or is on its way.
+/// The rule: what was sent was received, was taken back or is in flight.
 pub(crate) struct Fair;
 
 impl<T> TableRule<(), Hand<T>, ()> for Fair {
@@ -102,7 +101,7 @@ impl<T> Join<Hand<T>> for Returns {
     ghost spent = { hand 0 [] [] [] [] };
 }
 
-/// The whole is learned by who has every part.
+/// The whole is learned by a pass that has every part.
 pub(crate) struct Learns;
 
 impl<T> Play<(), Hand<T>> for Learns {

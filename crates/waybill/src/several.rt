@@ -1,4 +1,4 @@
-//! Several messages packed at once.
+//! Several messages packed at once, by one pass.
 
 ghost use Rattle.std.specs.Prelude.{◌≡◌, IfOk, IfErr};
 ghost use Rattle.waybill.specs.Accounts.{after_all_sent};
@@ -8,7 +8,7 @@ use crate::tokens::{Office, Parcel, Pass};
 use std::alloc::{AllocError, Global};
 
 impl<T: Copy, B: Room> Office<T, B> {
-    /// These messages, packed in their order. From here on they count as sent by this pass. `Err` where there is no memory.
+    /// These messages, packed in their order. From here on they count as sent by this pass. `Err` if there is no memory.
     pub fn pack_each(
         &self,
         alloc: Global,

@@ -1,4 +1,5 @@
-//! A receiver's side, which looks at the places of what comes.
+//! A receiver's side, which checks the places of what comes. The invariant: for each sender it keeps the place after the last that it
+//! accepted.
 
 ghost use Rattle.std.specs.Prelude.{◌≡◌, ◌⊎◌, ℕ, ◌<◌, ◌≤◌, true, false, [], length, slice_index, IfOk, IfErr};
 ghost use Rattle.waybill.specs.Accounts.{fresh, account};
@@ -13,8 +14,8 @@ use std::alloc::{AllocError, Global};
 use std::marker::Model;
 use std::sync::Wait;
 
-/// One receiver. It compares the place of each message with those of its sender that came before, so a queue that turned two would be
-/// seen, and is never believed. Contracts see whether it is the only receiver, how many senders it knows, and what it received.
+/// One receiver. It compares the place of each message with those of its sender that came earlier, so a queue that reorders messages is
+/// found out. Contracts see whether it is the only receiver, how many senders it knows, and what it received.
 #[derive(Drop)]
 pub struct Sink<T, B: Room> {
     pass: Pass<Numbered<T>, B>,
@@ -44,8 +45,8 @@ fn is_in_turn(sole: bool, awaited: u64, number: u64) -> bool
 }
 
 impl<T, B: Room> Sink<T, B> {
-    /// The only receiver, of so many senders with numbers from 0 on: of each it takes the next message and no other. `Err` where there
-    /// is no memory for a place of each.
+    /// The only receiver, of so many senders with numbers from 0 on: of each it accepts the next message and no other. `Err` if there is no
+    /// memory for a place of each.
     pub fn sole(
         alloc: Global,
         pass: Pass<Numbered<T>, B>,
@@ -62,7 +63,7 @@ impl<T, B: Room> Sink<T, B> {
         })
     }
 
-    /// One receiver of several: of each sender it takes any message that is later than those it took before.
+    /// One receiver of several: of each sender it accepts any message that is later than those it accepted before.
     pub fn shared(
         alloc: Global,
         pass: Pass<Numbered<T>, B>,
@@ -79,8 +80,8 @@ impl<T, B: Room> Sink<T, B> {
         })
     }
 
-    /// The message of a parcel, with its sender's number and its place. It now counts as received. `Err` hands the parcel on where it came
-    /// out of turn.
+    /// The message of a parcel, with its sender's number and its place. It now counts as received. `Err` returns the parcel if it came out
+    /// of turn.
     #[inline(always)]
     pub fn unpack(
         &mut self,
@@ -106,8 +107,8 @@ impl<T, B: Room> Sink<T, B> {
         Ok(office.unpack(&mut self.pass, parcel))
     }
 
-    /// Takes each parcel out of a line until that is closed. `Err` where there is no memory, and with the parcel where one came out of
-    /// turn. It waits where the line does.
+    /// Takes each parcel out of a line until that is closed. `Err` if there is no memory, and with the parcel if one came out of turn. It
+    /// waits where the line does.
     pub fn receive_all<L: Line<Parcel<Numbered<T>, B>>, R: Wait>(
         self,
         rt: &R,
@@ -139,7 +140,7 @@ impl<T, B: Room> Sink<T, B> {
         Ok((sink.into_pass(), got))
     }
 
-    /// The pass, which knows what was received: of each sender the places rise, and where this was the only receiver none is left out.
+    /// The pass, which knows what was received: of each sender the places rise, and if this was the only receiver none is left out.
     pub fn into_pass(self) -> Pass<Numbered<T>, B>
         ensures received { result ≡ account 1 [] self.received [] }
         ensures rising { IsRising self.received }

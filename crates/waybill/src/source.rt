@@ -1,4 +1,5 @@
-//! A sender's side that numbers what it sends.
+//! A sender's side that numbers what it sends. The invariant: the pass has sent the messages with the numbers below the next one, in order,
+//! and received none.
 
 ghost use Rattle.std.specs.Prelude.{◌≡◌, [], length, IfOk, IfErr};
 ghost use Rattle.waybill.specs.Accounts.{fresh, account};
@@ -11,7 +12,7 @@ use crate::rule::Room;
 use crate::tokens::{Office, Parcel, Pass};
 use std::marker::Model;
 
-/// One sender, who numbers its messages from 0. Contracts see its number and what it sent.
+/// One sender, which numbers its messages from 0. Contracts see its number and what it sent.
 #[derive(Drop)]
 pub struct Source<T, B: Room> {
     pass: Pass<Numbered<T>, B>,
@@ -40,7 +41,7 @@ impl<T, B: Room> Source<T, B> {
         }
     }
 
-    /// A message that may be sent, with its number. `Err` hands the message back where the last number was given, after 2^64 - 1 messages.
+    /// A message that may be sent, with its number. `Err` returns the message once the last number was given, after 2^64 - 1 messages.
     #[inline(always)]
     pub fn pack(
         &mut self,

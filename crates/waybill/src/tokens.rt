@@ -1,4 +1,5 @@
-//! Offices, passes and parcels: values that carry facts and, but for the office and the message, no bytes.
+//! Offices, passes and parcels: values that carry facts and, except for the office and the message, no bytes. No other module makes or
+//! takes them apart.
 
 ghost use Rattle.std.specs.Prelude.{◌≡◌, ◌<◌, [], ◌∷◌};
 ghost use Rattle.atomic_table.specs.Seated.{TableId};

@@ -1,4 +1,4 @@
-//! The calls that block their thread, on cells of any kind with a bed, which a trace sees, likewise.
+//! The calls that block their thread, over cells of any kind with a bed, which a trace sees. The bed is the thread's own.
 
 ghost use Rattle.std.specs.Prelude.{◌≡◌, IfErr};
 ghost use Rattle.channel_calls.specs.Blocks.{Blocks};
@@ -34,7 +34,7 @@ pub(crate) fn send_blocking<T: Drop, R: Wait, C: Beds<T>, S: Trace<T>>(
     (sent, seen.into_trace())
 }
 
-/// Takes the oldest message, and blocks the thread while there is none.
+/// Removes the oldest message, and blocks the thread while there is none.
 #[inline(always)]
 pub(crate) fn recv_blocking<T: Drop, R: Wait, C: Beds<T>, S: Trace<T>>(
     rt: &R,

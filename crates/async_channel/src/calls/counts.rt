@@ -1,4 +1,4 @@
-//! More handles and fewer, on cells of any kind that a trace sees, likewise.
+//! Counting handles up and down, over cells of any kind that a trace sees.
 
 ghost use Rattle.std.specs.Prelude.{◌≡◌, IfErr};
 ghost use Rattle.channel_calls.specs.declared.ask.ChannelAsk.TheVariants as ask;
@@ -14,7 +14,7 @@ use event_listener::key::Key;
 use event_listener::waking::WakeNow;
 use std::sync::Wait;
 
-/// One more strong handle of this kind is counted. Refused where too many live.
+/// Counts one more strong handle of this kind. `Err` if too many live.
 pub(crate) fn clone_handle<K: Kind, T: Drop, R: Wait, C: Places<T>, S: Trace<T>>(
     rt: &R,
     seen: Seen<C, S>,
@@ -27,7 +27,7 @@ pub(crate) fn clone_handle<K: Kind, T: Drop, R: Wait, C: Places<T>, S: Trace<T>>
     (counted, seen.into_trace())
 }
 
-/// The same where the channel is open and one lives; `None` elsewhere.
+/// The same if the channel is open and one lives; otherwise `None`.
 pub(crate) fn upgrade<K: Kind, T: Drop, R: Wait, C: Places<T>, S: Trace<T>>(
     rt: &R,
     seen: Seen<C, S>,
@@ -40,7 +40,7 @@ pub(crate) fn upgrade<K: Kind, T: Drop, R: Wait, C: Places<T>, S: Trace<T>>(
     (counted, seen.into_trace())
 }
 
-/// A sender is dropped: its count is lowered, and the last one closes.
+/// Drops a sender: its count is lowered, and the last one closes.
 pub(crate) fn drop_sender<T: Drop, R: Wait, C: Places<T>, S: Trace<T>>(
     rt: &R,
     raised: Raised<OfSenders>,
@@ -53,7 +53,7 @@ pub(crate) fn drop_sender<T: Drop, R: Wait, C: Places<T>, S: Trace<T>>(
     seen.into_trace()
 }
 
-/// A receiver is dropped, which may have a listener as a stream: its count is lowered, and the last one closes.
+/// Drops a receiver, which may have a listener as a stream: its count is lowered, and the last one closes.
 pub(crate) fn drop_receiver<T: Drop, R: Wait, C: Places<T>, S: Trace<T>>(
     rt: &R,
     raised: Raised<OfReceivers>,

@@ -1,4 +1,4 @@
-//! One poll of each kind of operation, and the giving up, on cells of any kind that a trace sees, likewise.
+//! One poll of each kind of operation, and giving up, over cells of any kind that a trace sees.
 
 ghost use Rattle.std.specs.Prelude.{◌≡◌, is_some};
 ghost use Rattle.channel_calls.specs.Asks.{first};
@@ -20,7 +20,7 @@ use event_listener::waking::{Task, WakeNow};
 use futures::task::Poll;
 use std::sync::Wait;
 
-/// A poll of a send with this message; of a finished one without.
+/// A poll of a send with this message; of a finished one with none.
 pub(crate) fn poll_send<T: Drop, R: Wait, C: Places<T>, S: Trace<T>>(
     rt: &R,
     message: Option<T>,
@@ -82,7 +82,7 @@ pub(crate) fn poll_next<T: Drop, R: Wait, C: Places<T>, S: Trace<T>>(
     (polled, left, seen.into_trace())
 }
 
-/// An operation of this kind is given up: the message of an unfinished send comes back.
+/// Gives up an operation of this kind, and returns the message of an unfinished send.
 pub(crate) fn give_up<T: Drop, R: Wait, C: Places<T>, S: Trace<T>>(
     rt: &R,
     line: WaitList,

@@ -1,5 +1,5 @@
-//! The calls that handles of both kinds have, on a channel of either form. With a bound its watch is told of the call, and without one the
-//! watch is the trace that sees it.
+//! The calls that handles of both kinds have, on a channel of either form. With a bound the channel's trace is told of the call by its
+//! witness; without one it sees the call's operations.
 
 ghost use Rattle.std.specs.Prelude.{◌≡◌, None, false, MatchOption};
 ghost use Rattle.channel_calls.specs.Asks.{first};
@@ -58,7 +58,7 @@ impl<T: Drop, K: Kind> Counted<T, K> {
     }
 }
 
-// Questions that wait for nobody: none of them takes the runtime or a lock.
+// None of these takes the runtime or a lock, so none waits.
 impl<T: Drop, K: Kind> Counted<T, K> {
     /// Whether the channel is closed.
     #[inline(always)]
@@ -131,7 +131,7 @@ impl<T: Drop, K: Kind> Counted<T, K> {
         }
     }
 
-    /// How many messages the channel can hold, if there is a bound. With one it is no call: it touches no cell.
+    /// How many messages the channel can hold, if there is a bound. With one it touches no cell, so it is no call.
     #[inline(always)]
     pub(crate) fn capacity<S: Trace<T> + Copy>(&self, watch: S) -> Option<usize>
         ensures made { MatchOption (handle_of self.now.link).table (WasSeen S.did S.shown S.entered (handle_of self.now.link) (λ saw. WalkedTo saw (first ask.Capacity)) (reply.Cap result)) (λ _. Unit {0}) }

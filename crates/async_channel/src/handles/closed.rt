@@ -1,4 +1,9 @@
-//! The polled wait for a channel's closing.
+//! The polled wait for a channel's closing. The operation owns its listener: it is listed while the operation is pending, and leaves when
+//! it is dropped.
+//!
+//! # Extensions
+//!
+//! `give_up`.
 
 ghost use Rattle.std.specs.Prelude.{◌≡◌, None, is_some, ⊤};
 ghost use Rattle.futures.specs.Poll.{IfReady, OnPending};
@@ -26,11 +31,10 @@ use std::marker::Model;
 use std::mem;
 use std::sync::Wait;
 
-/// A wait for the channel's closing, whoever closes it.
+/// A wait for the channel's closing, whichever call or drop closes it.
 ///
-/// Each poll takes a copy of the waker first; where none is got nothing is tried, and the answer is want of memory. A poll may
-/// wait for the locks of those who wait. Dropping it gives it up. Contracts see the
-/// listener that is listed for it. As `async-channel` 2.5.0.
+/// A poll may wait for the locks of the wait queues. Dropping it gives it up. Contracts see the listener that is listed for it. As
+/// `async-channel` 2.5.0.
 pub struct Closed<'a, T: Drop, R: Wait + Copy, S: Trace<T> + Copy = NoTrace> {
     pub(crate) sender: &'a Sender<T, R, S>,
     pub(crate) waits: Waits<T, OfClosings>,
@@ -56,10 +60,10 @@ impl<'a, T: Drop, R: Wait + Copy, S: Trace<T> + Copy> Closed<'a, T, R, S> {
         }
     }
 
-    /// One poll: a listener is listed for it afterwards where it is pending, and else none.
+    /// One poll. A listener is listed for it afterwards if it is pending, and otherwise none.
     ///
-    /// Refused where a listener was refused memory or a serial. A copy of the waker is taken first. Where none is got nothing is tried,
-    /// and the answer is want of memory. It may wait for the locks of those who wait.
+    /// `Err` if a listener was refused memory or a serial. It takes a copy of the waker first; if there is none, nothing is tried, and the
+    /// answer is want of memory.
     pub fn poll(&mut self, cx: &mut Context<'_>) -> Poll<Result<(), ListenError>>
         ensures made { WasPolled S.did S.shown S.entered self.old.channel self.old.party (closed_ask self.old.key) (reply.ClosedPoll result) self.new.key self.new.party }
         ensures listed { is_some self.new.key ≡ is_pending result }
@@ -78,7 +82,7 @@ impl<'a, T: Drop, R: Wait + Copy, S: Trace<T> + Copy> Closed<'a, T, R, S> {
         }
     }
 
-    /// Gives it up, as its drop does. It may wait for the lock of those who wait. Own to this project.
+    /// Gives it up, as its drop does. It may wait for the lock of its wait queue.
     pub fn give_up(mut self)
         ensures made { WasMadeBy S.did S.shown S.entered S.called self.entry.channel self.entry.party (ask.GiveUp line.Closings None self.entry.key) (reply.GivenUp None) }
     {
@@ -99,7 +103,7 @@ impl<'a, T: Drop, R: Wait + Copy, S: Trace<T> + Copy> Closed<'a, T, R, S> {
 impl<T: Drop, R: Wait + Copy, S: Trace<T> + Copy> Future for Closed<'_, T, R, S> {
     type Output = Result<(), ListenError>;
 
-    // The trait's clauses say nothing of the answer, so behind them stand those of the method itself.
+    // The trait's clauses say nothing of the answer, so those of the method itself do.
     fn poll(&mut self, cx: &mut Context<'_>) -> Poll<Result<(), ListenError>>
         ensures value { IfReady result (λ _. ⊤) }
         ensures polled_on { OnPending result ⊤ }

@@ -1,4 +1,8 @@
 //! Walks over a receiver's messages.
+//!
+//! # Extensions
+//!
+//! All of this module.
 
 ghost use Rattle.std.specs.Prelude.{◌≡◌, false};
 ghost use Rattle.std.specs.Iterator.{at_most};
@@ -19,7 +23,7 @@ impl<T: Drop, R: Wait + Copy, S: Trace<T> + Copy> Receiver<T, R, S> {
     ghost use Rattle.channel_calls.specs.Taking.{IsNext};
     ghost use Rattle.async_channel.specs.Iter.{GivesNext};
 
-    /// The next item of a walk that waits, which has ended or not.
+    /// The next item of a walk that waits; `ended` says whether the walk has ended.
     #[inline(always)]
     fn next_item(&self, ended: &mut bool) -> Option<Result<T, ListenError>>
         ensures made { GivesNext S.did S.shown S.entered S.called S.parked S.slept self.now.channel ended.old result }
@@ -45,8 +49,8 @@ impl<T: Drop, R: Wait + Copy, S: Trace<T> + Copy> Receiver<T, R, S> {
     }
 }
 
-/// A receiver's messages, one after another: each is waited for as by [`recv_blocking`](Receiver::recv_blocking). `None` where the channel
-/// is closed and empty, and from then on. Made by [`iter`](Receiver::iter). Own to this project.
+/// A receiver's messages, one after another; each is waited for as by [`recv_blocking`](Receiver::recv_blocking). `None` if the channel is
+/// closed and empty, and from then on. Made by [`iter`](Receiver::iter).
 #[derive(Drop)]
 pub struct Iter<'a, T: Drop, R: Wait + Copy, S: Trace<T> + Copy = NoTrace> {
     receiver: &'a Receiver<T, R, S>,
@@ -70,7 +74,7 @@ impl<'a, T: Drop, R: Wait + Copy, S: Trace<T> + Copy> Iter<'a, T, R, S> {
 impl<'a, T: Drop, R: Wait + Copy, S: Trace<T> + Copy> Iterator for Iter<'a, T, R, S> {
     type Item = Result<T, ListenError>;
 
-    // So a `for` over it knows what each item is.
+    // With this a `for` over it knows what each item is.
     ghost next_gives = { λ s item t. (t.receiver.now.channel ≡ s.receiver.now.channel) × WaitsOnce S.did S.shown S.entered S.called S.parked S.slept s.receiver.now.channel s.ended item t.ended };
 
     ghost remaining = { λ s. at_most (turns_left s.turns) };
@@ -95,8 +99,8 @@ impl<'a, T: Drop, R: Wait + Copy, S: Trace<T> + Copy> IntoIterator for &'a Recei
     }
 }
 
-/// The messages of a receiver that the walk owns, each waited for as by [`Iter`]. The receiver goes when the walk does: where it was the
-/// last one, that closes the channel. Made by `into_iter` of a receiver. Own to this project.
+/// The messages of a receiver that the walk owns, each waited for as by [`Iter`]. The receiver is dropped with the walk; if it was the last
+/// one, that closes the channel. Made by `into_iter` of a receiver.
 #[derive(Drop)]
 pub struct IntoIter<T: Drop, R: Wait + Copy, S: Trace<T> + Copy = NoTrace> {
     receiver: Receiver<T, R, S>,
@@ -124,7 +128,7 @@ impl<T: Drop, R: Wait + Copy, S: Trace<T> + Copy> IntoIterator for Receiver<T, R
 
     ghost into_iter_gives = { λ r walk. (walk.receiver ≡ r) × (walk.ended ≡ false) };
 
-    /// As [`iter`](Receiver::iter), by a walk that owns this receiver, and lets it go when it is dropped itself.
+    /// As [`iter`](Receiver::iter), by a walk that owns this receiver and drops it when it is dropped itself.
     fn into_iter(self) -> IntoIter<T, R, S> {
         IntoIter {
             receiver: self,
@@ -134,8 +138,8 @@ impl<T: Drop, R: Wait + Copy, S: Trace<T> + Copy> IntoIterator for Receiver<T, R
     }
 }
 
-/// The messages that a receiver finds there, one after another, each taken as by [`try_recv`](Receiver::try_recv). `None` where none is
-/// there; it goes on where others came since. Made by [`try_iter`](Receiver::try_iter). Own to this project.
+/// The messages that are there, one after another, each received as by [`try_recv`](Receiver::try_recv). `None` if there is none; it goes
+/// on if others came since. Made by [`try_iter`](Receiver::try_iter).
 #[derive(Drop)]
 pub struct TryIter<'a, T: Drop, R: Wait + Copy, S: Trace<T> + Copy = NoTrace> {
     receiver: &'a Receiver<T, R, S>,

@@ -1,4 +1,10 @@
-//! The receiving side of a channel.
+//! The receiving side of a channel. A receiver owns one count of the channel, which only its drop lowers, and the listener that is listed
+//! for it as a stream.
+//!
+//! # Extensions
+//!
+//! `recv_many`, `recv_many_into`, `iter`, `try_iter` and `calls`; and the answers for want of memory, serials or counts, which the methods
+//! name. All else is as in `async-channel` 2.5.0.
 
 ghost use Rattle.channel_calls.specs.Asks.{first};
 ghost use Rattle.channel_calls.specs.Blocks.{Blocks};
@@ -41,12 +47,18 @@ use std::fmt;
 use std::marker::Model;
 use std::sync::Wait;
 
-/// The receiving side of a channel, which any number of threads may share and clone. Each message goes to one receiver.
+/// The receiving side of a channel, which any number of threads may share and clone. Each message goes to one receiver. It is also a stream
+/// of messages.
 ///
-/// It is a stream of messages too. The channel is closed once its last receiver is dropped; the messages left are dropped with
-/// the channel. The drop may wait for the locks of those who wait. Contracts see a receiver as its channel: how many messages
-/// it holds at most, its identity, and the memory that its handles share; and the listener that is listed for it as a stream. As
-/// `async-channel` 2.5.0, but that it has the runtime with it.
+/// The channel is closed once its last receiver is dropped; the messages left are dropped with the channel. Contracts see a receiver as its
+/// channel: how many messages it holds at most, its identity, and the memory that its handles share; and the listener that is listed for it
+/// as a stream. It keeps the runtime.
+///
+/// # Waiting
+///
+/// `is_closed`, `is_empty`, `is_full`, `is_terminated`, `capacity`, the counts, `same_channel`, `downgrade`, `calls`, and making an
+/// operation or a walk by `recv`, `iter` or `try_iter` never wait. All other calls, and the drop, may wait for another call's next steps
+/// and for the locks of the wait queues; `recv_blocking` and items of `iter` may wait for a message for ever.
 pub struct Receiver<T: Drop, R: Wait + Copy, S: Trace<T> + Copy = NoTrace> {
     pub(crate) counted: Counted<T, OfReceivers>,
     pub(crate) rt: R,
@@ -81,8 +93,8 @@ impl<T: Drop, R: Wait + Copy, S: Trace<T> + Copy> Receiver<T, R, S> {
         }
     }
 
-    /// The calls of this receiver with what shows that they were made: with a bound a witness that each call gives, and without one a trace
-    /// of the caller's. Own to this project.
+    /// The calls of this receiver together with what proves that they were made: with a bound a witness that each call returns, and without
+    /// one a trace of the caller's.
     #[inline(always)]
     pub fn calls(&self) -> Calls<'_, T, R, OfReceivers>
         ensures { AreCallsOf self.now.channel result }
@@ -90,10 +102,7 @@ impl<T: Drop, R: Wait + Copy, S: Trace<T> + Copy> Receiver<T, R, S> {
         self.counted.calls(&self.rt)
     }
 
-    /// Takes the oldest message.
-    ///
-    /// Refused where there is none: as empty while the channel is open, as closed afterwards. It doesn't wait for a message, but
-    /// may wait for another call's end and for the locks of those who wait. As `async-channel` 2.5.0.
+    /// Removes and returns the oldest message. `Err` if there is none: `Empty` while the channel is open, `Closed` afterwards.
     ///
     /// ```rust
     /// let none_yet = receiver.try_recv().err()?.is_empty(); // true
@@ -120,22 +129,18 @@ impl<T: Drop, R: Wait + Copy, S: Trace<T> + Copy> Receiver<T, R, S> {
         }
     }
 
-    /// Takes the oldest messages, at most `limit`, in order: as many as there are, or as are wanted.
+    /// Removes and returns the oldest messages, at most `limit`, in order. It notifies as many waiting sends as it took messages.
     ///
-    /// Refused where there is none: as empty while the channel is open, as closed afterwards; and where there is no memory for
-    /// `limit` messages, which is asked for first, so that nothing is taken then: a large limit costs its memory at each call, however few
-    /// messages are there ([`recv_many_into`](Receiver::recv_many_into) asks for none). A limit of 0 asks for no memory and gives an
-    /// empty list. As many sends that wait are told as messages were taken. It never waits for a message, but may wait for
-    /// another call's end and for the locks of those who wait, as [`try_recv`](Receiver::try_recv) may. Who is to wait for the
-    /// first message receives that one by [`recv`](Receiver::recv), polled until it is ready, or by
-    /// [`recv_blocking`](Receiver::recv_blocking), and then takes the rest:
+    /// `Err` if there is none, as by [`try_recv`](Receiver::try_recv), or if there is no memory for `limit` messages. Memory is asked for
+    /// first, so nothing is taken then: a large limit costs its memory at each call, however few messages are there
+    /// ([`recv_many_into`](Receiver::recv_many_into) asks for none). A limit of 0 asks for no memory and returns an empty list. It never
+    /// waits for a message; to wait for the first one, receive that by [`recv`](Receiver::recv) or
+    /// [`recv_blocking`](Receiver::recv_blocking), and then the rest:
     ///
     /// ```text
     /// let first = receiver.recv_blocking()?;
     /// let rest = receiver.recv_many(15);
     /// ```
-    ///
-    /// Own to this project.
     ///
     /// ```rust
     /// sender.try_send(1).ok()?;
@@ -173,13 +178,12 @@ impl<T: Drop, R: Wait + Copy, S: Trace<T> + Copy> Receiver<T, R, S> {
         }
     }
 
-    /// Takes the oldest messages into the room that is there, behind what is in it, in order: as many as there are, or as fit. It gives
-    /// their number, and asks for no memory.
+    /// Moves the oldest messages into the room that is there, behind what is in it, in order: as many as there are, or as fit. It answers
+    /// their number, and takes no memory.
     ///
-    /// Refused where there is no message: as empty while the channel is open, as closed afterwards. Where there is no room nothing is
-    /// tried, and the answer is `Ok(0)`, on a closed channel too: so a loop that is left only by a refusal never ends with a list that is
-    /// not emptied within it. What it does is what [`recv_many`](Receiver::recv_many) does with that room as its limit, once it has
-    /// its memory. It never waits for a message, but may wait as [`try_recv`](Receiver::try_recv) may. Own to this project.
+    /// `Err` if there is no message, as by [`try_recv`](Receiver::try_recv). If there is no room nothing is tried, and the answer is
+    /// `Ok(0)`, on a closed channel too: so a loop that only a refusal ends never ends with a list that is not emptied within it. It does
+    /// what [`recv_many`](Receiver::recv_many) does with that room as its limit, once that has its memory. It never waits for a message.
     ///
     /// ```text
     /// let mut batch = Vec::with_capacity(alloc, 15)?;
@@ -214,8 +218,8 @@ impl<T: Drop, R: Wait + Copy, S: Trace<T> + Copy> Receiver<T, R, S> {
         }
     }
 
-    /// A receive that waits for a message: nothing is done until it is polled. It is refused where the channel is closed and empty; and
-    /// for memory or serials, after which another poll tries again. As `async-channel` 2.5.0, but for these.
+    /// A receive that waits for a message: nothing is done until it is polled. It is refused if the channel is closed and empty; and for
+    /// memory or serials, after which another poll tries again.
     ///
     /// ```rust
     /// sender.try_send(1).ok()?;
@@ -228,10 +232,9 @@ impl<T: Drop, R: Wait + Copy, S: Trace<T> + Copy> Receiver<T, R, S> {
         Recv::new(self)
     }
 
-    /// Takes the oldest message, and blocks the thread while there is none. It may wait for ever.
+    /// Removes and returns the oldest message, and blocks the thread while there is none.
     ///
-    /// Refused where the channel is closed and empty, or where what a wait needs was refused: memory, or a serial of a listener.
-    /// As `async-channel` 2.5.0, but for the wants.
+    /// `Err` if the channel is closed and empty, or if what a wait needs was refused, memory or a serial of a listener.
     pub fn recv_blocking(&self) -> Result<T, Refused<RecvError>>
         ensures made { MatchOption self.now.channel.table (WasSeen S.did S.shown S.entered self.now.channel (λ saw begin r end. Blocks saw S.parked S.slept ways.Receive begin r nothing_kept end) (reply.RecvPoll (poll.Ready result))) (λ table. WasTold S.called (HasReceived table fresh result)) }
     {
@@ -248,11 +251,11 @@ impl<T: Drop, R: Wait + Copy, S: Trace<T> + Copy> Receiver<T, R, S> {
         }
     }
 
-    /// The messages one after another, each of which is waited for as by [`recv_blocking`](Receiver::recv_blocking). It ends where the
-    /// channel is closed and empty, and stays ended. Taking an item may wait for ever.
+    /// The messages one after another, each of which is waited for as by [`recv_blocking`](Receiver::recv_blocking). It ends when the
+    /// channel is closed and empty, and stays ended.
     ///
-    /// An item is `Err` where what a wait needs was refused: memory, or a serial of a listener. The walk isn't over then, and its next
-    /// item is tried for as before: who doesn't want to try again leaves the loop.
+    /// An item is `Err` if what a wait needs was refused, memory or a serial of a listener. The walk isn't over then, and its next item is
+    /// tried for as before; to stop trying, leave the loop.
     ///
     /// ```text
     /// for job in jobs.iter() {
@@ -260,7 +263,7 @@ impl<T: Drop, R: Wait + Copy, S: Trace<T> + Copy> Receiver<T, R, S> {
     /// }
     /// ```
     ///
-    /// A `for` over `&jobs` does the same, and one over `jobs` owns its receiver: [`IntoIter`]. Own to this project.
+    /// A `for` over `&jobs` does the same, and one over `jobs` owns its receiver: [`IntoIter`].
     pub fn iter(&self) -> Iter<'_, T, R, S>
         ensures channel { result.receiver.now.channel ≡ self.now.channel }
         ensures new { result.ended ≡ false }
@@ -268,9 +271,9 @@ impl<T: Drop, R: Wait + Copy, S: Trace<T> + Copy> Receiver<T, R, S> {
         Iter::new(self)
     }
 
-    /// The messages that are there, one after another, each taken as by [`try_recv`](Receiver::try_recv). An item is `None` where none is
-    /// there, whether the channel is open or closed, which ends a `for`. The walk keeps no end: asked again, it gives what was sent since.
-    /// It never waits for a message, but may wait for another call's end and for the locks of those who wait. Own to this project.
+    /// The messages that are there, one after another, each received as by [`try_recv`](Receiver::try_recv). An item is `None` if there is
+    /// none, whether the channel is open or closed, which ends a `for`. The walk keeps no end: asked again, it returns what was sent since.
+    /// It never waits for a message.
     ///
     /// ```text
     /// let mut there = receiver.try_iter();
@@ -284,16 +287,15 @@ impl<T: Drop, R: Wait + Copy, S: Trace<T> + Copy> Receiver<T, R, S> {
         TryIter::new(self)
     }
 
-    /// Closes the channel: nothing more is sent, and what was sent can still be received. True in the one call that closed it;
-    /// all who wait are woken then. It may wait for the locks of those who wait. As `async-channel` 2.5.0.
+    /// Closes the channel: nothing more is sent, and what was sent can still be received. True in the one call that closed it; that call
+    /// wakes all waiters.
     pub fn close(&self) -> bool
         ensures made { WasMade S.did S.shown S.entered S.called self.now.channel ask.Close (reply.Closed result) }
     {
         self.counted.close(&self.rt, self.watch)
     }
 
-    /// How many messages the channel held at a moment of the call. It may wait, since it asks again where others came between. As
-    /// `async-channel` 2.5.0.
+    /// How many messages the channel held at a moment of the call. It repeats its loads if the queue changed in between.
     pub fn len(&self) -> usize
         ensures made { WasMade S.did S.shown S.entered S.called self.now.channel ask.Len (reply.Count result) }
     {
@@ -301,27 +303,26 @@ impl<T: Drop, R: Wait + Copy, S: Trace<T> + Copy> Receiver<T, R, S> {
     }
 }
 
-// Questions that wait for nobody.
+// Questions, which never wait.
 impl<T: Drop, R: Wait + Copy, S: Trace<T> + Copy> Receiver<T, R, S> {
     ghost use Rattle.std.specs.Prelude.{◌≡◌, ◌↔◌, IsTrue, None, false, MatchOption};
     ghost use Rattle.concurrent_queue.specs.Replies.{room_of};
 
-    /// Whether the channel is closed. It waits for nobody. As `async-channel` 2.5.0.
+    /// Whether the channel is closed.
     pub fn is_closed(&self) -> bool
         ensures made { WasMade S.did S.shown S.entered S.called self.now.channel ask.IsClosed (reply.Flag result) }
     {
         self.counted.is_closed(self.watch)
     }
 
-    /// Whether the channel holds no message. It waits for nobody. As `async-channel` 2.5.0.
+    /// Whether the channel holds no message.
     pub fn is_empty(&self) -> bool
         ensures made { WasMade S.did S.shown S.entered S.called self.now.channel ask.IsEmpty (reply.Flag result) }
     {
         self.counted.is_empty(self.watch)
     }
 
-    /// Whether the channel holds as many messages as it can; one without a bound never does. It waits for nobody. As
-    /// `async-channel` 2.5.0.
+    /// Whether the channel holds as many messages as it can; one without a bound never does.
     pub fn is_full(&self) -> bool
         ensures made { WasMade S.did S.shown S.entered S.called self.now.channel ask.IsFull (reply.Flag result) }
         ensures bound { room_of self.now.channel.form ≡ None → result ≡ false }
@@ -329,7 +330,7 @@ impl<T: Drop, R: Wait + Copy, S: Trace<T> + Copy> Receiver<T, R, S> {
         self.counted.is_full(self.watch)
     }
 
-    /// How many messages the channel can hold, if there is a bound. It waits for nobody. As `async-channel` 2.5.0.
+    /// How many messages the channel can hold, if there is a bound.
     pub fn capacity(&self) -> Option<usize>
         ensures made { MatchOption self.now.channel.table (WasSeen S.did S.shown S.entered self.now.channel (λ saw. WalkedTo saw (first ask.Capacity)) (reply.Cap result)) (λ _. Unit {0}) }
         ensures room { result ≡ room_of self.now.channel.form }
@@ -337,33 +338,32 @@ impl<T: Drop, R: Wait + Copy, S: Trace<T> + Copy> Receiver<T, R, S> {
         self.counted.capacity(self.watch)
     }
 
-    /// How many senders live. It waits for nobody. As `async-channel` 2.5.0.
+    /// How many senders live.
     pub fn sender_count(&self) -> usize
         ensures made { WasMade S.did S.shown S.entered S.called self.now.channel (ask.HandleCount side.Senders) (reply.Count result) }
     {
         self.counted.handle_count(Side::Senders, self.watch)
     }
 
-    /// How many receivers live. It waits for nobody. As `async-channel` 2.5.0.
+    /// How many receivers live.
     pub fn receiver_count(&self) -> usize
         ensures made { WasMade S.did S.shown S.entered S.called self.now.channel (ask.HandleCount side.Receivers) (reply.Count result) }
     {
         self.counted.handle_count(Side::Receivers, self.watch)
     }
 
-    /// Whether both are handles of one channel: whether the identities are equal. It waits for nobody. As
-    /// `async-channel` 2.5.0, which compares addresses.
+    /// Whether both are handles of one channel: whether the identities are equal, where `async-channel` compares addresses.
     ///
-    /// This tells apart channels whose identities came from one `EventIds`. Each source begins with the same number, so of channels
-    /// from two sources it may be true though they are two.
+    /// This tells apart channels whose identities came from one `EventIds`. Each source begins with the same number, so of channels from
+    /// two sources it may be true though they are two.
     pub fn same_channel(&self, other: &Receiver<T, R, S>) -> bool
         ensures { IsTrue result ↔ (self.now.channel.id ≡ other.now.channel.id) }
     {
         self.counted.link.is_same(&other.counted.link)
     }
 
-    /// Whether this stream has ended: whether the channel is closed, and then whether it is empty. It waits for nobody. As
-    /// `FusedStream` of `async-channel` 2.5.0 says it.
+    /// Whether this stream has ended: whether the channel is closed, and then whether it is empty. As `FusedStream` of `async-channel`
+    /// 2.5.0.
     pub fn is_terminated(&self) -> bool
         ensures made { WasMade S.did S.shown S.entered S.called self.now.channel ask.IsTerminated (reply.Flag result) }
     {
@@ -380,11 +380,10 @@ impl<T: Drop, R: Wait + Copy, S: Trace<T> + Copy> Receiver<T, R, S> {
     ghost use Rattle.channel_calls.specs.Listed.{is_pending};
     ghost use Rattle.async_channel.specs.Polls.{Polls};
 
-    /// One poll of this receiver as a stream: a listener is listed for it afterwards where it is pending, and else none.
+    /// One poll of this receiver as a stream. A listener is listed for it afterwards if it is pending, and otherwise none.
     ///
-    /// It ends once the channel is closed and empty. A copy of the waker is taken first. Where none is got nothing is tried, and its
-    /// next item is want of memory. A listener that is refused memory or a serial is such an item too. It may wait for another call's end
-    /// and for the locks of those who wait. As `async-channel` 2.5.0, but for the refusals.
+    /// It ends once the channel is closed and empty. It takes a copy of the waker first; if there is none, nothing is tried, and its next
+    /// item is want of memory. A listener that is refused memory or a serial is such an item too.
     pub fn poll_next(&mut self, cx: &mut Context<'_>) -> Poll<Option<Result<T, ListenError>>>
         ensures made { WasPolled S.did S.shown S.entered self.old.channel self.old.party (next_ask self.old.key) (reply.Next result) self.new.key self.new.party }
         ensures listed { is_some self.new.key ≡ is_pending result }
@@ -406,11 +405,10 @@ impl<T: Drop, R: Wait + Copy, S: Trace<T> + Copy> Receiver<T, R, S> {
     ghost use Rattle.std.specs.Prelude.{◌≡◌, IfOk, IfErr, MatchOption};
     ghost use Rattle.async_channel.specs.Handles.{new_receiving};
 
-    /// One more receiver of this channel. `Clone` of `async-channel` 2.5.0, which ends the program where this is refused.
+    /// One more receiver of this channel. `Clone` of `async-channel` 2.5.0, which ends the program if this is refused.
     ///
-    /// Refused where more than half of `usize::MAX` receivers live, or where the ties to the shared memory are used up. Nothing is
-    /// changed then: no step of a call that is refused raises the count, and what was raised can't be let go but by a handle's drop.
-    /// It may wait for other clonings to end.
+    /// `Err`, with nothing changed, if more than half of `usize::MAX` receivers live, or if there is no further shared reference: no step
+    /// of a call that is refused raises the count, and only a handle's drop lowers it.
     pub fn try_clone(&self) -> Result<Receiver<T, R, S>, HandleError>
         ensures walked { MatchOption self.now.channel.table (WasSeen S.did S.shown S.entered self.now.channel (λ saw. Clones saw side.Receivers) result) (λ table. ClonedSo S.called table side.Receivers result) }
         ensures made { IfOk result (λ more. more ≡ new_receiving self.now.channel) }
@@ -421,8 +419,7 @@ impl<T: Drop, R: Wait + Copy, S: Trace<T> + Copy> Receiver<T, R, S> {
         }
     }
 
-    /// A handle that doesn't keep the channel open. It waits for nobody, and is never refused for too many handles. As
-    /// `async-channel` 2.5.0.
+    /// A handle that doesn't keep the channel open. It is never refused for too many handles.
     pub fn downgrade(&self) -> Result<WeakReceiver<T, R, S>, HandleError>
         ensures channel { IfOk result (λ weak. weak ≡ self.now.channel) }
         ensures reason { IfErr result (λ e. e ≡ HandleError.NoMemory) }

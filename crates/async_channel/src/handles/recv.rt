@@ -1,4 +1,8 @@
-//! The polled receive.
+//! The polled receive. The operation owns its listener: it is listed while the operation is pending, and leaves when it is dropped.
+//!
+//! # Extensions
+//!
+//! `give_up`.
 
 ghost use Rattle.std.specs.Prelude.{◌≡◌, None, is_some, ⊤};
 ghost use Rattle.futures.specs.Poll.{IfReady, OnPending};
@@ -26,11 +30,10 @@ use std::marker::Model;
 use std::mem;
 use std::sync::Wait;
 
-/// A receive of one message, which waits for it. One that has given a message receives another when it is polled again.
+/// A receive of one message, which waits for it. One that has received a message receives another when it is polled again.
 ///
-/// Each poll takes a copy of the waker first; where none is got nothing is tried, and the answer is want of memory. A poll may
-/// wait for another call's end and for the locks of those who wait. Dropping it gives it up. Contracts see the
-/// listener that is listed for it. As `async-channel` 2.5.0.
+/// A poll may wait for another call's next steps and for the locks of the wait queues. Dropping it gives it up. Contracts see the listener
+/// that is listed for it. As `async-channel` 2.5.0.
 pub struct Recv<'a, T: Drop, R: Wait + Copy, S: Trace<T> + Copy = NoTrace> {
     pub(crate) receiver: &'a Receiver<T, R, S>,
     pub(crate) waits: Waits<T, OfReceives>,
@@ -43,7 +46,7 @@ impl<'a, T: Drop, R: Wait + Copy, S: Trace<T> + Copy> Model for Recv<'a, T, R, S
 
     ghost Value = { Listening T };
 
-    // The listener itself, and not only whether there is one: so a poll with another listener is refused.
+    // The listener itself, and not only whether there is one, so a body that polls with another listener is refused.
     ghost view = { λ o. record { channel = o.receiver.now.channel; key = o.waits.key; party = party_of o.waits.seat } };
 }
 
@@ -57,11 +60,10 @@ impl<'a, T: Drop, R: Wait + Copy, S: Trace<T> + Copy> Recv<'a, T, R, S> {
         }
     }
 
-    /// One poll: a listener is listed for it afterwards where it is pending, and else none.
+    /// One poll. A listener is listed for it afterwards if it is pending, and otherwise none.
     ///
-    /// Refused where the channel is closed and empty, and where a listener was refused memory or a serial. A copy of the waker is taken
-    /// first. Where none is got nothing is tried, and the answer is want of memory. It may wait for another call's end and for the locks
-    /// of those who wait.
+    /// `Err` if the channel is closed and empty, or if a listener was refused memory or a serial. It takes a copy of the waker first; if
+    /// there is none, nothing is tried, and the answer is want of memory.
     pub fn poll(&mut self, cx: &mut Context<'_>) -> Poll<Result<T, Refused<RecvError>>>
         ensures made { WasPolled S.did S.shown S.entered self.old.channel self.old.party (recv_ask self.old.key) (reply.RecvPoll result) self.new.key self.new.party }
         ensures listed { is_some self.new.key ≡ is_pending result }
@@ -80,7 +82,7 @@ impl<'a, T: Drop, R: Wait + Copy, S: Trace<T> + Copy> Recv<'a, T, R, S> {
         }
     }
 
-    /// Gives it up, as its drop does. It may wait for the lock of those who wait. Own to this project.
+    /// Gives it up, as its drop does. It may wait for the locks of the wait queues.
     pub fn give_up(mut self)
         ensures made { WasMadeBy S.did S.shown S.entered S.called self.entry.channel self.entry.party (ask.GiveUp line.Receives None self.entry.key) (reply.GivenUp None) }
     {
@@ -101,7 +103,7 @@ impl<'a, T: Drop, R: Wait + Copy, S: Trace<T> + Copy> Recv<'a, T, R, S> {
 impl<T: Drop, R: Wait + Copy, S: Trace<T> + Copy> Future for Recv<'_, T, R, S> {
     type Output = Result<T, Refused<RecvError>>;
 
-    // The trait's clauses say nothing of the answer, so behind them stand those of the method itself.
+    // The trait's clauses say nothing of the answer, so those of the method itself do.
     fn poll(&mut self, cx: &mut Context<'_>) -> Poll<Result<T, Refused<RecvError>>>
         ensures value { IfReady result (λ _. ⊤) }
         ensures polled_on { OnPending result ⊤ }

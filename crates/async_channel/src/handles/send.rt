@@ -1,4 +1,9 @@
-//! The polled send.
+//! The polled send. The operation owns its message until it is sent or given up, and its listener, which is listed while the operation is
+//! pending and leaves when it is dropped.
+//!
+//! # Extensions
+//!
+//! `give_up` and `is_terminated`.
 
 ghost use Rattle.std.specs.Prelude.{◌≡◌, Some, None, is_none, is_some, ⊤};
 ghost use Rattle.futures.specs.Poll.{IfReady, OnPending};
@@ -24,10 +29,10 @@ use std::marker::Model;
 use std::mem;
 use std::sync::Wait;
 
-/// A send of one message, which waits for a place. It has finished once it has no message. Contracts see its message and the
-/// listener that is listed for it.
+/// A send of one message, which waits for a place. It has finished once it has no message. Contracts see its message and the listener that
+/// is listed for it.
 ///
-/// Dropping it gives it up. As `async-channel` 2.5.0.
+/// A poll may wait for another call's next steps and for the locks of the wait queues. Dropping it gives it up. As `async-channel` 2.5.0.
 pub struct Send<'a, T: Drop, R: Wait + Copy, S: Trace<T> + Copy = NoTrace> {
     pub(crate) sender: &'a Sender<T, R, S>,
     pub(crate) message: Option<T>,
@@ -56,11 +61,10 @@ impl<'a, T: Drop, R: Wait + Copy, S: Trace<T> + Copy> Send<'a, T, R, S> {
         }
     }
 
-    /// One poll. An unfinished send keeps its message while it is pending and where memory or a serial was refused; a closed
-    /// channel hands it back. A finished one is pending, and nothing is changed.
+    /// One poll. An unfinished send keeps its message while it is pending and if memory or a serial was refused; a closed channel returns
+    /// it. A finished one is pending, and nothing is changed.
     ///
-    /// A copy of the waker is taken first. Where none is got nothing is tried, and the answer is want of memory. It may wait for
-    /// another call's end and for the locks of those who wait.
+    /// It takes a copy of the waker first; if there is none, nothing is tried, and the answer is want of memory.
     pub fn poll(&mut self, cx: &mut Context<'_>) -> Poll<Result<(), Refused<SendError<T>>>>
         ensures made { WasPolledWith S.did S.shown S.entered self.old.channel self.old.party (send_ask self.old.message self.old.key) (reply.SendPoll result) self.new.key self.new.message self.new.party }
         ensures message { SendsOn self.old.message result self.new.message }
@@ -92,15 +96,14 @@ impl<'a, T: Drop, R: Wait + Copy, S: Trace<T> + Copy> Send<'a, T, R, S> {
         }
     }
 
-    /// Whether it has finished. It waits for nobody. Own to this project.
+    /// Whether it has finished. It never waits.
     pub fn is_terminated(&self) -> bool
         ensures { result ≡ is_none self.now.message }
     {
         self.message.is_none()
     }
 
-    /// Gives it up, as its drop does, and hands back the message of one that hasn't finished. It may wait for the lock of those
-    /// who wait. Own to this project.
+    /// Gives it up, as its drop does, and returns the message of one that hasn't finished. It may wait for the locks of the wait queues.
     pub fn give_up(mut self) -> Option<T>
         ensures made { WasMadeBy S.did S.shown S.entered S.called self.entry.channel self.entry.party (ask.GiveUp line.Sends self.entry.message self.entry.key) (reply.GivenUp result) }
         ensures message { result ≡ self.entry.message }
@@ -125,10 +128,10 @@ impl<T: Drop, R: Wait + Copy, S: Trace<T> + Copy> Future for Send<'_, T, R, S> {
 
     ghost use Rattle.async_channel.specs.Handles.{Gives};
 
-    // What a closed channel hands back is its message.
+    // What a closed channel returns is its message.
     ghost gives = { λ s r. Gives s.message r };
 
-    // The trait's clauses are met by a send that is always pending, so behind them stand those of the method itself.
+    // A send that is always pending would meet the trait's clauses, so those of the method itself stand here too.
     fn poll(&mut self, cx: &mut Context<'_>) -> Poll<Result<(), Refused<SendError<T>>>>
         ensures value { IfReady result (Gives self.old.message) }
         ensures polled_on { OnPending result ⊤ }

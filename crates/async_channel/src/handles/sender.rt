@@ -1,4 +1,8 @@
-//! The sending side of a channel.
+//! The sending side of a channel. A sender owns one count of the channel, which only its drop lowers.
+//!
+//! # Extensions
+//!
+//! `calls`; and the answers for want of memory, serials or counts, which the methods name. All else is as in `async-channel` 2.5.0.
 
 ghost use Rattle.channel_calls.specs.Asks.{first};
 ghost use Rattle.channel_calls.specs.Blocks.{Blocks};
@@ -32,11 +36,16 @@ use std::fmt;
 use std::marker::Model;
 use std::sync::Wait;
 
-/// The sending side of a channel, which any number of threads may share and clone.
+/// The sending side of a channel, which any number of threads may share and clone. The channel is closed once its last sender is dropped.
 ///
-/// The channel is closed once its last sender is dropped. The drop may wait for the locks of those who wait. Contracts see a
-/// sender as its channel: how many messages it holds at most, its identity, and the memory that its handles share. As
-/// `async-channel` 2.5.0, but that it has the runtime with it.
+/// Contracts see a sender as its channel: how many messages it holds at most, its identity, and the memory that its handles share. It keeps
+/// the runtime.
+///
+/// # Waiting
+///
+/// `is_closed`, `is_empty`, `is_full`, `capacity`, the counts, `same_channel`, `downgrade`, `calls`, and making an operation by `send` or
+/// `closed` never wait. All other calls, and the drop, may wait for another call's next steps and for the locks of the wait queues;
+/// `send_blocking` may wait for a place for ever.
 pub struct Sender<T: Drop, R: Wait + Copy, S: Trace<T> + Copy = NoTrace> {
     pub(crate) counted: Counted<T, OfSenders>,
     pub(crate) rt: R,
@@ -64,8 +73,8 @@ impl<T: Drop, R: Wait + Copy, S: Trace<T> + Copy> Sender<T, R, S> {
         Sender { counted, rt, watch }
     }
 
-    /// The calls of this sender with what shows that they were made: with a bound a witness that each call gives, and without one a trace
-    /// of the caller's. Own to this project.
+    /// The calls of this sender together with what proves that they were made: with a bound a witness that each call returns, and without
+    /// one a trace of the caller's.
     #[inline(always)]
     pub fn calls(&self) -> Calls<'_, T, R, OfSenders>
         ensures { AreCallsOf self.now result }
@@ -73,11 +82,9 @@ impl<T: Drop, R: Wait + Copy, S: Trace<T> + Copy> Sender<T, R, S> {
         self.counted.calls(&self.rt)
     }
 
-    /// Sends the message where there is a place for it.
+    /// Sends the message if there is a place for it.
     ///
-    /// A refusal hands it back: the channel was closed; a bounded one was full; for one without a bound memory was refused. It
-    /// doesn't wait for a place, but may wait for another call's end and for the locks of those who wait. As `async-channel`
-    /// 2.5.0, but for the want of memory.
+    /// `Err` returns it: the channel was closed, a bounded one was full, or for one without a bound memory was refused.
     ///
     /// ```rust
     /// // of a channel of one place
@@ -105,10 +112,9 @@ impl<T: Drop, R: Wait + Copy, S: Trace<T> + Copy> Sender<T, R, S> {
         }
     }
 
-    /// Sends the message; where the channel is full, its oldest message leaves for it and is answered.
+    /// Sends the message; if the channel is full, removes and returns its oldest message.
     ///
-    /// A refusal hands the message back: the channel was closed, or for one without a bound memory was refused. It may wait as
-    /// [`try_send`](Sender::try_send) does. As `async-channel` 2.5.0, but for the want of memory.
+    /// `Err` returns the message: the channel was closed, or for one without a bound memory was refused.
     ///
     /// ```rust
     /// // of a channel of one place
@@ -137,10 +143,10 @@ impl<T: Drop, R: Wait + Copy, S: Trace<T> + Copy> Sender<T, R, S> {
         }
     }
 
-    /// A send of this message that waits for a place: nothing is done until it is polled. As `async-channel` 2.5.0.
+    /// A send of this message that waits for a place: nothing is done until it is polled.
     ///
-    /// A send that is polled by value is gone once `block_on` has refused it, and its message with it. Lent to it, it keeps its
-    /// message where memory or a serial was refused, to it or to `block_on` itself, and gives it back:
+    /// A send that is polled by value is gone once `block_on` has refused it, and its message with it. A send that is lent to it keeps its
+    /// message if memory or a serial was refused, to it or to `block_on` itself, and returns it:
     ///
     /// ```text
     /// let mut send = sender.send(message);
@@ -149,8 +155,7 @@ impl<T: Drop, R: Wait + Copy, S: Trace<T> + Copy> Sender<T, R, S> {
     /// }
     /// ```
     ///
-    /// A closed channel hands the message back in its error, which has it then, and not the send:
-    /// [`into_message`](Refused::into_message).
+    /// A closed channel returns the message in its error, and the send has none then: [`into_message`](Refused::into_message).
     pub fn send(&self, message: T) -> Send<'_, T, R, S>
         ensures { result ≡ new_sending self.now message }
     {
@@ -158,17 +163,16 @@ impl<T: Drop, R: Wait + Copy, S: Trace<T> + Copy> Sender<T, R, S> {
     }
 
     /// A wait for the channel's closing: nothing is done until it is polled. It may be refused for memory or serials, after which another
-    /// poll tries again. As `async-channel` 2.5.0, but for these.
+    /// poll tries again.
     pub fn closed(&self) -> Closed<'_, T, R, S>
         ensures { result ≡ new_listening self.now }
     {
         Closed::new(self)
     }
 
-    /// Sends the message, and blocks the thread while there is no place for it. It may wait for ever.
+    /// Sends the message, and blocks the thread while there is no place for it.
     ///
-    /// A refusal hands the message back: the channel was closed, or what a send or a wait needs was refused: memory, or a serial
-    /// of a listener. As `async-channel` 2.5.0, but for the wants.
+    /// `Err` returns the message: the channel was closed, or what a send or a wait needs was refused, memory or a serial of a listener.
     pub fn send_blocking(&self, message: T) -> Result<(), Refused<SendError<T>, T>>
         ensures made { MatchOption self.now.table (WasSeen S.did S.shown S.entered self.now (λ saw begin r end. Blocks saw S.parked S.slept (ways.Send message) begin r (sent_left result) end) (sent_reply result)) (λ table. WasTold S.called (HasSent table fresh message result)) }
         ensures refused { IfErr result (λ e. Unsent e ≡ message) }
@@ -187,8 +191,8 @@ impl<T: Drop, R: Wait + Copy, S: Trace<T> + Copy> Sender<T, R, S> {
         }
     }
 
-    /// Closes the channel: nothing more is sent, and what was sent can still be received. True in the one call that closed it;
-    /// all who wait are woken then. It may wait for the locks of those who wait. As `async-channel` 2.5.0.
+    /// Closes the channel: nothing more is sent, and what was sent can still be received. True in the one call that closed it; that call
+    /// wakes all waiters.
     ///
     /// ```rust
     /// let first = receiver.close();
@@ -201,8 +205,7 @@ impl<T: Drop, R: Wait + Copy, S: Trace<T> + Copy> Sender<T, R, S> {
         self.counted.close(&self.rt, self.watch)
     }
 
-    /// How many messages the channel held at a moment of the call. It may wait, since it asks again where others came between. As
-    /// `async-channel` 2.5.0.
+    /// How many messages the channel held at a moment of the call. It repeats its loads if the queue changed in between.
     pub fn len(&self) -> usize
         ensures made { WasMade S.did S.shown S.entered S.called self.now ask.Len (reply.Count result) }
     {
@@ -210,27 +213,26 @@ impl<T: Drop, R: Wait + Copy, S: Trace<T> + Copy> Sender<T, R, S> {
     }
 }
 
-// Questions that wait for nobody.
+// Questions, which never wait.
 impl<T: Drop, R: Wait + Copy, S: Trace<T> + Copy> Sender<T, R, S> {
     ghost use Rattle.std.specs.Prelude.{◌≡◌, ◌↔◌, IsTrue, None, false, MatchOption};
     ghost use Rattle.concurrent_queue.specs.Replies.{room_of};
 
-    /// Whether the channel is closed. It waits for nobody. As `async-channel` 2.5.0.
+    /// Whether the channel is closed.
     pub fn is_closed(&self) -> bool
         ensures made { WasMade S.did S.shown S.entered S.called self.now ask.IsClosed (reply.Flag result) }
     {
         self.counted.is_closed(self.watch)
     }
 
-    /// Whether the channel holds no message. It waits for nobody. As `async-channel` 2.5.0.
+    /// Whether the channel holds no message.
     pub fn is_empty(&self) -> bool
         ensures made { WasMade S.did S.shown S.entered S.called self.now ask.IsEmpty (reply.Flag result) }
     {
         self.counted.is_empty(self.watch)
     }
 
-    /// Whether the channel holds as many messages as it can; one without a bound never does. It waits for nobody. As
-    /// `async-channel` 2.5.0.
+    /// Whether the channel holds as many messages as it can; one without a bound never does.
     pub fn is_full(&self) -> bool
         ensures made { WasMade S.did S.shown S.entered S.called self.now ask.IsFull (reply.Flag result) }
         ensures bound { room_of self.now.form ≡ None → result ≡ false }
@@ -238,7 +240,7 @@ impl<T: Drop, R: Wait + Copy, S: Trace<T> + Copy> Sender<T, R, S> {
         self.counted.is_full(self.watch)
     }
 
-    /// How many messages the channel can hold, if there is a bound. It waits for nobody. As `async-channel` 2.5.0.
+    /// How many messages the channel can hold, if there is a bound.
     pub fn capacity(&self) -> Option<usize>
         ensures made { MatchOption self.now.table (WasSeen S.did S.shown S.entered self.now (λ saw. WalkedTo saw (first ask.Capacity)) (reply.Cap result)) (λ _. Unit {0}) }
         ensures room { result ≡ room_of self.now.form }
@@ -246,25 +248,24 @@ impl<T: Drop, R: Wait + Copy, S: Trace<T> + Copy> Sender<T, R, S> {
         self.counted.capacity(self.watch)
     }
 
-    /// How many senders live. It waits for nobody. As `async-channel` 2.5.0.
+    /// How many senders live.
     pub fn sender_count(&self) -> usize
         ensures made { WasMade S.did S.shown S.entered S.called self.now (ask.HandleCount side.Senders) (reply.Count result) }
     {
         self.counted.handle_count(Side::Senders, self.watch)
     }
 
-    /// How many receivers live. It waits for nobody. As `async-channel` 2.5.0.
+    /// How many receivers live.
     pub fn receiver_count(&self) -> usize
         ensures made { WasMade S.did S.shown S.entered S.called self.now (ask.HandleCount side.Receivers) (reply.Count result) }
     {
         self.counted.handle_count(Side::Receivers, self.watch)
     }
 
-    /// Whether both are handles of one channel: whether the identities are equal. It waits for nobody. As
-    /// `async-channel` 2.5.0, which compares addresses.
+    /// Whether both are handles of one channel: whether the identities are equal, where `async-channel` compares addresses.
     ///
-    /// This tells apart channels whose identities came from one `EventIds`. Each source begins with the same number, so of channels
-    /// from two sources it may be true though they are two.
+    /// This tells apart channels whose identities came from one `EventIds`. Each source begins with the same number, so of channels from
+    /// two sources it may be true though they are two.
     pub fn same_channel(&self, other: &Sender<T, R, S>) -> bool
         ensures { IsTrue result ↔ (self.now.id ≡ other.now.id) }
     {
@@ -276,11 +277,10 @@ impl<T: Drop, R: Wait + Copy, S: Trace<T> + Copy> Sender<T, R, S> {
 impl<T: Drop, R: Wait + Copy, S: Trace<T> + Copy> Sender<T, R, S> {
     ghost use Rattle.std.specs.Prelude.{◌≡◌, IfOk, IfErr, MatchOption};
 
-    /// One more sender of this channel. `Clone` of `async-channel` 2.5.0, which ends the program where this is refused.
+    /// One more sender of this channel. `Clone` of `async-channel` 2.5.0, which ends the program if this is refused.
     ///
-    /// Refused where more than half of `usize::MAX` senders live, or where the ties to the shared memory are used up. Nothing is
-    /// changed then: no step of a call that is refused raises the count, and what was raised can't be let go but by a handle's drop.
-    /// It may wait for other clonings to end.
+    /// `Err`, with nothing changed, if more than half of `usize::MAX` senders live, or if there is no further shared reference: no step of
+    /// a call that is refused raises the count, and only a handle's drop lowers it.
     ///
     /// ```rust
     /// let second = sender.try_clone().ok()?;
@@ -298,8 +298,7 @@ impl<T: Drop, R: Wait + Copy, S: Trace<T> + Copy> Sender<T, R, S> {
         }
     }
 
-    /// A handle that doesn't keep the channel open. It waits for nobody, and is never refused for too many handles. As
-    /// `async-channel` 2.5.0.
+    /// A handle that doesn't keep the channel open. It is never refused for too many handles.
     pub fn downgrade(&self) -> Result<WeakSender<T, R, S>, HandleError>
         ensures channel { IfOk result (λ weak. weak ≡ self.now) }
         ensures reason { IfErr result (λ e. e ≡ HandleError.NoMemory) }

@@ -1,4 +1,4 @@
-//! A receiver as a stream of messages.
+//! A receiver as a stream of messages. The receiver owns the stream's listener, so one task at a time polls it.
 
 ghost use Rattle.std.specs.Prelude.{◌≡◌, is_some};
 ghost use Rattle.futures.specs.Poll.{OnPending};
@@ -15,13 +15,12 @@ use futures::Stream;
 use futures::task::{Context, Poll};
 use std::sync::Wait;
 
-/// It ends once the channel is closed and empty. Where memory or a serial of a listener is refused that is its next item. A poll
-/// takes a copy of the waker first; where none is got nothing is tried, and memory is what is wanted. It may wait for another
-/// call's end and for the locks of those who wait. As `async-channel` 2.5.0, but for the refusals.
+/// The stream ends once the channel is closed and empty. If a listener is refused memory or a serial, that is its next item. As
+/// [`poll_next`](Receiver::poll_next) of the receiver. As `async-channel` 2.5.0, but for the refusals.
 impl<T: Drop, R: Wait + Copy, S: Trace<T> + Copy> Stream for Receiver<T, R, S> {
     type Item = Result<T, ListenError>;
 
-    // The trait's clauses say nothing of an item, so those of the method itself stand here.
+    // The trait's clauses say nothing of an item, so those of the method itself do.
     fn poll_next(&mut self, cx: &mut Context<'_>) -> Poll<Option<Result<T, ListenError>>>
         ensures made { WasPolled S.did S.shown S.entered self.old.channel self.old.party (next_ask self.old.key) (reply.Next result) self.new.key self.new.party }
         ensures listed { is_some self.new.key ≡ is_pending result }

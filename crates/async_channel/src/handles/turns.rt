@@ -1,4 +1,4 @@
-//! How often a walk may still be asked for an item.
+//! How often a walk may still be asked for an item. It exists so that loops over walks are proved to end.
 
 ghost use Rattle.std.specs.Prelude.{◌≡◌, ◌+◌};
 
@@ -15,7 +15,7 @@ impl Turns {
         Turns { left: u64::MAX }
     }
 
-    /// One turn fewer. Where none is left it doesn't return.
+    /// One item fewer. If none is left it doesn't return.
     #[inline(always)]
     pub(crate) fn take<R: Wait>(&mut self, rt: &R)
         ensures { self.old.left ≡ self.new.left + 1 }

@@ -1,4 +1,6 @@
-//! The weak handles of a channel, which don't keep it open.
+//! The weak handles of a channel, which don't keep it open. They share the channel's memory and aren't counted.
+//!
+//! `try_clone` never waits; `upgrade` retries while other clones or upgrades come in between.
 
 ghost use Rattle.channel_calls.specs.declared.stage.Side.TheVariants as side;
 ghost use Rattle.async_channel.specs.Counts.{Upgrades};
@@ -42,11 +44,10 @@ impl<T: Drop, R: Wait + Copy, S: Trace<T> + Copy> WeakSender<T, R, S> {
         WeakSender { link, rt, watch }
     }
 
-    /// A sender of this channel; `None` where the channel is closed or no sender lives.
+    /// A sender of this channel; `None` if the channel is closed or no sender lives.
     ///
-    /// Refused where more than half of `usize::MAX` senders live, or where the ties to the shared memory are used up; nothing is
-    /// changed then, as by `try_clone`. It may wait for other clonings to end. As `async-channel` 2.5.0, which ends the program
-    /// where this is refused.
+    /// `Err`, with nothing changed, if more than half of `usize::MAX` senders live, or if there is no further shared reference. As
+    /// `async-channel` 2.5.0, which ends the program then.
     pub fn upgrade(&self) -> Result<Option<Sender<T, R, S>>, HandleError>
         ensures walked { MatchOption self.now.table (WasSeen S.did S.shown S.entered self.now (λ saw. Upgrades saw side.Senders) result) (λ table. UpgradedSo S.called table side.Senders result) }
         ensures made { IfOk result (λ made. IfSome made (λ sender. sender ≡ self.now)) }
@@ -58,7 +59,7 @@ impl<T: Drop, R: Wait + Copy, S: Trace<T> + Copy> WeakSender<T, R, S> {
         }
     }
 
-    /// One more weak sender. It waits for nobody, and is never refused for too many handles. `Clone` of `async-channel` 2.5.0.
+    /// One more weak sender. It is never refused for too many handles. `Clone` of `async-channel` 2.5.0.
     pub fn try_clone(&self) -> Result<WeakSender<T, R, S>, HandleError>
         ensures channel { IfOk result (λ more. more ≡ self.now) }
         ensures reason { IfErr result (λ e. e ≡ HandleError.NoMemory) }
@@ -102,11 +103,10 @@ impl<T: Drop, R: Wait + Copy, S: Trace<T> + Copy> WeakReceiver<T, R, S> {
         WeakReceiver { link, rt, watch }
     }
 
-    /// A receiver of this channel; `None` where the channel is closed or no receiver lives.
+    /// A receiver of this channel; `None` if the channel is closed or no receiver lives.
     ///
-    /// Refused where more than half of `usize::MAX` receivers live, or where the ties to the shared memory are used up; nothing is
-    /// changed then, as by `try_clone`. It may wait for other clonings to end. As `async-channel` 2.5.0, which ends the program
-    /// where this is refused.
+    /// `Err`, with nothing changed, if more than half of `usize::MAX` receivers live, or if there is no further shared reference. As
+    /// `async-channel` 2.5.0, which ends the program then.
     pub fn upgrade(&self) -> Result<Option<Receiver<T, R, S>>, HandleError>
         ensures walked { MatchOption self.now.table (WasSeen S.did S.shown S.entered self.now (λ saw. Upgrades saw side.Receivers) result) (λ table. UpgradedSo S.called table side.Receivers result) }
         ensures made { IfOk result (λ made. IfSome made (λ receiver. receiver ≡ new_receiving self.now)) }
@@ -118,7 +118,7 @@ impl<T: Drop, R: Wait + Copy, S: Trace<T> + Copy> WeakReceiver<T, R, S> {
         }
     }
 
-    /// One more weak receiver. It waits for nobody, and is never refused for too many handles. `Clone` of `async-channel` 2.5.0.
+    /// One more weak receiver. It is never refused for too many handles. `Clone` of `async-channel` 2.5.0.
     pub fn try_clone(&self) -> Result<WeakReceiver<T, R, S>, HandleError>
         ensures channel { IfOk result (λ more. more ≡ self.now) }
         ensures reason { IfErr result (λ e. e ≡ HandleError.NoMemory) }

@@ -1,12 +1,16 @@
 //! A trace that keeps nothing.
+//!
+//! # Extensions
+//!
+//! All of this module.
 
 use crate::seen::{Shown, Sight, Trace};
 use crate::with_bound::Witness;
 use concurrent_queue::cells::Slot;
 use concurrent_queue::seen as queue;
 
-/// The trace of a channel that nobody watches: it keeps nothing. It has no size, and seeing by it takes no instruction. Only the opening
-/// of a channel makes one. Own to this project.
+/// The trace of a channel that was opened without one: it keeps nothing. It has no size, and reporting to it takes no instruction. Only the
+/// opening of a channel makes one.
 #[derive(Clone, Copy, Debug)]
 pub struct NoTrace {
     nothing: (),

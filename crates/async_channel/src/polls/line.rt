@@ -1,4 +1,4 @@
-//! The four lists of those who wait as types.
+//! The four wait queues as types, so that a listener of one can't be removed from another.
 
 ghost use Rattle.std.specs.Prelude.{◌≡◌};
 ghost use Rattle.channel_calls.specs.declared.stage.WaitList.{WaitList as Lines};
@@ -6,12 +6,12 @@ ghost use Rattle.channel_calls.specs.declared.stage.WaitList.TheVariants as line
 
 use channel_calls::stage::WaitList;
 
-/// A list of those who wait as a type: what waits on one can't be taken off another.
+/// A wait queue as a type.
 pub(crate) trait Line {
-    /// The list.
+    /// The wait queue.
     ghost line: { Lines };
 
-    /// The list.
+    /// The wait queue.
     fn line() -> WaitList
         ensures { result ≡ line };
 }
@@ -25,7 +25,7 @@ pub(crate) enum OfReceives {}
 /// Of receivers as streams.
 pub(crate) enum OfStreams {}
 
-/// Of those who wait for the closing.
+/// Of waits for the closing.
 pub(crate) enum OfClosings {}
 
 impl Line for OfSends {

@@ -1,4 +1,4 @@
-//! What an operation keeps from poll to poll.
+//! What an operation keeps from poll to poll. `Waits` owns the operation's listener: only a poll changes it, and only a removal ends it.
 
 ghost use Rattle.std.specs.Prelude.{◌≡◌, None, Some, []};
 ghost use Rattle.std.specs.Option.{ForSome};
@@ -19,11 +19,11 @@ use std::alloc::Global;
 use std::marker::PhantomData;
 use std::sync::{Arc, Wait};
 
-/// The listener of a pending operation on this list, and the cell of its task's waker, which is made at the first poll. On a channel with
-/// a bound it has a party's seat since then, with which the listener lies.
+/// The listener of a pending operation on this wait queue, and the cell of its task's waker, which is made at the first poll. On a channel
+/// with a bound it has a party's seat since then, which has the listener.
 ///
-/// It can't be let go: what ends it is a giving up, or a drop, in which the listener leaves this list and no other. Nor is its listener
-/// read or changed but by the polls and these two.
+/// It can't be dropped: giving up, or a drop of the operation, ends it, in which the listener leaves this wait queue and no other. Only the
+/// polls and these two read or change the listener.
 pub(crate) struct Waits<T, L: Line> {
     seat: Option<Kept<Witness<T>>>,
     key: Option<Key>,
@@ -53,7 +53,7 @@ impl<T: Drop, L: Line> Waits<T, L> {
         self.key
     }
 
-    /// This is its listener now, as a poll left it, on a channel without a bound.
+    /// Sets the listener that a poll left, on a channel without a bound.
     pub(super) fn keep(&mut self, key: Option<Key>)
         requires { self.old.seat ≡ None }
         ensures key { self.new.key ≡ key }
@@ -62,7 +62,7 @@ impl<T: Drop, L: Line> Waits<T, L> {
         self.key = key;
     }
 
-    /// The seat of its party, for a call, and its listener. A new party has none.
+    /// The seat of its party, for a call, and its listener. At the first poll the party is new, and has none.
     pub(crate) fn take(&mut self, table: &ChannelTable<T, Task>) -> (Witness<T>, Option<Key>)
         requires here { IsPartyOf (Some (id_of table.now)) self.old.seat self.old.key }
         ensures seat { (seat_table result.0 ≡ id_of table.now) × (standing_of result.0 ≡ party_of self.old.seat) }
@@ -77,7 +77,7 @@ impl<T: Drop, L: Line> Waits<T, L> {
         }
     }
 
-    /// The seat of its party, and its listener, as a poll left them.
+    /// Sets the seat of its party, and its listener, as a poll left them.
     pub(crate) fn rest(&mut self, seat: Witness<T>, key: Option<Key>)
         requires listed { Rests [] (listed_on L.line key) (standing_of seat) }
         ensures { (self.new.seat ≡ Some (record { value = seat })) × (self.new.key ≡ key) }
@@ -86,7 +86,7 @@ impl<T: Drop, L: Line> Waits<T, L> {
         self.key = key;
     }
 
-    /// Its listener, which is to leave.
+    /// Its listener, which the caller removes.
     pub(crate) fn end(self) -> Option<Key>
         ensures { result ≡ self.key }
     {
@@ -101,8 +101,8 @@ impl<T: Drop, L: Line> Waits<T, L> {
         key
     }
 
-    /// A copy of the task's waker, in the place where a telling finds it; `None` where no copy was got. It arms the context for
-    /// a pending answer either way.
+    /// A copy of the task's waker, in the cell where a notification finds it; `None` if there is none. Either way it prepares the context
+    /// for a pending answer.
     pub(crate) fn arm<R: Wait>(
         &mut self,
         rt: &R,
@@ -119,12 +119,14 @@ impl<T: Drop, L: Line> Waits<T, L> {
         }
         match &self.cell {
             Some(cell) => {
+                // Arm before the poll lists or registers: a notification takes the waker out of this cell.
                 if !cell.arm(rt, cx) {
                     return None;
                 }
                 Some(Task::Polled(Arc::try_clone(cell).ok()?))
             }
             None => {
+                // Without a cell nothing could wake the task, so it is polled again.
                 let _pending: Poll<()> = cx.yield_now();
                 None
             }

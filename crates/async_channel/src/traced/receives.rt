@@ -1,4 +1,4 @@
-//! The calls of a receiver that receive.
+//! The calls of a receiver that receive, with a trace of the caller's.
 
 ghost use Rattle.std.specs.Prelude.{◌≡◌, ◌≤◌, ◌<◌, [], length, Err, IfOk, IfErr, OnErr};
 ghost use Rattle.std.specs.Vec.{vec_capacity, vec_ptr};
@@ -24,7 +24,7 @@ use event_listener::error::ListenError;
 use std::sync::Wait;
 
 impl<'a, T: Drop, R: Wait + Copy> Traced<'a, T, R, OfReceivers> {
-    /// Takes the oldest message.
+    /// Removes the oldest message.
     #[inline(always)]
     pub fn try_recv<S: Trace<T>>(&self, trace: S) -> (Result<T, TryRecvError>, S)
         ensures walked { SeenOn S.did S.shown S.entered self.now (λ saw. WalkedTo saw (first ask.TryRecv)) trace (reply.TryRecv (result.0)) (result.1) }
@@ -32,7 +32,7 @@ impl<'a, T: Drop, R: Wait + Copy> Traced<'a, T, R, OfReceivers> {
         calls::try_recv(self.rt, self.cells(trace))
     }
 
-    /// Takes the oldest messages, at most `limit`, in order.
+    /// Removes the oldest messages, at most `limit`, in order.
     #[inline(always)]
     pub fn recv_many<S: Trace<T>>(
         &self,
@@ -49,7 +49,7 @@ impl<'a, T: Drop, R: Wait + Copy> Traced<'a, T, R, OfReceivers> {
         calls::recv_many(self.rt, limit, alloc, self.cells(trace))
     }
 
-    /// Takes the oldest messages into the room that is there, behind what is in it, in order.
+    /// Moves the oldest messages into the room that is there, behind what is in it, in order.
     #[inline(always)]
     pub fn recv_many_into<S: Trace<T>>(
         &self,
@@ -66,7 +66,7 @@ impl<'a, T: Drop, R: Wait + Copy> Traced<'a, T, R, OfReceivers> {
         calls::recv_many_into(self.rt, into, self.cells(trace))
     }
 
-    /// Takes the oldest message, and blocks the thread while there is none.
+    /// Removes the oldest message, and blocks the thread while there is none.
     #[inline(always)]
     pub fn recv_blocking<S: Trace<T>>(&self, trace: S) -> (Result<T, Refused<RecvError>>, S)
         ensures walked { SeenOn S.did S.shown S.entered self.now (λ saw begin r end. Blocks saw S.parked S.slept blocking.Receive begin r nothing_kept end) trace (reply.RecvPoll (poll.Ready (result.0))) (result.1) }
@@ -85,7 +85,7 @@ impl<'a, T: Drop, R: Wait + Copy> Traced<'a, T, R, OfReceivers> {
 
 // Walks.
 impl<'a, T: Drop, R: Wait + Copy> Traced<'a, T, R, OfReceivers> {
-    /// The next message of a walk that waits for it. Whether the walk has ended is kept by who walks.
+    /// The next message of a walk that waits for it. The caller keeps whether the walk has ended.
     #[inline(always)]
     pub fn next_blocking<S: Trace<T>>(
         &self,

@@ -1,4 +1,4 @@
-//! The calls of a sender that send.
+//! The calls of a sender that send, with a trace of the caller's.
 
 ghost use Rattle.std.specs.Prelude.{◌≡◌, None, IfOk, IfErr};
 ghost use Rattle.concurrent_queue.specs.Replies.{is_bounded, room_of};
@@ -21,7 +21,7 @@ use channel_calls::kind::OfSenders;
 use std::sync::Wait;
 
 impl<'a, T: Drop, R: Wait + Copy> Traced<'a, T, R, OfSenders> {
-    /// Sends the message where there is a place for it.
+    /// Sends the message if there is a place for it.
     #[inline(always)]
     pub fn try_send<S: Trace<T>>(
         &self,
@@ -34,7 +34,7 @@ impl<'a, T: Drop, R: Wait + Copy> Traced<'a, T, R, OfSenders> {
         calls::try_send(self.rt, message, self.cells(trace))
     }
 
-    /// Sends the message; where the channel is full, its oldest message leaves for it and is answered.
+    /// Sends the message; if the channel is full, removes and returns its oldest message.
     #[inline(always)]
     pub fn force_send<S: Trace<T>>(
         &self,

@@ -1,6 +1,6 @@
-//! The calls that block their thread, on a channel with a bound. Each tries some times, with a pause between, since what it waits for mostly
-//! comes sooner than a listener would be in; and then polls with a task of the thread's own, and sleeps between two polls. All are calls of
-//! one party.
+//! The calls that block their thread, on a channel with a bound. Each tries some times, with a pause in between, since what it waits for
+//! mostly comes sooner than a listener could be listed; then it polls with a task of the thread's own, and sleeps between two polls. All
+//! are calls of one party.
 
 ghost use Rattle.std.specs.Prelude.{◌≡◌, [], Bool, Ok, Err, IfErr, MatchResult};
 ghost use Rattle.channel_calls.specs.Replies.{RefusesTrySend};
@@ -28,7 +28,7 @@ type Sent<T> = (Result<(), Refused<SendError<T>, T>>, Witness<T>);
 /// What a receive that blocks came to, with the seat of its party.
 type Received<T> = (Result<T, Refused<RecvError>>, Witness<T>);
 
-/// What a send that blocks comes to by a try; the message, where the channel is full.
+/// What a try of a send that blocks comes to; `Err` has the message if the channel is full.
 #[inline(always)]
 fn over<T: Drop>(
     sent: Result<(), Refused<TrySendError<T>, T>>,
@@ -48,7 +48,7 @@ fn over<T: Drop>(
 }
 
 impl<T: Drop> Bounded<T> {
-    /// A try of a send that blocks: it is over, or the message comes back, since the channel is full.
+    /// A try of a send that blocks: it is over, or the message is returned, since the channel is full.
     #[inline(always)]
     fn tries_to_send<R: Wait>(
         &self,
@@ -99,6 +99,7 @@ impl<T: Drop> Bounded<T> {
             message = back;
             key = listed;
             seat = next;
+            // After a pending poll, which registered this bed. The parker stays rung, so a notification since then ends the sleep at once.
             bed.sleep(rt);
         }
         unreachable!()
@@ -167,12 +168,13 @@ impl<T: Drop> Bounded<T> {
             }
             key = left.key;
             seat = next;
+            // After a pending poll, as for a send.
             bed.sleep(rt);
         }
         unreachable!()
     }
 
-    /// Takes the oldest message, and blocks the thread while there is none.
+    /// Removes the oldest message, and blocks the thread while there is none.
     pub(crate) fn recv_blocking<R: Wait>(&self, rt: &R, seat: Witness<T>) -> Received<T>
         requires here { seat_table seat ≡ id_of self.now.table }
         requires rests { Rests [] [] (standing_of seat) }

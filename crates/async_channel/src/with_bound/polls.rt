@@ -1,5 +1,5 @@
 //! The polls of operations on a channel with a bound, and what ends an operation. Each is a call of the operation's party. A poll first
-//! takes a copy of its task's waker, and keeps the seat and the listener that it is left.
+//! takes a copy of its task's waker, and the operation keeps the seat and the listener that the poll leaves.
 
 ghost use Rattle.std.specs.Prelude.{◌≡◌, Option, None, Some, IsSome, is_some};
 ghost use Rattle.futures.specs.Poll.{OnPending};
@@ -24,7 +24,7 @@ use futures::task::{Context, Poll};
 use std::sync::Wait;
 
 impl<T: Drop> Bounded<T> {
-    /// A poll of a send with this message; of a finished one without. The message that stays with it is handed back.
+    /// A poll of a send with this message; of a finished one with none. It returns the message that stays with the send.
     pub(crate) fn poll_send<R: Wait>(
         &self,
         rt: &R,
@@ -41,6 +41,7 @@ impl<T: Drop> Bounded<T> {
         ensures armed { OnPending result.0 (IsArmed cx.new) }
         ensures kept { Keeps cx.old cx.new }
     {
+        // The waker before the first try: if it is refused nothing has been done, and the operation keeps its message.
         let task = waits.arm(rt, self.alloc, cx);
         let (seat, key) = waits.take(&self.table);
         let (polled, left, seat) = self
@@ -119,7 +120,7 @@ impl<T: Drop> Bounded<T> {
         polled
     }
 
-    /// Gives an operation up: its listener leaves its list, and the message of an unfinished send comes back.
+    /// Gives an operation up: its listener leaves its wait queue, and the message of an unfinished send is returned.
     pub(crate) fn give_up<L: Line, R: Wait>(
         &self,
         rt: &R,
@@ -137,7 +138,7 @@ impl<T: Drop> Bounded<T> {
             .give_up(rt, seat, L::line(), message, key, &mut WakeNow { rt })
     }
 
-    /// What the drop of an operation does: its listener leaves, where it has one. Without one no call is made.
+    /// What the drop of an operation does: it removes the listener, if there is one. Otherwise no call is made.
     pub(crate) fn let_go<L: Line, R: Wait, S: Trace<T> + Copy>(
         &self,
         rt: &R,
@@ -147,6 +148,7 @@ impl<T: Drop> Bounded<T> {
         requires here { IsPartyOf (Some (id_of self.now.table)) waits.seat waits.key }
         ensures { IsSome waits.key → WasCalledFrom S.called (id_of self.now.table) (party_of waits.seat) (ask.GiveUp L.line None waits.key) (reply.GivenUp None) }
     {
+        // A listener that was told must pass its notification on, so it leaves by a call of its own.
         if waits.key().is_some() {
             let (none, left) = self.give_up(rt, None, waits);
             drop(none);

@@ -1,4 +1,4 @@
-//! The calls of a sender that send.
+//! The calls of a sender that send, with a witness.
 
 ghost use Rattle.std.specs.Prelude.{◌≡◌, [], Some, IfErr};
 ghost use Rattle.channel_calls.specs.Replies.{RefusesTrySend, RefusesForceSend};
@@ -19,7 +19,7 @@ use event_listener::waking::WakeNow;
 use std::sync::Wait;
 
 impl<'a, T: Drop, R: Wait + Copy> Witnessed<'a, T, R, OfSenders> {
-    /// Sends the message where there is a place for it.
+    /// Sends the message if there is a place for it.
     #[inline(always)]
     pub fn try_send(
         &self,
@@ -36,7 +36,7 @@ impl<'a, T: Drop, R: Wait + Copy> Witnessed<'a, T, R, OfSenders> {
         self.channel.table.try_send(self.rt, witness, message, sink)
     }
 
-    /// Sends the message; where the channel is full, its oldest message leaves for it and is answered.
+    /// Sends the message; if the channel is full, removes and returns its oldest message.
     #[inline(always)]
     pub fn force_send(
         &self,

@@ -1,4 +1,5 @@
-//! A section on one of a channel's lists: the list's seat joins that of the call, an event is made, and the seat leaves again.
+//! A critical section on one of a channel's wait queues: take the lock, join the list's seat into that of the call, make the event, split
+//! the seat off again, and release the lock. Between taking and releasing only this call sees or changes the list and its word.
 
 ghost use Rattle.std.specs.Prelude.{◌≡◌, []};
 ghost use Rattle.channel_history.specs.CallSections.{HoldsList, IsInside, MayTurn, without_lists};
@@ -18,7 +19,7 @@ use std::marker::Brand;
 use std::sync::Wait;
 
 impl<'a, T: Drop, W: Drop, R: Wait> CallCells<'a, T, W, R> {
-    /// Takes the list of this kind, whose seat joins that of the call. It may wait, while another call has the list.
+    /// Takes the list of this kind, whose seat joins that of the call. It may wait while another call has the list.
     #[inline(always)]
     pub(crate) fn enter(&mut self, line: WaitList) -> Section<'a, T, W>
         requires free { (view_of self.old).own.lists ≡ [] }
@@ -33,7 +34,7 @@ impl<'a, T: Drop, W: Drop, R: Wait> CallCells<'a, T, W, R> {
         Section { list, taken }
     }
 
-    /// Gives the list back, whose seat leaves that of the call.
+    /// Returns the list, whose seat is split off that of the call.
     #[inline(always)]
     pub(crate) fn leave(&mut self, line: WaitList, section: Section<'a, T, W>)
         requires inside { HoldsList line section.list.value.lists (view_of self.old) }
@@ -47,8 +48,8 @@ impl<'a, T: Drop, W: Drop, R: Wait> CallCells<'a, T, W, R> {
         taken.give(SeatedList { list, seat });
     }
 
-    /// The event of a section, in which the list changed: whether nobody waited on it before and nobody does after. Where this differs the
-    /// list's word is set in the same step, so that a notifier which finds 0 there misses nobody; elsewhere the step is a load.
+    /// The event of a critical section in which the list changed. `before` and `after` say whether nobody waited on it. If they differ, the
+    /// list's word is set in the same step, so that a notifier which finds 0 there misses nobody; otherwise the step is a load.
     #[inline(always)]
     pub(crate) fn happen<E: LeadsTo<Standing<T, W>>, X, Y>(
         &mut self,
@@ -64,8 +65,11 @@ impl<'a, T: Drop, W: Drop, R: Wait> CallCells<'a, T, W, R> {
         ensures same { IsSameCall self.old self.new }
     {
         if before == after {
+            // The word is right as it is, so the event is a load.
             self.queue.seat.turn_by::<E, X, Y>(about, and);
         } else {
+            // Under the list's lock, so a store suffices: nobody else writes the word, and notifiers that load it see the list before or
+            // after this step.
             let raised = u64::from(before);
             self.queue
                 .seat
@@ -73,7 +77,7 @@ impl<'a, T: Drop, W: Drop, R: Wait> CallCells<'a, T, W, R> {
         }
     }
 
-    /// The section of a notice, where somebody may wait.
+    /// The critical section of a notification, if somebody may wait.
     pub(crate) fn tell_some<S: Wakes<W>>(&mut self, line: WaitList, telling: Telling, sink: &mut S)
         requires may { MayNotify (form_in self.old) line telling (view_of self.old) }
         ensures told { HasNotified S.wakes (form_in self.old) line telling (view_of self.old) (view_of self.new) sink.old sink.new }

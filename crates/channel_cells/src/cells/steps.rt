@@ -1,4 +1,5 @@
-//! What the cells of a call do, each step as its machine does it next.
+//! What the cells of a call do, each step as its machine does it next. Queue words and counts are touched by one atomic operation each, a
+//! wait queue only in a critical section.
 
 ghost use Rattle.std.specs.Prelude.{◌≡◌};
 ghost use Rattle.channel_history.specs.Machine.{counter_of, waiters_of};
@@ -19,7 +20,7 @@ use std::marker::Brand;
 use std::sync::Wait;
 use std::{mem, thread};
 
-/// Which of the table's counts is that of these handles.
+/// The table's count of these handles.
 #[inline(always)]
 pub(crate) fn counter_of(side: Side) -> Counter
     ensures { result ≡ counter_of side }
@@ -30,7 +31,7 @@ pub(crate) fn counter_of(side: Side) -> Counter
     }
 }
 
-/// Which of the table's counts says whether somebody waits on this list.
+/// The table's count that says whether somebody waits on this list.
 #[inline(always)]
 pub(crate) fn waiters_of(line: WaitList) -> Counter
     ensures { result ≡ waiters_of line }
@@ -68,7 +69,7 @@ impl<'a, T: Drop, W: Drop, R: Wait> ChannelCells<T, W> for CallCells<'a, T, W, R
 
     ghost rests = { rests form_in view_of };
 
-    // All steps of the queue's call, up to its answer: other threads may step between them, and nothing else of this call does.
+    // All steps of the queue's call, up to its answer: other threads may make steps in between, and nothing else of this call does.
     #[inline(always)]
     fn step_queue(&mut self, call: &mut QueueCall<T>) -> Option<QueueReply<T>> {
         let whole = mem::replace(call, QueueCall::ended());
@@ -92,7 +93,7 @@ impl<'a, T: Drop, W: Drop, R: Wait> ChannelCells<T, W> for CallCells<'a, T, W, R
         answer
     }
 
-    // The event is told before the list is changed, while the task is at hand. Nobody sees the list until it is given back.
+    // The event is made before the list is changed, while the task is at hand. Nobody sees the list until it is returned.
     fn register(&mut self, line: WaitList, key: Key, task: W) -> Option<W> {
         let mut section = self.enter(line);
         self.queue
@@ -105,7 +106,7 @@ impl<'a, T: Drop, W: Drop, R: Wait> ChannelCells<T, W> for CallCells<'a, T, W, R
 
     fn remove<S: Wakes<W>>(&mut self, line: WaitList, key: Key, sink: &mut S) {
         let mut section = self.enter(line);
-        // Where the last waiting listener leaves, the list's word is cleared, so that notifiers need not take the lock.
+        // If the last waiting listener leaves, the list's word is cleared, so that notifiers need not take the lock.
         let before = lists::nobody_waits(&section.list);
         lists::remove(&mut section.list, key, sink);
         let after = lists::nobody_waits(&section.list);
@@ -119,8 +120,8 @@ impl<'a, T: Drop, W: Drop, R: Wait> ChannelCells<T, W> for CallCells<'a, T, W, R
         self.leave(line, section);
     }
 
-    // Where nobody waits, one load is the whole section: it would change nothing. Nobody is missed by that: whoever waits was put on the list
-    // in a section that raised its word, and tries the queue once more behind that.
+    // If nobody waits, one load is the whole critical section: it would change nothing. Nobody is missed by that: a waiter was listed in a
+    // section that set the list's word, and tries the queue once more after that.
     #[inline(always)]
     fn tell<S: Wakes<W>>(&mut self, line: WaitList, telling: Telling, sink: &mut S) {
         let nobody = self
@@ -134,17 +135,17 @@ impl<'a, T: Drop, W: Drop, R: Wait> ChannelCells<T, W> for CallCells<'a, T, W, R
     }
 
     fn count(&mut self, side: Side) -> usize {
-        // One load, which holds at that moment only: other handles come and go.
+        // One load, true at that moment only: other handles come and go.
         self.queue.seat.count(counter_of(side)) as usize
     }
 
     fn lower(&mut self, side: Side) -> usize {
-        // Lower and read in one step: if two handles are dropped at once, only one of them finds that it was the last, and closes.
+        // Lowers and reads in one step: if two handles are dropped at once, only one of them finds that it was the last, and closes.
         self.queue.seat.lower_count(counter_of(side)) as usize
     }
 
-    // Where another handle came between, the call reads the count again, and lets others run first. One that no word can hold is refused
-    // without an operation on the count.
+    // An exchange: the limit was tested of `from` alone. If another handle came in between, the call reads the count again, and yields
+    // first. A count that no word can hold is refused without an operation on it.
     fn raise(&mut self, side: Side, from: usize) -> bool {
         if from == usize::MAX {
             self.queue.seat.turn_by::<Brand, Side, usize>(&side, &from);

@@ -1,9 +1,10 @@
-//! What is told of a channel's history, to whoever has a seat of one of its parties.
+//! What a look proves of a channel's history, for any seat of one of its parties. It reads one word and changes nothing.
 
 ghost use Rattle.std.specs.Prelude.{◌≡◌};
 ghost use Rattle.concurrent_queue.specs.history.Shared.{both_views};
-ghost use Rattle.channel_cells.specs.Channel.{id_of, seat_table, view_in};
+ghost use Rattle.channel_cells.specs.Channel.{id_of, seat_table, standing_of, view_in};
 ghost use Rattle.channel_cells.specs.Look.{IsTold};
+ghost use Rattle.channel_cells.specs.Over.{IsOver, WasToldTheEnd};
 
 use crate::channel::{ChannelTable, Seat};
 use channel_history::laws::{
@@ -12,9 +13,9 @@ use channel_history::laws::{
 };
 
 impl<T: Drop, W: Drop> ChannelTable<T, W> {
-    /// At any moment, whatever other threads are in the midst of: there is one history of all that was done to this channel, in which the
-    /// party of this seat stands where its view says, with all that it asked and was answered. As long as positions last, it is a run of
-    /// which the whole headline holds. It costs a load, and waits for nobody.
+    /// At any moment, whatever other threads are doing: there is one history of all that was done to this channel, in which the party of
+    /// this seat is where its view says, with all that it asked and was answered. As long as positions last, it is a run of which the whole
+    /// headline holds. It costs one load and never waits.
     pub fn look(&self, seat: &mut Seat<T, W>)
         requires here { seat_table seat.old ≡ id_of self.now }
         ensures told { IsTold (view_in seat.old) }
@@ -29,7 +30,19 @@ impl<T: Drop, W: Drop> ChannelTable<T, W> {
         let _ = self.table.look(seat);
     }
 
-    /// Takes another seat of this channel into this one, so that one look tells of both parties in one history. It costs a load.
+    /// The same to a party that was told that no message will come any more: the channel is at its end, so that all that was accepted was
+    /// taken, in order.
+    pub fn look_at_end(&self, seat: &mut Seat<T, W>)
+        requires here { seat_table seat.old ≡ id_of self.now }
+        requires end { WasToldTheEnd (standing_of seat.old) }
+        ensures over { IsOver (view_in seat.old) }
+        ensures kept { (view_in seat.new ≡ view_in seat.old) × (seat_table seat.new ≡ seat_table seat.old) }
+    {
+        self.look(seat);
+    }
+
+    /// Joins another seat of this channel into this one, so that one look says of both parties that they are in one history. It costs one
+    /// load.
     pub fn join(&self, one: &mut Seat<T, W>, other: Seat<T, W>)
         requires one { seat_table one.old ≡ id_of self.now }
         requires other { seat_table other ≡ id_of self.now }

@@ -1,4 +1,5 @@
-//! The opening of a channel: its table, whose first party has all that is to lie with others, and the four lists, each behind its lock.
+//! The opening of a channel: its table, whose first party has all that other seats are to have, and the four wait queues, each behind its
+//! lock.
 
 ghost use Rattle.std.specs.Prelude.{◌≡◌, suc, ◌<◌, ◌≤◌, ◌^◌, [], ◌∷◌, IfOk};
 ghost use Rattle.concurrent_queue.specs.declared.cells.QueueForm.TheVariants.{Bounded};
@@ -28,7 +29,7 @@ fn new_list<W: Drop>(alloc: Global) -> Result<Box<List<(), W>>, AllocError>
     }
 }
 
-/// This new list, of this kind, with the seat that says that it lies here: the last one that lies with the seat of the opening.
+/// This new list, of this kind, with the seat that says that it lies here, split off the seat of the opening.
 fn part_list<T: Drop, W: Drop>(
     seat: &mut Calling<'_, T, W>,
     list: Box<List<(), W>>,
@@ -45,7 +46,7 @@ fn part_list<T: Drop, W: Drop>(
     SeatedList { list, seat: apart }
 }
 
-/// The seat of the first receiver, with whose seat that of the first sender was made.
+/// The seat of the first receiver, split off that of the first sender.
 fn part_receiver<T: Drop, W: Drop>(seat: &mut Calling<'_, T, W>) -> NamelessSeat<T, Standing<T, W>>
     requires both { seat.old.seat.me.0.state ≡ opening_at 0 }
     ensures stays { seat.new.seat.me.0.state ≡ with_handles (Senders ∷ []) }
@@ -56,8 +57,7 @@ fn part_receiver<T: Drop, W: Drop>(seat: &mut Calling<'_, T, W>) -> NamelessSeat
 }
 
 impl<T: Drop, W: Drop> ChannelTable<T, W> {
-    /// A channel of at most `capacity` messages, with one sender and one receiver. `Err` where there is no memory for it; it waits for
-    /// nobody.
+    /// A channel of at most `capacity` messages, with one sender and one receiver. `Err` if there is no memory for it. It never waits.
     pub fn open(alloc: Global, capacity: usize) -> Result<Opened<T, W>, AllocError>
         requires { (0 < capacity) × (capacity ≤ 2 ^ 58) }
         ensures form { IfOk result (λ o. form_of o.channel ≡ Bounded capacity) }

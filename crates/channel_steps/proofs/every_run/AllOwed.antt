@@ -1,4 +1,4 @@
--- Where one call tells all of a list, who waits there is owed no number: there is no cause, or a call is to tell. As numbers that is
+-- Where one call tells all of a list, one that waits there is owed no number: there is no cause, or a call is to tell. As numbers that is
 -- the one law of `Owed`, in which such a call counts for one.
 use Rattle.std.proofs.Common.{◌≡◌, ℕ, zero, suc, ◌≤◌, List, [], ◌∷◌, ◌⊎◌, ⊎_elim, inl, inr, refl, arith}
 use Rattle.channel_steps.proofs.every_run.Words.{Phase, Key, Channel, ChannelAsk, Stage, ActiveCall, Configuration, Known, AllKnown, total, Any}

@@ -7,7 +7,7 @@ use Rattle.channel_calls.specs.declared.stage.Purpose.TheVariants as purpose
 use Rattle.channel_steps.proofs.every_run.ListFacts.{removed_leaves}
 
 module _ {T : Type 0} where
-  -- what the poll of one who waits on this list asks
+  -- what the poll of one that waits on this list asks
   abbrev Polls : WaitList → QueueAsk T → Type 0
   Polls Sends a = (v : T) × (a ≡ ask.Push v)
   Polls Receives a = a ≡ ask.Pop
@@ -46,7 +46,7 @@ module _ {T W : Type 0} where
   left_line Streams key c apart w = removed_leaves key c.wait_lists.streams apart w
   left_line Closings key c apart w = removed_leaves key c.wait_lists.closings apart w
 
-  -- and who has left waits no more
+  -- and one that has left waits no more
   pub has_left : (line : WaitList) (key : Key) (c : Channel T W) (o : Option ListenerRef) (e : Effect T W) → o ≡ Some (held_by line key) → e ≡ leaves o c → WaitApart line c → Waits line key e.channel → ⊥
   has_left line key c o e h same apart w =
       let gone : e ≡ removes (held_by line key) c = same ∙ ap (λ (o : Option ListenerRef). leaves o c) h in

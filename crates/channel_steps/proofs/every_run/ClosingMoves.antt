@@ -166,7 +166,7 @@ module _ {T W : Type 0} (line : WaitList) where
   abbrev Paid : Channel T W → ChannelAsk T W → Stage (Phase T) T W → Effect T W → Option (Reply T) → Stage (Phase T) T W → Type 0
   Paid c x at e r s = Pays line OpenOrTold counts_for_closing (LooksAgain line) (λ z. ⊥) c x at e r s
 
-  -- who has closed tells all lists next
+  -- a call that has closed tells all lists next
   tells_first : (x : ChannelAsk T W) (y : Purpose T W) → IsClose y → 1 ≤ weigh_turn counts_for_closing x (answered_next y (let r : QueueReply T = answer.Close true in r))
   tells_first x (purpose.Close closer) h = omega arith
   tells_first x y h = absurd h

@@ -15,7 +15,7 @@ module _ {T W : Type 0} where
     abbrev IsAnswered : Type 0
     IsAnswered = Any (AnswersClosed line key) s.under_way
 
-    -- where it is closed a call answers for him; so it is open, or one does
+    -- if it is closed a call is responsible for the waiting one; so it is open, or one is responsible
     open_or : (Shut s.now → IsAnswered) → Open s.now ⊎ IsAnswered
     open_or f = by s.now.queue.closed refl
       where

@@ -1,4 +1,4 @@
--- What a layer above may use: whoever waits in a channel that was just opened is answered for, and stays so over every entry
+-- What a layer above may use: each that waits in a channel that was just opened is answered for, and stays so over every entry
 -- of a run; and what is over stays over.
 use Rattle.std.proofs.Common.{ℕ, List, Option}
 use Rattle.channel_steps.proofs.every_run.Words.{Next, new_configuration, Shut, Spent, Configuration, Steps, Entry, Step, GivesMessage, SaysTheEnd, Replies, AllSpent, WakeInvariant}

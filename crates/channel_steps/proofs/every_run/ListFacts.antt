@@ -132,10 +132,10 @@ module _ {W : Type 0} where
   gone_as None true key l e apart h = gone key l.waiting apart h
   gone_as None false key l e apart h = unlisted key l.waiting e h
 
-  -- who leaves waits no more
+  -- one that leaves waits no more
   pub removed_leaves : (key : Key) (l : Listeners W) → Apart l.waiting → IsIn key (removed key true l).waiting → ⊥
   removed_leaves key l apart h = gone_as (told_as l key) (is_some (waits_as l key)) key l refl apart h
 
-  -- who comes in did not wait
+  -- one that comes in did not wait
   pub newcomer : (key : Key) (l : Listeners W) → kind_of l key ≡ None → IsIn key l.waiting → ⊥
   newcomer key l e h = unlisted key l.waiting (kind_none (is_some (told_as l key)) (is_some (waits_as l key)) e) h

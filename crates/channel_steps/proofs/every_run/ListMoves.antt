@@ -1,4 +1,4 @@
--- What a step does to those who wait on a list.
+-- What a step does to those that wait on a list.
 use Rattle.std.proofs.Common.{◌≡◌, List, Option, None, Some, ◌⊎◌, ⊎_elim, inl, inr, sym, subst}
 use Rattle.channel_steps.proofs.every_run.Words.{Phase, listened, Key, Channel, Effect, queued, Turned, Moves, Listeners, listeners, line_of, again, Reply, WaitList, Stage, Trying, Working, Finished, Waiting, ListStep, TellReceive, TellStreams, TellSend, TellSends, TellAll, Insert, Register, Leave, Next, Configuration, Entry, Step, IsIn, Apart, Waits, WaitApart}
 use Rattle.channel_steps.specs.declared.run.Step.TheVariants as step

@@ -1,4 +1,4 @@
--- Who tells all of a list has closed the channel, and it is closed.
+-- One that tells all of a list has closed the channel, and it is closed.
 use Rattle.std.proofs.Common.{◌≡◌, ℕ, zero, suc, List, [], ◌∷◌, ◌++◌, Option, ◌⊎◌, ⊎_elim, inl, inr, refl, subst}
 use Rattle.channel_steps.proofs.every_run.Words.{Phase, QueueMark, mark_of_queue, Channel, Effect, Moves, Mark, Append, Replace, Close, Reply, Closer, WaitList, Sends, Receives, Streams, Closings, Stage, Working, TellAll, ToldAt, MarkedMoment, with_marked, Shut, Telling, all_from, one_of, more_of, all_of, owed_for, owed_takings, takings, owed_besides, HasClosed, HasToTell, IsStill, Queue, after, IsShut}
 use Rattle.concurrent_queue.specs.declared.call.QueueMark.TheVariants as queue
@@ -63,7 +63,7 @@ module _ {T W : Type 0} where
       ⊎_elim (λ k. absurd (takings_owe (takings ds) k)) (λ k. has_besides ds k)
       (among_either (all_of Closings) (owed_takings (takings ds)) (owed_besides ds) h)
 
-  -- who tells all of a list has closed the channel
+  -- one that tells all of a list has closed the channel
   pub teller_has_closed : (told : List Telling) (line : WaitList) (closer : Closer) (ds : List (MarkedMoment T W))
       → ToldAt told (let at : Stage (Phase T) T W = Working (TellAll line closer) in at) ds → HasClosed ds
   teller_has_closed told line closer ds h =

@@ -1,4 +1,4 @@
--- How those who were told were told, over runs.
+-- How those that were told were told, over runs.
 use Rattle.std.proofs.Common.{◌≡◌, ℕ, Bool, true, false, List, Option, ◌⊎◌, ⊎_elim, inl, inr, refl, sym, ◌∙◌, subst}
 use Rattle.channel_steps.proofs.every_run.Words.{Phase, Key, Channel, Effect, tells_all, Moves, ChannelAsk, Reply, WaitList, Sends, Receives, Streams, Stage, Working, TellReceive, TellStreams, TellSend, TellSends, TellAll, ToldAt, MarkedMoment, Open, Shut, Configuration, Steps, Known, Telling, Next, Begins, new_configuration, Entry, Step, HasClosed, LooksAgain, MayBeTold, IsOneByOne, EachTold, AnyTold, told_of, TellingsSound, TellingsStayFit, TellingsAlwaysFit, Waits, Any}
 use Rattle.channel_steps.specs.declared.run.Step.TheVariants as step
@@ -33,7 +33,7 @@ module _ {T W : Type 0} where
   tells_as line b told (Working (TellAll at closer)) ds k h = inr (teller_has_closed told at closer ds k)
   tells_as line b told at ds k h = absurd h
 
-  -- who tells a send or a receive by the default tells all of its list, and has closed the channel
+  -- one that tells a send or a receive by the default tells all of its list, and has closed the channel
   by_default_as : (line : WaitList) (one : IsOneByOne line) (told : List Telling) (c : Channel T W) (at : Stage (Phase T) T W)
       (e : Effect T W) (r : Option (Reply T)) (s : Stage (Phase T) T W) (ds : List (MarkedMoment T W))
       → ToldAt told at ds → Moves c at e r s → Tells line false at → HasClosed ds × ((key : Key) → Waits line key e.channel → ⊥)

@@ -31,7 +31,7 @@ module _ {T W : Type 0} (line : WaitList) (Enough : Channel T W → ℕ → Type
       (e : Effect T W) (r : Option (Reply T)) (s : Stage (Phase T) T W) (key : Key)
       → StageAt c x at ds seen → Moves c at e r s → Waits line key e.channel → P c x at e r s key
 
-  -- what has to hold of a list: more is enough too; who comes in is in the hand of his poll; a poll keeps him so, or there is no
+  -- what has to hold of a list: more is enough too; one that comes in is in the hand of his poll; a poll keeps him so, or there is no
   -- cause for it; and each step pays, unless one was told by the default
   pub record Ledger : Type 0 where
     pub more : (c : Channel T W) (m n : ℕ) → m ≤ n → Enough c m → Enough c n

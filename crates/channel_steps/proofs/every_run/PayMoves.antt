@@ -63,7 +63,7 @@ module _ {T W : Type 0} (line : WaitList) (one : IsOneByOne line) (Enough : Chan
           pays = pays;
         }
 
-  -- one entry of a run: where one was told by the default, whoever waits is in hand
+  -- one entry of a run: where one was told by the default, each that waits is in hand
   pub one_next : Ledger line Enough weigh (HoldsListener line) OneByDefault → (s : Configuration T W) (x : Step T W) (e : Entry T) (names : List W) (t : Configuration T W) → Next s x e names t → TellingsSound s
       → AreOwed line Enough weigh (HoldsListener line) s → AreOwed line Enough weigh (HoldsListener line) t
   one_next ledger s x e names t n sound owed =

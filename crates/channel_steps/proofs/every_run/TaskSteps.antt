@@ -46,7 +46,8 @@ module _ {T W V S : Type 0} (put : W → V) (wakes : S → V → S → Type 0) (
           changes = refl;
         }
 
-    -- A telling, or a removal, which may pass a notice on: what it does to its list and whom it wakes are alike whatever the tasks are.
+    -- A telling, or a removal, which may pass a notification on: what it does to its list and whom it wakes are alike whatever the tasks
+    -- are.
     abbrev Tells : (List W → Deed T W) → Type 0
     Tells deed = (names : List W) × ActBefore (on_wait_lists (deed names))
 

@@ -133,7 +133,7 @@ module _ {W : Type 0} where
   abbrev tags_for : Bool → Unit {0} → List (Key × Notice Unit) → List (Key × Option W) → List (Unit {0})
   tags_for a tag told waiting = take (min (if a then 1 else 1 - length told) (length waiting)) (tag ∷ [])
 
-  -- a notice for one more tells one where one waits
+  -- a notification for one more tells one where one waits
   one_more : (a : Bool) (tag : Unit {0}) (told : List (Key × Notice Unit)) (waiting : List (Key × Option W)) (key : Key)
       → a ≡ true → IsIn key waiting
       → length (told ++ told_with a (take (length (tags_for a tag told waiting)) waiting) (tags_for a tag told waiting))
@@ -183,7 +183,7 @@ module _ {W : Type 0} where
   removed_counts_as None true key k l e h = let same = remove_same key l.told (ap is_some e) in inl (omega (arith, same))
   removed_counts_as None false key k l e h = inl (omega arith)
 
-  -- who leaves passes its notice on where one waits still, unless it was told by the default
+  -- one that leaves passes its notification on where one waits still, unless it was told by the default
   pub removed_counts : (key k : Key) (l : Listeners W) → IsIn k (removed key true l).waiting
       → (length l.told ≤ length (removed key true l).told) ⊎ AnyTold false l.told
   removed_counts key k l h = removed_counts_as (told_as l key) (is_some (waits_as l key)) key k l refl h
@@ -196,7 +196,7 @@ module _ {W : Type 0} where
   register_counts false true key task l = inl (omega arith)
   register_counts false false key task l = inl (omega arith)
 
-  -- who asks takes his notice away, and then does not wait
+  -- one that asks takes its notification away, and then does not wait
   pub registered_counts : (key : Key) (task : W) (l : Listeners W)
       → (length l.told ≤ length (registration key task l).told)
       ⊎ ((waits key l ≡ false) × (length l.told ≤ length (registration key task l).told + 1))

@@ -38,7 +38,7 @@ module _ {T W : Type 0} where
   Tells line b at = ⊥
 
   module _ (line : WaitList) (b : Bool) where
-    -- who is told so now was told so before, or the call tells him so
+    -- one that is told so now was told so before, or the call tells it so
     abbrev Keeps : Stage (Phase T) T W → Listeners W → Listeners W → Type 0
     Keeps at l l' = AnyTold b l'.told → AnyTold b l.told ⊎ Tells line b at
 

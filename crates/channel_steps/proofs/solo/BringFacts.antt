@@ -5,7 +5,7 @@ use Rattle.channel_calls.specs.declared.stage.Purpose.TheVariants as purpose
 use Rattle.channel_steps.proofs.solo.TryFacts.{brought_by}
 
 module _ {T W : Type 0} where
-  -- it tries, or works to try; who tells or leaves has brought its message, or brings none
+  -- it tries, or works to try; one that tells or leaves has brought its message, or brings none
   abbrev pub MayBring : {Q : Type 0} → Stage Q T W → Type 0
   MayBring (Working (TellReceive x)) = ⊥
   MayBring (Working (TellStreams x)) = ⊥

@@ -80,7 +80,7 @@ module _ {T W : Type 0} where
     woken_more s [] (n ∷ ns) h e names t x = absurd h
     woken_more s (f ∷ es) [] h e names t x = absurd h
 
-    -- the run so far, and those whom it woke
+    -- the run so far, and those that it woke
     pub record WentSo (s : Configuration T W) (es : List (Entry T)) (woken : List W) (t : Configuration T W) : Type 0 where
       pub run : IsRun NextConfiguration s (steps_by p es) es t
       pub named : woken_by_steps s (steps_by p es) es run.moments run.each ≡ woken

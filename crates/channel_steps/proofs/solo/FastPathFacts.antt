@@ -1,4 +1,4 @@
--- Steps that a call makes on end, alone at work: how far it has come, and what one step of its machine makes of that.
+-- The fast path of a call with no other under way: how far it has come, and what one step of its machine makes of that.
 use Rattle.std.proofs.Common.{◌≡◌, ◌∙◌, ◌<◌, ℕ, List, Option, None, Some, refl, sym, ap, subst}
 use Rattle.concurrent_queue.specs.Step.{Starts, mark_of}
 use Rattle.concurrent_queue.specs.declared.queue_call.QueueCall.{QueueCall}
@@ -100,7 +100,7 @@ module _ {T W S : Type 0} (wakes : S → W → S → Type 0) (a : ChannelAsk T W
     tries_nearer e rest =
         comes_nearer c d (Trying call purpose) (Trying after purpose) k k messages n mark x count (after, None, (silent e, refl), refl, (refl, refl)) rest
 
-    -- one that the queue answers for good
+    -- a call to which the queue gives its last answer
     pub tries_over : (z : QueueReply T) (y : Reply T) (done : Completed T) → o ≡ Some z → answered_next purpose z ≡ Ends y nothing_kept
         → done ≡ record { reply = y; kept = nothing_kept } → IsOver done d k n
     tries_over z y done e ends is =

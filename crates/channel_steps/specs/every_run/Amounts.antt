@@ -1,4 +1,4 @@
--- Who waits on a list: what the calls under way count for is enough, or one of them has the listener in hand.
+-- One that waits on a list: what the calls under way count for is enough, or one of them has the listener in hand.
 use Rattle.std.specs.Prelude.{◌≡◌, ℕ, ◌+◌, List, [], ◌∷◌, None, Some, ◌⊎◌}
 use Rattle.concurrent_queue.specs.Queue.{Phase, Stage, trying}
 use Rattle.event_listener.specs.declared.key.Key.{Key}
@@ -40,7 +40,7 @@ module _ {T W : Type 0} where
   HoldsListener line key at = ⊥
 
   module _ (line : WaitList) (Enough : Channel T W → ℕ → Type 0) (weigh : ChannelAsk T W → stage.Stage (Phase T) T W → ℕ) (Holds : Key → stage.Stage (Phase T) T W → Type 0) where
-    -- where one waits on this list, what the calls under way count for is enough, or a call has its listener in hand
+    -- if one waits on this list, what the calls under way count for is enough, or a call has its listener in hand
     abbrev pub AreOwed : Configuration T W → Type 0
     AreOwed s =
         (key : Key) → Waits line key s.now → Enough s.now (total weigh s.under_way) ⊎ Any (λ u. Holds key u.at) s.under_way

@@ -54,7 +54,7 @@ pub record Happening (T W : Type 0) : Type 0 where
   pub party : ℕ
   pub event : Event T W
 
--- a moment: what the cells hold, the parties with their calls under way, the channel with these calls, and the sink of whom was woken
+-- a moment: what the cells hold, the parties with their calls under way, the channel with these calls, and the sink of woken tasks
 pub record MergeMoment (T W S : Type 0) : Type 0 where
   pub parts : Parts T W
   pub parties : List (Party T W)
@@ -135,7 +135,7 @@ module _ {T W : Type 0} where
   just_opened form sink = record { parts = opened_parts form; parties = []; configuration = new_configuration (capacity_of form); sink = sink }
 
   module _ {S : Type 0} (wakes : S → W → S → Type 0) where
-    -- ---- what is asked of the cells, and of the sink that is given whom a step wakes
+    -- ---- what is asked of the cells, and of the sink that gets the tasks that a step wakes
 
     abbrev pub Changes : Event T W → Parts T W × S → Parts T W × S → Type 0
     Changes (does (on_queue (Some d))) c e = cell_effect.Does d c.0.cells e.0.cells × (e.0.wait_lists ≡ c.0.wait_lists) × (e.1 ≡ c.1)

@@ -63,7 +63,8 @@ module _ {T W X : Type 0} (did : Deed T W → X → X → Type 0) (asked : Optio
   Rested (taken_off line key names) s t = (n : ℕ) × (x : X) × Rests n s x × did (taken_off line key names) x t
   Rested d s t = did d s t
 
--- what a call that blocks has done is what these calls do, its rests aside; who has no task of its own may take any for the first poll
+-- what a call that blocks has done is what these calls do, its rests aside; a call without a task of its own may take any for the first
+-- poll
 abbrev pub BlocksInCalls : {T W X : Type 0} → (Deed T W → X → X → Type 0) → (Option W → X → X → Type 0) → (X → X → Type 0) → Type 0
 BlocksInCalls {T} {W} {X} did asked slept =
     (b : Blocked T) (task : W) (s : X) (r : Reply T) (kept : Returned T) (t : X) → Blocks did asked slept b s r kept t

@@ -45,8 +45,8 @@ module _ {T W S : Type 0} where
     pub fits : IsWithinBound m.configuration.now
     -- of each call under way, the marks are the first of those that a call which asks this makes
     pub begun : Each (λ u. BeginsItsMarks u) m.configuration.under_way
-    -- beside one who is pending and was not told, whose listener no call has in hand, there is no message, no free place and no
-    -- closing but such as a told one or a call under way answers for
+    -- beside one that is pending and was not told, whose listener no call has in hand, there is no message, no free place and no
+    -- closing for which no told one and no call under way is responsible
     pub receives : PendingReceivesAreOwed m.configuration
     pub sends : PendingSendsAreOwed m.configuration
     pub streams : PendingStreamsAreOwed m.configuration
@@ -54,7 +54,7 @@ module _ {T W S : Type 0} where
     -- the channel is closed or not and holds so many messages as its queue's words say; and each message lies in the slot that
     -- they name for it alone, without a bound by the blocks that the queue has used, or is with the call that is yet to put it there
     pub words : WordsSay m.parts.cells m.parties m.configuration
-    -- no call has more steps left than these, by how many messages a receive of several may take, where the others are quiet
+    -- no call has more steps left than these, by how many messages a receive of several may take, if the others are quiet
     pub few : FewStepsLeft m
 
   -- ---- the beginning of a call
@@ -82,10 +82,10 @@ module _ {T W S : Type 0} (wakes : S → W → S → Type 0) where
     pub touches : OnePlace m.parts n.parts
     -- it takes out the oldest message and brings in the call's own where its mark says so
     pub accounts : AddUp m.configuration (gone_by e.mark m.configuration.now.queue.items) (brought_by e.mark (brought call.ask)) n.configuration
-    -- it wakes those whom its one telling finds waiting, in order, or him to whom a listener of its own that it drops passes its
-    -- notice on, and nobody else
+    -- it wakes those that its one notification finds waiting, in order, or the one to which a listener of its own that it drops passes its
+    -- notification on, and nobody else
     pub told : WokenBy (telling call.at) (dropping call.at) m.configuration.now names
-    -- where it ends its call
+    -- if it ends its call
     pub ends : IfSome e.reply (λ r. EndSays after r e.kept)
     -- closing, dropping, giving up, refused polls and the questions but the length end within eight steps of their own, whatever
     -- others do
@@ -107,7 +107,7 @@ module _ {T W S : Type 0} (wakes : S → W → S → Type 0) where
     pub is : after ≡ does call at_now e.mark m.configuration.now n.configuration.now
     pub goes_on : n.configuration.under_way ≡ map (sees n.configuration.now) before ++ (unless_ended after e.reply ++ map (sees n.configuration.now) behind)
     pub work : StepDoes m e n names call after
-    -- where the others are quiet, a step that does not end its call leaves it fewer steps
+    -- if the others are quiet, a step that does not end its call leaves it fewer steps
     pub nearer : e.reply ≡ None → OthersQuiet m.configuration.now (before ++ behind) → left_to (length before) n < left_to (length before) m
 
   -- ---- a step of a run
@@ -142,7 +142,7 @@ module _ {T W S : Type 0} (wakes : S → W → S → Type 0) where
     pub each : EachStep MergeStepSays (just_opened form sink) (steps_of events) is.trace is.run.moments
     -- once a receive answered closed, or a stream ended, no call that begins later gives a message
     pub after_the_end : NoMessageAfter (steps_of events) is.trace
-    -- where the others are quiet (no other call under way has a mark but Nothing, and an unbounded channel has had its first taking or
+    -- if the others are quiet (no other call under way has a mark but Nothing, and an unbounded channel has had its first taking or
     -- there is no other call), a call makes no more steps than it has left at most before the one that ends it, if its are the next
     pub ends_soon : MergeEndsInARow (just_opened form sink) (steps_of events) is.trace is.run.moments
 

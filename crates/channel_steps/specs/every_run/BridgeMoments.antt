@@ -15,7 +15,7 @@ module _ {T W : Type 0} where
   steps_in_a_row p xs es = 0
 
 module _ {T W S : Type 0} where
-  -- the steps that are left to the k-th call under way, where the others are quiet
+  -- the steps that are left to the k-th call under way, if the others are quiet
   abbrev pub left_to : ℕ → MergeMoment T W S → ℕ
   left_to k m = left_at k (all_left m.parts m.parties)
 
@@ -29,7 +29,7 @@ module _ {T W S : Type 0} where
 
   -- ---- steps in a row
 
-  -- where the others of a call are quiet, it makes no more steps than it has left before it ends, if its are the next
+  -- if the others of a call are quiet, it makes no more steps than it has left before it ends, if its are the next
   abbrev pub RowIsShort : MergeMoment T W S → List (Step T W) → List (Entry T) → Type 0
   RowIsShort m xs es =
       (k : ℕ) (u : ActiveCall T W) → slice_get m.configuration.under_way k ≡ Some u → OthersQuietAt k m → steps_in_a_row u.party xs es ≤ most_left (wanted_at k m.configuration.under_way)

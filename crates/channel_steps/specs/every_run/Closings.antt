@@ -1,4 +1,4 @@
--- Who waits on a closed channel is told by the call that closed it, or a poll that has the listener in hand looks again.
+-- One that waits on a closed channel is told by the call that closed it, or a poll that has the listener in hand looks again.
 use Rattle.std.specs.Prelude.{◌≡◌, ℕ, ◌≤◌, false, List, ◌∷◌, [], Option, Some, ◌⊎◌}
 use Rattle.concurrent_queue.specs.Queue.{Phase, Stage, trying, taken}
 use Rattle.event_listener.specs.declared.key.Key.{Key}
@@ -54,11 +54,11 @@ module _ {T W : Type 0} where
   LooksAgain line key (Working (Leave x)) = x.held ≡ Some (record { line = line; key = key })
   LooksAgain line key at = ⊥
 
-  -- who answers for one that waits on a closed channel: the call that closed it, or such a poll
+  -- the call that is responsible for one that waits on a closed channel: the one that closed it, or such a poll
   abbrev pub AnswersClosed : WaitList → Key → ActiveCall T W → Type 0
   AnswersClosed line key u = (HasClosed u.marks × HasToTell line u.at) ⊎ LooksAgain line key u.at
 
-  -- on a closed channel a call under way answers for each that waits
+  -- on a closed channel a call under way is responsible for each that waits
   abbrev pub ClosingIsOwed : Configuration T W → Type 0
   ClosingIsOwed s = (line : WaitList) (key : Key) → Shut s.now → Waits line key s.now → Any (AnswersClosed line key) s.under_way
 

@@ -59,7 +59,7 @@ module _ {T W : Type 0} where
   abbrev pub IsIdle : ℕ → Configuration T W → Type 0
   IsIdle p s = Each (λ u. u.party ≡ p → ⊥) s.under_way
 
-  -- where the channel was over at a moment of a call under way, it is over now. So it is in a channel that was just opened,
+  -- if the channel was over at a moment of a call under way, it is over now. So it is in a channel that was just opened,
   -- where none is under way
   abbrev pub KnowsTheEnd : Configuration T W → Type 0
   KnowsTheEnd s = Each (λ u. Once Spent u.seen → Spent s.now) s.under_way

@@ -86,7 +86,7 @@ TwoWaitsMerge T W S wakes =
     × ((p : ℕ) → Acts {T = T} {W = W} (Bounded 1) None (own p (two_are_told one other)) (given_to_three p))
     × InOneOrder {T = T} wakes (two_are_told one other) (opened_parts (Bounded 1), sink) (parts_of_two, woken)
 
--- Where it is one task, and each wait has a name beside it, the merge behind has both names: the closing wakes the one, and then the
+-- If it is one task, and each wait has a name beside it, the merge behind has both names: the closing wakes the one, and then the
 -- other.
 abbrev pub OneTaskHasTwoNames : (T W V S : Type 0) → (S → W → S → Type 0) → Type 0
 OneTaskHasTwoNames T W V S wakes =

@@ -1,4 +1,4 @@
--- How those who were told were told: one at a time, or all at once.
+-- How those that were told were told: one at a time, or all at once.
 use Rattle.std.specs.Prelude.{◌≡◌, ℕ, Bool, true, false, List, [], ◌∷◌, Option, ◌⊎◌}
 use Rattle.event_listener.specs.Lists.{Notice}
 use Rattle.event_listener.specs.declared.key.Key.{Key}
@@ -15,8 +15,8 @@ use Rattle.channel_steps.specs.every_run.Closings.{HasClosed, LooksAgain}
 use Rattle.channel_steps.specs.every_run.Ends.{Each}
 use Rattle.channel_steps.specs.every_run.Waits.{Waits, WaitApart, Any}
 
--- how one of a list may be told while the channel is open: a send or a receive as one more, a stream by the default, and
--- who waits for the closing not at all
+-- how one of a list may be told while the channel is open: a send or a receive as one more, a stream by the default, and a wait for the
+-- closing not at all
 abbrev pub MayBeTold : WaitList → Bool → Type 0
 MayBeTold Sends additional = additional ≡ true
 MayBeTold Receives additional = additional ≡ true
@@ -44,11 +44,11 @@ module _ {T W : Type 0} where
   abbrev pub told_of : WaitList → Channel T W → List (Key × Notice Unit)
   told_of line c = (listeners line c.wait_lists).told
 
-  -- how those who are told now were told
+  -- how those that are told now were told
   pub record TellingsFit (s : Configuration T W) : Type 0 where
     -- while the channel is open
     pub while_open : (line : WaitList) → Open s.now → EachTold (MayBeTold line) (told_of line s.now)
-    -- where one send or receive was told by the default the channel is closed, and whoever still waits on that list is in
+    -- if one send or receive was told by the default the channel is closed, and each that still waits on that list is in
     -- the hand of a poll under way that has found no cause to wait
     pub by_default :
         (line : WaitList) → IsOneByOne line → AnyTold false (told_of line s.now)

@@ -40,7 +40,7 @@ module _ {T W : Type 0} where
   abbrev pub MessagesAreFew : Channel T W → ℕ → Type 0
   MessagesAreFew c n = length c.queue.items ≤ length (told_of Receives c) + n
 
-  -- where a receive waits there are no more messages than told receives and calls under way that are to tell one or try as
+  -- if a receive waits there are no more messages than told receives and calls under way that are to tell one or try as
   -- one; or a call has its listener in hand
   abbrev pub ReceivesAreOwed : Configuration T W → Type 0
   ReceivesAreOwed s = AreOwed Receives MessagesAreFew counts_for_receives (HoldsListener Receives) s

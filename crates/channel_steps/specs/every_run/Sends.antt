@@ -60,7 +60,7 @@ module _ {T W : Type 0} where
   abbrev pub PlacesAreFew : Channel T W → ℕ → Type 0
   PlacesAreFew c n = Shut c ⊎ HasPlaces c.queue.capacity (length c.queue.items + length (told_of Sends c) + n)
 
-  -- where a send waits the channel is closed, or has a bound, and no more places than messages, told sends, and calls under
+  -- if a send waits the channel is closed, or has a bound, and no more places than messages, told sends, and calls under
   -- way that are to tell one, bring a message for which they made room, or try as a send; or a call has its listener in hand
   abbrev pub SendsAreOwed : Configuration T W → Type 0
   SendsAreOwed s = AreOwed Sends PlacesAreFew counts_for_sends (HoldsListener Sends) s

@@ -1,4 +1,4 @@
--- All that every run keeps of those who wait.
+-- All that every run keeps of those that wait.
 use Rattle.channel_steps.specs.Configuration.{Configuration}
 use Rattle.channel_steps.specs.every_run.Closings.{ClosingSound}
 use Rattle.channel_steps.specs.every_run.Notices.{TellingsFit}
@@ -9,7 +9,7 @@ use Rattle.channel_steps.specs.every_run.Streams.{StreamsSound}
 use Rattle.channel_steps.specs.every_run.Unlisted.{SendsUnlisted}
 
 module _ {T W : Type 0} where
-  -- nobody who waits is forgotten, for whatever he waits, those who are told were told as they may be, what is over stays so, and without
+  -- nobody that waits is forgotten, whatever it waits for, those that are told were told as they may be, what is over stays so, and without
   -- a bound no send listens
   pub record WakeInvariant (s : Configuration T W) : Type 0 where
     pub streams : StreamsSound s

@@ -43,11 +43,11 @@ module _ {T W : Type 0} where
   HasInHand key (Working (Leave x)) = x.held ≡ Some (record { line = Streams; key = key })
   HasInHand key at = ⊥
 
-  -- who answers for a waiting stream
+  -- the calls that are responsible for a waiting stream
   abbrev pub AnswersFor : Key → ActiveCall T W → Type 0
   AnswersFor key u = (IsSending u.ask × IsBringing u.at) ⊎ HasInHand key u.at
 
-  -- where a stream waits there is no message, or a call under way answers for it
+  -- if a stream waits there is no message, or a call under way is responsible for it
   abbrev pub StreamsAreOwed : Configuration T W → Type 0
   StreamsAreOwed s = (key : Key) → Waits Streams key s.now → (s.now.queue.items ≡ []) ⊎ Any (AnswersFor key) s.under_way
 

@@ -42,7 +42,7 @@ module _ {T W V : Type 0} (put : W → V) where
   abbrev pub parts_by : Parts T W → Parts T V
   parts_by p = record { cells = p.cells; wait_lists = wait_lists_by put p.wait_lists }
 
-  -- ---- what is done to them; also those who are told to have been woken are others then
+  -- ---- what is done to them; also those that are told to have been woken are others then
 
   abbrev pub deed_by : Deed T W → Deed T V
   deed_by (stepped call after r) = stepped call after r

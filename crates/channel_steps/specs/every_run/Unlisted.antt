@@ -6,7 +6,7 @@ use Rattle.channel_steps.specs.Configuration.{Configuration}
 use Rattle.channel_steps.specs.every_run.Bounds.{BoundSound}
 
 module _ {T W : Type 0} where
-  -- the list of sends is empty, of the told and of those who wait
+  -- the list of sends is empty, of the told and of those that wait
   abbrev pub NoSendListens : Channel T W → Type 0
   NoSendListens c = c.queue.capacity ≡ None → c.wait_lists.sends ≡ nobody_listens
 

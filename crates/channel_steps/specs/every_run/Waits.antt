@@ -1,4 +1,4 @@
--- Who waits on a list of a channel.
+-- Which listeners wait on a list of a channel.
 use Rattle.std.specs.Prelude.{◌≡◌, List, [], ◌∷◌, Option, ◌⊎◌}
 use Rattle.event_listener.specs.declared.key.Key.{Key}
 use Rattle.channel_calls.specs.Moves.{Channel}

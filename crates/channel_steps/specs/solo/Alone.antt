@@ -1,5 +1,5 @@
--- What a call of a channel does where nobody else is at work: what it answers, what it leaves to its operation, whom it
--- wakes in order, and the channel after it.
+-- What a call of a channel does with no other call under way: what it answers, what it leaves to its operation, which tasks it wakes, in
+-- order, and the channel after it.
 use Rattle.std.specs.Prelude.{◌≡◌, ℕ, zero, suc, ◌+◌, ◌<◌, take, ◌==◌, ◌&&◌, nat_lt, Bool, true, false, if◌then◌else◌, List, [], ◌∷◌, ◌++◌, drop, length, slice_get, Option, None, Some, Ok, Err, ◌⊎◌}
 use Rattle.concurrent_queue.specs.Queue.{Queue, IsOpen, is_filled}
 use Rattle.event_listener.specs.Lists.{kind_of}
@@ -73,7 +73,7 @@ module _ {T W : Type 0} where
   abbrev pub answers : Reply T → Returned T → Channel T W → Outcome T W
   answers x kept c = record { reply = x; kept = kept; woken = []; channel = c }
 
-  -- it tells by these sections in order; then the listener that it holds leaves, and passes on the notice that it was told
+  -- it tells by these sections in order; then the listener that it holds leaves, and passes on the notification that it was told
   abbrev pub ends : List (Channel T W → Effect T W) → Ending T → Channel T W → Outcome T W
   ends [] x c = after_waking (leaves x.held c).woken (answers x.reply (leaving None x.message) (leaves x.held c).channel)
   ends (f ∷ fs) x c = after_waking (f c).woken (ends fs x (f c).channel)
@@ -111,7 +111,7 @@ module _ {T W : Type 0} where
       else (if is_filled c.queue then ends of_message (says (reply.ForceSend (Ok (slice_get c.queue.items 0)))) (over_queue (replaced m) c)
       else ends of_message (says (reply.ForceSend (Ok None))) (over_queue (with_appended m) c))
 
-  -- a message where there is one
+  -- a message if there is one
   abbrev pub receives_by : List T → Channel T W → Outcome T W
   receives_by (m ∷ ms) c = ends of_room (says (reply.TryRecv (Ok m))) (over_queue taken c)
   receives_by [] c = ends [] (says (reply.TryRecv (Err (if c.queue.closed then try_recv_error.Closed else try_recv_error.Empty)))) c
@@ -164,7 +164,7 @@ module _ {T W : Type 0} where
       (Where (is_filled c.queue) (WaitsOrGoesOn (waiting.Send m) key task c o)
       (o ≡ ends of_message (over (reply.SendPoll (poll.Ready (Ok tt))) None Sends key) (over_queue (with_appended m) c)))
 
-  -- a message where there is one; none will come to a closed channel; else the poll waits
+  -- a message if there is one; none will come to a closed channel; else the poll waits
   abbrev pub PollsFor : List T → Waiting T → (T → Reply T) → Reply T → Option Key → W → Channel T W → Outcome T W → Type 0
   PollsFor (m ∷ ms) w got closed key task c o = o ≡ ends of_room (over (got m) None (line_of w) key) (over_queue taken c)
   PollsFor [] w got closed key task c o = Where c.queue.closed (o ≡ ends [] (over closed None (line_of w) key) c) (WaitsOrGoesOn w key task c o)

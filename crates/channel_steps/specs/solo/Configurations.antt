@@ -27,7 +27,7 @@ module _ {T W : Type 0} where
   abbrev pub steps_by : ℕ → List (Entry T) → List (Step T W)
   steps_by p entries = map (λ (e : Entry T). step.Step p) entries
 
-  -- all whom these steps wake, in order
+  -- all tasks that these steps wake, in order
   abbrev pub woken_by_steps : (s : Configuration T W) (xs : List (Step T W)) (es : List (Entry T)) (ns : List (Configuration T W)) → EachStep NextConfiguration s xs es ns → List W
   woken_by_steps s (x ∷ xs) (e ∷ es) (n ∷ ns) h = h.0.0 ++ woken_by_steps n xs es ns h.1
   woken_by_steps s xs es ns h = []

@@ -1,4 +1,5 @@
-//! The recorded channel.
+//! The recorded channel. Its lock owns the world, the record and the unused parts of the ledger; the invariant is that the record leads
+//! from the opened channel to the channel as it is.
 
 ghost use Rattle.std.specs.Prelude.{◌≡◌, ◌<◌, ◌≤◌, ◌+◌, ◌-◌, ◌^◌, Err, IsOk, IfOk, IfErr, OnOk, OnErr, length};
 ghost use Rattle.channel_world_model.specs.State.{start};
@@ -21,19 +22,16 @@ use std::marker::Model;
 use std::sync::ledger::{Blank, Ledger};
 use std::sync::{Mutex, Wait};
 
-/// A channel between threads, its handles and operations called by their names, one call at a time under one lock, with the
-/// record of all its calls.
+/// A channel between threads, its handles and operations called by their names, one call at a time under one lock, with the record of all
+/// its calls.
 ///
-/// It is used in a function over its ledger `L`, so that a seat of another channel has another type and does not compile. At
-/// each lock the record leads from the opened channel to the channel as it stands. Own to this project; what the calls answer
-/// is as in `async-channel` 2.5.0.
+/// It is used in a function over its ledger `L`, so that a seat of another channel has another type and can't be used here.
 #[derive(Drop)]
 pub struct RecordedChannel<T: Copy, L: Ledger> {
     inner: Mutex<Recording<T, L>>,
 }
 
-/// A recorded channel that nobody else calls, so that no seat is made of it meanwhile. Contracts see how many were made. Own to this
-/// project.
+/// A recorded channel that nobody else calls, so that no seat is made of it meanwhile. Contracts see how many were made.
 #[derive(Drop)]
 pub struct HeldChannel<T: Copy, L: Ledger> {
     recording: Recording<T, L>,
@@ -48,14 +46,14 @@ impl<T: Copy, L: Ledger> Model for HeldChannel<T, L> {
 }
 
 impl<T: Copy, L: Ledger> HeldChannel<T, L> {
-    /// How many seats were made of it. Own to this project.
+    /// How many seats were made of it.
     pub fn seats(&self) -> u64
         ensures { result ≡ self.now.seats }
     {
         self.recording.seats()
     }
 
-    /// The channel, for calls of its seats and for more seats. Own to this project.
+    /// The channel, for calls of its seats and for more seats.
     pub fn share(self) -> RecordedChannel<T, L> {
         RecordedChannel {
             inner: Mutex::new(self.recording),
@@ -63,7 +61,7 @@ impl<T: Copy, L: Ledger> HeldChannel<T, L> {
     }
 }
 
-/// Not every seat was gathered: the channel and the seats come back, and the channel can be used on. Own to this project.
+/// Not every seat was gathered: the channel and the seats are returned, and the channel can be used on.
 #[derive(Drop)]
 pub struct MissingSeat<T: Copy, L: Ledger> {
     /// The channel, with the number of seats that were made of it.
@@ -73,10 +71,10 @@ pub struct MissingSeat<T: Copy, L: Ledger> {
 }
 
 impl<T: Copy, L: Ledger> RecordedChannel<T, L> {
-    /// An open channel of this capacity, without a message and with an empty record. The ledger is this channel's alone, and
-    /// has so many parts: one for each seat, and one that stays with the channel.
+    /// An open channel of this capacity, without a message and with an empty record. The ledger is this channel's alone, and has so many
+    /// parts: one for each seat, and one that stays with the channel.
     ///
-    /// Refused as `World::bounded`, and then the blank comes back.
+    /// `Err` as of `World::bounded`, and then the blank is returned.
     pub fn bounded(
         alloc: Global,
         capacity: usize,
@@ -99,7 +97,7 @@ impl<T: Copy, L: Ledger> RecordedChannel<T, L> {
         }
     }
 
-    /// An open channel for any number of messages, else as `bounded`.
+    /// An open channel for any number of messages, otherwise as `bounded`.
     pub fn unbounded(
         alloc: Global,
         ids: &mut EventIds,
@@ -131,10 +129,9 @@ impl<T: Copy, L: Ledger> RecordedChannel<T, L> {
         }
     }
 
-    /// One more seat, which made no call yet. Seats are numbered from 0 in the order of making. Who has gathered them all knows of
-    /// their numbers what `finish` says.
+    /// One more seat, which has made no call. Seats are numbered from 0 in the order in which they are made.
     ///
-    /// Refused where no part of the ledger but the last is left, or where 2^32 seats were made. It may wait for the lock.
+    /// `Err` if no part of the ledger but the last is left, or if 2^32 seats were made. It may wait for the lock.
     pub fn seat<R: Wait>(&self, rt: &R) -> Result<RecordSeat<L>, SeatsUsedUp>
         ensures idle { IfOk result (λ s. s.calls ≡ 0) }
         ensures below { IfOk result (λ s. s.number + 1 < L.parts) }
@@ -142,11 +139,11 @@ impl<T: Copy, L: Ledger> RecordedChannel<T, L> {
         Recording::seat_behind(&self.inner, rt)
     }
 
-    /// Makes a call from its begin to its end, with nobody else at work, and records it; the receipt is a copy of the entry. What it
-    /// answers and wakes is the model's after the calls that stand before it in the record, all of the seat's own among them.
+    /// Makes a call from its beginning to its end, with no other under way, and records it; the receipt is a copy of the entry. What it
+    /// answers and wakes is the model's after the calls that come before it in the record, all of the seat's own among them.
     ///
-    /// Refused for want of room for the entry or the receipt, or as `World::run_calls` refuses it. Then nothing has changed,
-    /// nothing is recorded and the call comes back. It may wait for the lock.
+    /// `Err` for want of room for the entry or the receipt, or as `World::run_calls` refuses it. Then nothing has changed, nothing is
+    /// recorded and the call is returned. It may wait for the lock.
     pub fn call<R: Wait>(
         &self,
         rt: &R,
@@ -163,11 +160,11 @@ impl<T: Copy, L: Ledger> RecordedChannel<T, L> {
         self.inner.lock(rt).call(seat, call)
     }
 
-    /// The record, where all seats that were made are gathered: it has as many entries as they made accepted calls. The sum of
-    /// their numbers is that of the numbers from 0 on, one for each seat. A channel of which no seat was made is finished with the
-    /// empty list. Where the seats have all parts of the ledger but the channel's own, none is missing.
+    /// The record, if all seats that were made are gathered: it has as many entries as they made accepted calls. The sum of their numbers
+    /// is that of the numbers from 0 on, one for each seat. A channel of which no seat was made is finished with the empty list. If the
+    /// seats have all parts of the ledger but the channel's own, none is missing.
     ///
-    /// Where fewer seats are gathered than were made the channel and the seats come back.
+    /// If fewer seats are gathered than were made the channel and the seats are returned.
     pub fn finish(self, seats: Vec<RecordSeat<L>>) -> Result<Record<T>, MissingSeat<T, L>>
         ensures counted { IfOk result (λ r. length r.entries ≡ calls_of seats.items) }
         ensures numbered { OnOk result (numbers_of seats.items ≡ sum_below (length seats.items)) }

@@ -19,7 +19,7 @@ fn polled<X: Copy>(poll: &Poll<X>) -> Poll<X>
     }
 }
 
-/// Copies of these, in the room that was taken for them.
+/// Copies of these, in the room that was reserved for them.
 pub(crate) fn filled<T: Copy>(mut room: Vec<T>, items: &[T]) -> Vec<T>
     requires empty { room.items ≡ [] }
     requires room { length items.now ≤ vec_capacity room }
@@ -39,7 +39,7 @@ pub(crate) fn most_listed<T: Copy>(call: &Call<T>) -> usize
     }
 }
 
-/// A copy of a reply, whose list lies in the room that was taken for it.
+/// A copy of a reply, whose list lies in the room that was reserved for it.
 pub(crate) fn copied_reply<T: Copy>(reply: &Reply<T>, room: Vec<T>) -> Reply<T>
     requires empty { room.items ≡ [] }
     requires room { length (listed reply.now) ≤ vec_capacity room }

@@ -4,9 +4,7 @@ use crate::call::{Call, WorldRefusal};
 use std::error::Error;
 use std::fmt;
 
-/// A recorded call was not made. Nothing was changed, nothing was recorded, and the call comes back.
-///
-/// Own to this project.
+/// A recorded call was not made. Nothing was changed, nothing was recorded, and the call is returned.
 #[derive(Drop, PartialEq, Eq)]
 pub enum RecordError<T> {
     /// The world refuses the call.
@@ -24,8 +22,6 @@ pub enum RecordError<T> {
 }
 
 /// No seat was made: no part of the ledger but the last is left, or 2^32 seats were made.
-///
-/// Own to this project.
 #[derive(Clone, Copy, Debug, PartialEq, Eq)]
 pub struct SeatsUsedUp;
 

@@ -5,9 +5,7 @@ ghost use Rattle.std.specs.Prelude.{◌≡◌};
 use crate::name::Waiter;
 use std::marker::Model;
 
-/// Names in order. Contracts see no more of them than the list, so two copies are equal whatever room they have.
-///
-/// Own to this project.
+/// Names in order. Contracts see only the list, so two copies are equal whatever room they have.
 #[derive(Drop)]
 pub struct Names {
     items: Vec<Waiter>,

@@ -3,9 +3,9 @@
 use super::names::Names;
 use crate::call::{Call, Reply};
 
-/// A recorded call: where it stands in the record, who made it, what it asked, what it answered and whom it woke.
+/// A recorded call: its place in the record, the seat that made it, what it asked, what it answered and which names it woke.
 ///
-/// The record is the list of these, and whoever makes a call gets a copy of its entry. Own to this project.
+/// The record is the list of these, and the caller of a call gets a copy of its entry.
 #[derive(Drop, PartialEq, Eq)]
 pub struct Receipt<T> {
     /// The entry's place in the record, counted from 0.
@@ -16,6 +16,6 @@ pub struct Receipt<T> {
     pub call: Call<T>,
     /// What was answered.
     pub reply: Reply<T>,
-    /// Whom the call woke, in order.
+    /// The names that the call woke, in order.
     pub woken: Names,
 }

@@ -1,4 +1,5 @@
-//! The record of a channel.
+//! The record of a channel. It is finished, so nothing changes it. The invariant: it replays from the opening by the definitions of one
+//! call at a time.
 
 use super::laws::{a_record_leaves_nobody_asleep, a_record_loses_nothing};
 use super::receipt::Receipt;
@@ -6,8 +7,7 @@ use std::marker::Model;
 
 /// What happened on a channel between its opening and its end: every accepted call, in order.
 ///
-/// It replays from the opening by the definitions of one call at a time, each reply and each waking being the model's at its
-/// place. Own to this project.
+/// It replays from the opening by the definitions of one call at a time: each reply and each wake-up is the model's at its place.
 #[derive(Drop)]
 pub struct Record<T> {
     /// The capacity with which the channel was opened.
@@ -37,16 +37,16 @@ impl<T> Record<T> {
         self.entries.len()
     }
 
-    /// The capacity with which the channel was opened; None where it had no bound.
+    /// The capacity with which the channel was opened; `None` without a bound.
     pub fn capacity(&self) -> Option<usize>
         ensures { result ≡ self.now.capacity }
     {
         self.capacity
     }
 
-    /// The entries in order: all calls that were made of the channel since it was opened, each at its place. What was received
-    /// or displaced, followed by what the channel held at its end, is what was accepted, in order; and nobody was left asleep
-    /// then beside a message, a free place or a closing that no woken one answers for.
+    /// The entries in order: all calls that were made of the channel since it was opened, each at its place. What was received or
+    /// displaced, followed by what the channel held at its end, is what was accepted, in order; and nobody was left asleep then beside a
+    /// message, a free place or a closing unless a woken one is responsible.
     pub fn entries(&self) -> &[Receipt<T>]
         ensures entries { result.now ≡ self.now.entries }
         ensures history { IsHistory self.now.capacity self.now.entries }

@@ -1,4 +1,4 @@
-//! What stands behind the lock: a world with the record of its calls.
+//! What is behind the lock: a world with the record of its calls. Only a call that holds the lock changes either, and it changes both.
 
 ghost use Rattle.std.specs.Prelude.{◌≡◌, ◌⊎◌, ◌<◌, ◌≤◌, ◌+◌, ◌^◌, ◌∷◌, ◌++◌, [], IfSome, IsOk, IfOk, IfErr, OnOk, OnErr, length, vec_len, vec_capacity};
 ghost use Rattle.channel_world.specs.Listed.{listed, most_listed};
@@ -18,14 +18,14 @@ use std::marker::Model;
 use std::sync::ledger::{Blank, Book, Ledger, Share};
 use std::sync::{Mutex, Wait};
 
-/// How many seats there are at most: so many numbers does a seat's have.
+/// How many seats there are at most, since a seat's number has 32 bits.
 const MOST_SEATS: u64 = 1 << 32;
 
-/// What a call counts for in the ledger. That is more than the numbers of so many seats come to, so its total tells both.
+/// What a call counts for in the ledger: more than the numbers of so many seats add up to, so the total tells both.
 const CALL_WEIGHT: u64 = u64::MAX;
 
-/// A world with the record of its calls, the book of the ledger, and those of its parts that no seat has. The book counts the entries,
-/// and the numbers of the seats that were made.
+/// A world with the record of its calls, the book of the ledger, and those of its parts that no seat has. The book counts the entries, and
+/// the numbers of the seats that were made.
 #[derive(Drop)]
 pub(crate) struct Recording<T: Copy, L: Ledger> {
     /// The capacity with which the channel was opened.
@@ -79,8 +79,8 @@ impl<T: Copy, L: Ledger> Recording<T, L> {
         }
     }
 
-    /// One more seat of the recording behind this lock. No seat is made but by who waits for the lock: the finishing of a channel waits
-    /// for nothing, so it makes none.
+    /// One more seat of the recording behind this lock. A seat is made only under the lock; finishing a channel never waits, so it makes
+    /// none.
     pub(crate) fn seat_behind<R: Wait>(
         lock: &Mutex<Self>,
         rt: &R,
@@ -117,7 +117,7 @@ impl<T: Copy, L: Ledger> Recording<T, L> {
         self.made
     }
 
-    /// Makes a call for a seat and records it. Room for its entry and its receipt is taken first.
+    /// Makes a call for a seat and records it. Room for its entry and its receipt is reserved first.
     pub(crate) fn call(
         &mut self,
         seat: &mut RecordSeat<L>,
@@ -159,7 +159,7 @@ impl<T: Copy, L: Ledger> Recording<T, L> {
         Ok(receipt)
     }
 
-    /// The record, where as many seats are gathered as were made. Else all comes back.
+    /// The record, if as many seats are gathered as were made. Otherwise all is returned.
     pub(crate) fn finish(
         self,
         mut seats: Vec<RecordSeat<L>>,
@@ -195,7 +195,7 @@ struct Lists<T> {
     messages: Vec<T>,
 }
 
-/// Room for the lists of a call's receipt, once there is room for its entry; None where room is refused.
+/// Room for the lists of a call's receipt, once there is room for its entry; `None` if room is refused.
 fn room_for<T: Copy>(
     world: &World<T>,
     entries: &mut Vec<Receipt<T>>,
@@ -213,7 +213,7 @@ fn room_for<T: Copy>(
     Some(Lists { names, messages })
 }
 
-/// The receipt of an entry: its copy, whose lists lie in the room that was taken for them.
+/// The receipt of an entry: its copy, whose lists lie in the room that was reserved for them.
 fn copied_receipt<T: Copy>(entry: &Receipt<T>, lists: Lists<T>) -> Receipt<T>
     requires empty { (lists.names.items ≡ []) × (lists.messages.items ≡ []) }
     requires names { length entry.now.woken ≤ vec_capacity lists.names }

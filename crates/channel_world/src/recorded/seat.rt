@@ -1,11 +1,12 @@
-//! Seats of a recorded channel.
+//! Seats of a recorded channel. A seat owns one part of the ledger; the invariant is that its amount counts the seat's number and its
+//! accepted calls.
 
 use std::marker::Model;
 use std::sync::ledger::{Ledger, Share};
 
 /// The right to make calls on the recorded channel of the ledger `L`. A seat of another channel has another type.
 ///
-/// Contracts see its number and how many of its calls were accepted. Own to this project.
+/// Contracts see its number and how many of its calls were accepted.
 #[derive(Drop)]
 pub struct RecordSeat<L: Ledger> {
     pub(crate) number: u32,

@@ -1,4 +1,4 @@
-//! Scripts, from bytes to bytes.
+//! Scripts, from bytes to bytes: what a script writes and how it ends, without input or output.
 ghost use Rattle.std.specs.Prelude.{◌≡◌, ◌≤◌, ◌<◌, ◌^◌, ◌++◌, ◌∷◌, [], Some, None, IfOk, OnOk, OnErr, OnSome, IfSome};
 ghost use Rattle.std.specs.Option.{option_map};
 ghost use Rattle.std.specs.Result.{result_unwrap_or};
@@ -117,7 +117,7 @@ fn run_opened(
     Ok(ScriptEnd::Done)
 }
 
-/// Runs a script, and adds its text, but for the last line where memory was refused.
+/// Runs a script, and adds its text, except for the last line if memory was refused.
 pub fn compose(alloc: Global, input: &[u8], out: &mut Vec<u8>) -> Result<ScriptEnd, AllocError>
     ensures { Extends (script_of_lines today (lines_of input.now)) (result_unwrap_or result ScriptEnd.Memory) out.old.items out.new.items }
 {

@@ -1,4 +1,4 @@
-//! Reading a script, and writing its text.
+//! Reading a script, and writing its text. Only this module touches the reader and the writer.
 ghost use Rattle.std.specs.Prelude.{◌≡◌, ◌≤◌, ◌++◌, ℕ, List, [], IfOk, IfErr, IfSome, vec_len};
 ghost use Rattle.std.specs.Bool.{OnTrue};
 ghost use Rattle.std.specs.Io.KnownBytes.{Appends};
@@ -18,8 +18,7 @@ const ASKS_LIMIT: u32 = 33_554_432;
 /// How many bytes a reader is asked for at once.
 const PIECE: usize = 16_384;
 
-/// All that the reader gives; or how the script ends where reading failed or memory was refused. A reader that was
-/// interrupted is asked again.
+/// All that the reader gives; or how the script ends if reading failed or memory was refused. A reader that was interrupted is asked again.
 fn read_input<R: Read>(alloc: Global, reader: &mut R) -> Result<Vec<u8>, ScriptEnd>
     ensures ok { IfOk result (λ input. IfSome (R.remaining reader.old) (λ known. input.items ≡ known)) }
     ensures short { IfOk result (λ input. vec_len input ≤ INPUT_LIMIT) }
@@ -43,7 +42,7 @@ fn read_input<R: Read>(alloc: Global, reader: &mut R) -> Result<Vec<u8>, ScriptE
     Err(ScriptEnd::Fault)
 }
 
-/// Writes all of a text, or after a fault a front of it. That a writer takes no byte is a fault, and so is every error.
+/// Writes all of a text, or after a fault a prefix of it. A writer that takes no byte is a fault, and so is every error.
 fn write_text<W: Write>(writer: &mut W, text: &[u8]) -> bool
     ensures all { OnTrue result (Appends (W.contents writer.old) (W.contents writer.new) text.now) }
     ensures front { AppendsFront (W.contents writer.old) (W.contents writer.new) text.now }
@@ -58,7 +57,7 @@ fn write_text<W: Write>(writer: &mut W, text: &[u8]) -> bool
     true
 }
 
-/// The last line that stands in no composed text: that of memory that was refused, or of reading that failed.
+/// The last line that is in no composed text: for refused memory, or for reading that failed.
 fn last_line(end: ScriptEnd) -> &'static [u8]
     ensures { result.now ≡ late_line end }
 {
@@ -69,7 +68,7 @@ fn last_line(end: ScriptEnd) -> &'static [u8]
     }
 }
 
-/// Reads a script and runs it: its text, but for a late last line, and how it ends.
+/// Reads a script and runs it: its text, except for a late last line, and how it ends.
 fn read_and_compose<R: Read>(alloc: Global, reader: &mut R, out: &mut Vec<u8>) -> ScriptEnd
     requires { out.old.items ≡ [] }
     ensures { (input : List ℕ) × IfSome (R.remaining reader.old) (λ known. input ≡ known) × IsText input result (out.new.items ++ late_line result) }
@@ -80,7 +79,7 @@ fn read_and_compose<R: Read>(alloc: Global, reader: &mut R, out: &mut Vec<u8>) -
     }
 }
 
-/// Writes a text and its late last line, and gives how the script ends then.
+/// Writes a text and its late last line, and returns how the script ends then.
 fn write_script<W: Write>(writer: &mut W, text: &[u8], end: ScriptEnd) -> ScriptEnd
     ensures { WritesText (text.now ++ late_line end) end result (W.contents writer.old) (W.contents writer.new) }
 {
@@ -95,14 +94,13 @@ fn write_script<W: Write>(writer: &mut W, text: &[u8], end: ScriptEnd) -> Script
 
 /// Reads a script to its end, runs it, writes its text, and says how it ended.
 ///
-/// The script is UTF-8 or not: its bytes are read as they are, 16,777,216 at most, and the reader is asked 33,554,432
-/// times at most; past either it is a read fault. The text has a line for each command up to the one that ends the
-/// script. Where reading fails it is `read fault` alone. Where memory or serials are refused it is some of the lines
-/// before, then `want of memory`. Where writing fails, what went out is a front of the text. It waits only as the
-/// reader and the writer do. Own to this project.
+/// The script is UTF-8 or not: its bytes are read as they are, 16,777,216 at most, and the reader is asked 33,554,432 times at most; past
+/// either it is a read fault. The text has a line for each command up to the one that ends the script. If reading fails it is `read fault`
+/// alone. If memory or serials are refused it is some of the lines before, then `want of memory`. If writing fails, what went out is a
+/// prefix of the text. It waits only as the reader and the writer do.
 ///
-/// Of a reader whose bytes no contract knows, as standard input, it says that some bytes were read, and that what is written, and
-/// how it ends, is what their script says.
+/// For a reader whose bytes no contract knows, such as standard input, it says that some bytes were read, and that what is written, and how
+/// it ends, is what their script says.
 pub fn run_script<R: Read, W: Write>(alloc: Global, reader: &mut R, writer: &mut W) -> ScriptEnd
     ensures read { (input : List ℕ) × WritesScript input result (W.contents writer.old) (W.contents writer.new) }
     ensures known { IfSome (R.remaining reader.old) (λ input. WritesScript input result (W.contents writer.old) (W.contents writer.new)) }

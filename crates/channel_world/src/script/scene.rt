@@ -1,4 +1,4 @@
-//! One command of a script.
+//! One command of a script. The scene owns the world and the table of names; the text of the script outlives both.
 ghost use Rattle.std.specs.Prelude.{◌≡◌, ◌<◌, ◌≤◌, ◌+◌, ◌^◌, length, false, Ok, Err, IfOk, IfErr, OnOk};
 ghost use Rattle.std.specs.List.{list_all};
 ghost use Rattle.channel_world_model.specs.Refusal.{refusal};
@@ -24,8 +24,8 @@ pub struct Scene<'a> {
     pub table: Table<'a>,
 }
 
-/// Whether something lives under what was named. The call is not made: a world refuses it as one of an unknown name
-/// exactly where nothing lives there.
+/// Whether something lives under what was named. The call is not made: a world refuses it as one of an unknown name exactly if nothing
+/// lives there.
 fn lives(world: &World<u64>, named: Named) -> bool
     requires { IsQuiet world.now }
     ensures { result ≡ lives (at_rest world.now).names named }
@@ -71,7 +71,7 @@ impl<'a> Scene<'a> {
         }
     }
 
-    /// Why a command has no call: a name that it uses was not given to what lives, or is of the wrong sort.
+    /// Why a command has no call: a name that it uses was not given to something that lives, or is of the wrong sort.
     fn why_uncalled(&self, command: &Command<'_>) -> WorldRefusal
         requires quiet { IsQuiet self.now.world }
         requires uncalled { call_of self.now.table (said command.now) ≡ None }
@@ -84,8 +84,8 @@ impl<'a> Scene<'a> {
         }
     }
 
-    /// The call of a command that is not refused; or the first reason why it is. Each name is looked for once: where a call
-    /// uses what lives no more, the world says so.
+    /// The call of a command that is not refused; or the first reason why it is. Each name is looked up once: if a call uses what no longer
+    /// lives, the world says so.
     fn check(&self, command: &Command<'_>) -> Result<Call<u64>, WorldRefusal>
         requires quiet { IsQuiet self.now.world }
         requires few { length self.now.table < 2 ^ 32 }
@@ -106,7 +106,7 @@ impl<'a> Scene<'a> {
         Ok(call)
     }
 
-    /// Gives the new name of an accepted command. Where memory is refused nothing is known of the names.
+    /// Gives the new name of an accepted command. If memory is refused nothing is known of the names.
     fn give(&mut self, command: &Command<'a>) -> Result<(), AllocError>
         requires new { is_given_before self.old.table (said command.now) ≡ false }
         requires few { length self.old.table < 2 ^ 32 }
@@ -142,8 +142,8 @@ impl<'a> Scene<'a> {
         Ok(())
     }
 
-    /// Makes the call that a command says, if it is not refused, and writes its reply line. Where memory or serials are
-    /// refused nothing is known of the scene.
+    /// Makes the call that a command says, if it is not refused, and writes its reply line. If memory or serials are refused nothing is
+    /// known of the scene.
     fn call(&mut self, command: &Command<'a>, line: &mut Vec<u8>) -> Result<(), AllocError>
         requires quiet { IsQuiet self.old.world }
         requires few { length self.old.table < 2 ^ 32 }
@@ -160,7 +160,7 @@ impl<'a> Scene<'a> {
         }
     }
 
-    /// Settles, and writes the reply line. Where memory or serials are refused nothing is known of the scene.
+    /// Settles, and writes the reply line. If memory or serials are refused nothing is known of the scene.
     fn settle(&mut self, line: &mut Vec<u8>) -> Result<(), AllocError>
         requires quiet { IsQuiet self.old.world }
         ensures line { OnOk result (record { after = scene_of self.new; line = line.new.items } ≡ settles (scene_of self.old)) }
@@ -180,8 +180,8 @@ impl<'a> Scene<'a> {
         Ok(())
     }
 
-    /// Does what a line says, and writes its reply line in place of what stands there. Where memory or serials are refused
-    /// nothing is known of the scene.
+    /// Does what a line says, and writes its reply line in place of what is there. If memory or serials are refused nothing is known of the
+    /// scene.
     pub fn obey(&mut self, line: &Line<'a>, reply: &mut Vec<u8>) -> Result<(), AllocError>
         requires quiet { IsQuiet self.old.world }
         requires few { length self.old.table < 2 ^ 32 }

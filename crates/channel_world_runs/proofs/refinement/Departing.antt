@@ -1,4 +1,4 @@
--- A call that is over lets go of the listener that its operation held.
+-- A call that is over drops the listener that its operation held.
 use Rattle.channel_world_runs.proofs.refinement.Words.{false_from_ne_true, arith, ◌≡◌, ◌⊎◌, List, [], Bool, true, false, Option, None, Some, refl, sym, subst, ◌∙◌, inl, inr, Key, Channel, leaves, Listeners, WaitLists, with_listeners, held_on, Waiting, is_among, is_stream, untold, told_by, after_news, gone, passed_on, Kind, Placed, times_in, Operation, Names, at, line_at, line_of_operation, Waiter, Op, Stream, News, Nothing, WaitList, Sends, Streams, Closings, among_counts, times_news, times_gone_self, KeysHeld, with_held, ShowsLines, KeysFit, list_of}
 use Rattle.channel_world_runs.proofs.refinement.News.{nothing_lines, keys_news}
 use Rattle.channel_world_runs.proofs.refinement.Standing.{Nowhere, gone_nowhere, kindless_nowhere, keyless_nowhere, nowhere_keyless, times_untold, rekeyed_lines, keys_gone}

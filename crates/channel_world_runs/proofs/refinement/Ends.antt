@@ -1,4 +1,4 @@
--- A call that ends with nothing told: its operation or stream lets go of its listener, and passes on what it was told.
+-- A call that ends with nothing told: its operation or stream drops its listener, and passes on what it was told.
 use Rattle.channel_world_runs.proofs.refinement.Words.{◌≡◌, ◌⊎◌, List, [], Option, None, Some, refl, sym, subst, ◌∙◌, append-nil, Channel, leaves, held_on, over, Reply, WaitList, Outcome, ends, after_leaving, AwakeIn, line_at, after_news, Answers, State, Call, Waiter, Nothing, placed_news, empty_news, keeper, Matches, names_after, KeysHeld, with_held, Refines, list_of}
 use Rattle.channel_world_runs.proofs.refinement.Matching.{shows_again, matching}
 use Rattle.channel_world_runs.proofs.refinement.Departing.{Departed, departed, streams_are}

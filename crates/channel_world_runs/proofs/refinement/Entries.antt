@@ -65,7 +65,7 @@ module _ (held : KeysHeld) where
   none_untold (e ∷ es) [] h n = absurd h
   none_untold (e ∷ es) (w ∷ ws) h n = cc n
 
-  -- whoever stands untold holds a key
+  -- each that stands untold holds a key
   pub untold_holds : (w : Waiter) (es : List (Key × Option Waiter)) (ws : List Waiter) → AreUntold held es ws → is_among w ws ≡ true → (key : Key) × (held w ≡ Some key)
   untold_holds w es ws h i = let at = zip_at (ShowsUntold held) w es ws h i in (at.0.0, at.1.0)
 
@@ -158,7 +158,7 @@ pub told_closed : (held : KeysHeld) (closed : Bool) (line : WaitList) (es : List
 told_closed held closed line es ws h =
     (h.0, zip_other (ShowsTold held closed line) (ShowsTold held true line) es h.0 h.1 (λ e w i r. (r.0, λ c. cc c)), h.2)
 
--- ---- one who leaves
+-- ---- one that leaves
 
 -- among these names only w holds the key
 abbrev pub OnlyHolder : KeysHeld → Key → Waiter → List Waiter → Type 0

@@ -1,4 +1,4 @@
--- One who leaves a list, and passes on the notice that it was told, leaves its line so.
+-- One who leaves a list, and passes on the notification that it was told, leaves its line so.
 use Rattle.channel_world_runs.proofs.refinement.Words.{AreUntold, AreTold, IsToldSo, ShowsLine, ShowsLines, KeysFit, list_of, of_line, false_from_ne_true, arith, ◌≡◌, ◌⊎◌, ◌≤◌, ◌-◌, ℕ, min, List, [], ◌∷◌, length, take, Bool, true, false, not, Option, None, Some, is_some, refl, sym, ap, subst, ◌∙◌, inl, inr, append-nil, if◌then◌else◌, list_any, Key, Listeners, WaitLists, listeners, with_listeners, Waiting, is_among, is_stream, untold, told_by, after_news, gone, passed_on, Kind, Placed, times, same_line, Waiter, News, Nothing, NextIn, WaitList, Sends, Receives, Streams, Closings, decided, or_false, without_absent, untold_gone, line_refl, placed_gone, empty_gone, KeysHeld, among_take}
 use Rattle.event_listener.specs.Lists.{Notice, notified, moved, passed, passed_wakes, told_as, waits_as, removed, removed_wakes, without as unlisted}
 use Rattle.channel_world_runs.proofs.refinement.Telling.{quiet_line, Lined, replaced, unmoved, first_tasks, next_line, next_other, others_woken}
@@ -33,7 +33,7 @@ record Left (kind : Kind) (held : KeysHeld) (closed : Bool) (line : WaitList) (x
   quiet : (news ≡ Nothing) ⊎ (news ≡ NextIn line)
 
 module _ (kind : Kind) (held : KeysHeld) (closed : Bool) where
-  -- ---- a notice that is passed on
+  -- ---- a notification that is passed on
 
   none_moved : (line : WaitList) (n : Notice (Unit {0})) (y : Listeners Waiter) (m : Waiting) → moved n.additional 1 y ≡ 0 → ShowsLine kind held closed line y m
       → Left kind held closed line (passed n y) (passed_wakes n y) Nothing m
@@ -67,7 +67,7 @@ module _ (kind : Kind) (held : KeysHeld) (closed : Bool) where
   nobody_first : (ws : List (Key × Option Waiter)) → ws ≡ [] → min 1 (length ws) ≡ 0
   nobody_first ws e = rw e (omega arith)
 
-  -- how a told one of this line passes its notice on, once it is gone
+  -- how a told one of this line passes its notification on, once it is gone
   abbrev pub heir : WaitList → Waiting → News
   heir Sends m = NextIn Sends
   heir Receives m = NextIn Receives
@@ -126,7 +126,7 @@ module _ (kind : Kind) (held : KeysHeld) (closed : Bool) where
     | inr c ↦ one_moved line n y m (none_as_first line n y m (shut c) h) so all h
   ]
 
-  -- ---- one who leaves
+  -- ---- one that leaves
 
   module _ (streams : StreamsAreStreams kind) (a : WaitLists Waiter) (l : Waiting) (own : WaitList) (w : Waiter) (key : Key) (k : kind w ≡ Some own) (holds : held w ≡ Some key)
       (placed : Placed kind l) (keys : KeysFit kind held l) (shut : closed ≡ true → (line : WaitList) → untold line l ≡ []) (h : ShowsLines kind held closed a l) where

@@ -1,5 +1,6 @@
 -- One who comes to wait stands at the end of its line.
 use Rattle.channel_world_runs.proofs.refinement.Words.{ShowsUntold, with_held, AreUntold, AreTold, ShowsLines, KeysFit, list_of, of_line, arith, ◌≡◌, ◌≤◌, ◌+◌, List, [], ◌∷◌, ◌++◌, Bool, true, false, cond, Option, None, Some, is_some, refl, sym, ap, subst, ◌∙◌, inl, inr, if◌then◌else◌, lookup, set_value, kind_of, told_as, waits_as, same_key, listened, registration, Key, Listeners, WaitLists, listeners, with_listeners, Waiting, same_waiter, is_among, untold, with_untold, Kind, Placed, times, times_in, same_line, Waiter, WaitList, Sends, Receives, Streams, Closings, same_refl, same_sound, decided, count_append, KeysHeld}
+use Rattle.channel_world_runs.proofs.OwnerKeys.{kind_none}
 use Rattle.channel_world_runs.proofs.refinement.Names.{among_of_line, among_its_line}
 use Rattle.channel_world_runs.proofs.refinement.Entries.{same_key_refl, OnlyHolder, told_found, untold_found, zip_append}
 use Rattle.channel_world_runs.proofs.refinement.Telling.{replaced, unmoved}
@@ -45,10 +46,8 @@ times_itself w = rw (same_refl w) refl
 
 -- ---- a new entry
 
-neither : (told waits : Bool) → (if told then Some true else (if waits then Some false else None)) ≡ None → (told ≡ false) × (waits ≡ false)
-neither true waits e = cc e
-neither false true e = cc e
-neither false false e = (refl, refl)
+pub second_of : (told waits : Bool) (p q r : Listeners Waiter) → told ≡ false → waits ≡ true → (if told then p else (if waits then q else r)) ≡ q
+second_of told waits p q r e f = rw (e, f) refl
 
 module _ (key : Key) (w : Waiter) where
   found_at : (b : Bool) (x : Option Waiter) (o : Option (Option Waiter)) → is_some o ≡ true → is_some (cond b (Some x) o) ≡ true
@@ -70,19 +69,16 @@ module _ (key : Key) (w : Waiter) where
   abbrev pub joined : Listeners Waiter → Listeners Waiter
   joined x = record { told = x.told; waiting = x.waiting ++ (key, Some w) ∷ [] }
 
-  chosen : (told waits : Bool) (p q r : Listeners Waiter) → told ≡ false → waits ≡ true → (if told then p else (if waits then q else r)) ≡ q
-  chosen told waits p q r e f = rw (e, f) refl
-
   pub registered : (x : Listeners Waiter) → kind_of x key ≡ None → registration key w (listened key x) ≡ joined x
   registered x none =
-      let off = neither (is_some (told_as x key)) (is_some (waits_as x key)) none in
-      chosen (is_some (told_as (listened key x) key)) (is_some (waits_as (listened key x) key)) _ _ _ off.0 (found_last x.waiting)
+      let off = kind_none (is_some (told_as x key)) (is_some (waits_as x key)) none in
+      second_of (is_some (told_as (listened key x) key)) (is_some (waits_as (listened key x) key)) _ _ _ off.0 (found_last x.waiting)
       ∙ ap (λ (es : List (Key × Option Waiter)). let l : Listeners Waiter = record { told = x.told; waiting = es } in l) (set_last x.waiting off.1)
 
 module _ (kind : Kind) (held : KeysHeld) (closed : Bool) (a : WaitLists Waiter) (m : Waiting) (line : WaitList) (w : Waiter) (key : Key) (k : kind w ≡ Some line) (placed : Placed kind m) (keys : KeysFit kind held m)
     (nowhere : Nowhere w m) (none : kind_of (listeners (list_of line) a) key ≡ None) (h : ShowsLines kind held closed a m) where
   off : (is_some (told_as (listeners (list_of line) a) key) ≡ false) × (is_some (waits_as (listeners (list_of line) a) key) ≡ false)
-  off = neither (is_some (told_as (listeners (list_of line) a) key)) (is_some (waits_as (listeners (list_of line) a) key)) none
+  off = kind_none (is_some (told_as (listeners (list_of line) a) key)) (is_some (waits_as (listeners (list_of line) a) key)) none
 
   -- nobody of the line holds a key that isn't listed
   unheld : (v : Waiter) → kind v ≡ Some line → held v ≡ Some key → ⊥
@@ -142,7 +138,7 @@ module _ (kind : Kind) (held : KeysHeld) (closed : Bool) (a : WaitLists Waiter) 
       (λ other apart. unmoved kind new closed other (listeners (list_of other) a) m (at_last line w m) (with_other_line line other (untold line m ++ w ∷ []) m apart)
       (ap (λ (ws : List Waiter). of_line kind other ws) (with_same_woken line (untold line m ++ w ∷ []) m)) (g other))
 
-  -- the wait lists of one who listened and was registered
+  -- the wait lists of one that listened and was registered
   pub joins_wait_lists : (b : WaitLists Waiter) → b ≡ with_listeners (list_of line) (listened key (listeners (list_of line) a)) a
       → with_listeners (list_of line) (registration key w (listeners (list_of line) b)) b ≡ with_listeners (list_of line) (joined key w (listeners (list_of line) a)) a
   joins_wait_lists b e =

@@ -1,4 +1,4 @@
--- News are told over the four lists as over the four lines, and those who are woken are the same, in order.
+-- News are told over the four lists as over the four lines, and those that are woken are the same, in order.
 use Rattle.channel_world_runs.proofs.refinement.Words.{arith, ◌≡◌, ◌≤◌, ℕ, zero, suc, List, ◌++◌, take, Bool, true, refl, sym, ap, subst, ◌∙◌, append_assoc, append-nil, WaitLists, listeners, with_listeners, told_one, told_one_wakes, told_more, told_more_wakes, told_all, told_all_wakes, Waiting, told_by, after_news, after_rooms, told_by_rooms, all_told, Kind, Waiter, News, Nothing, Message, Room, Closing, NextIn, WaitList, Sends, Receives, Streams, Closings, times_news, KeysHeld, ShowsLines, KeysFit, list_of}
 use Rattle.channel_calls.specs.declared.stage.WaitList.TheVariants as list
 use Rattle.channel_world_runs.proofs.refinement.Telling.{quiet_line, Lined, lined_all, lined_next, one_told, one_woken, all_are_told, all_woken, message_is, closing_is}
@@ -45,7 +45,7 @@ pub keys_rooms : (kind : Kind) (held : KeysHeld) (n : ℕ) (l : Waiting) → Key
 keys_rooms kind held zero l h = h
 keys_rooms kind held (suc n) l h = keys_rooms kind held n (after_news Room l) (keys_news kind held Room l h)
 
--- those who are told then are told after all that were before
+-- those that are told then are told after all that were before
 pub rooms_woken : (n : ℕ) (l : Waiting) → (after_rooms n l).woken ≡ l.woken ++ told_by_rooms n l
 rooms_woken zero l = sym (append-nil l.woken)
 rooms_woken (suc n) l =

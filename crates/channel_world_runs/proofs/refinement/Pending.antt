@@ -7,7 +7,7 @@ use Rattle.channel_world_runs.proofs.refinement.Telling.{replaced}
 use Rattle.channel_world_runs.proofs.refinement.Standing.{Nowhere, gone_nowhere, nowhere_gone, keyless_nowhere, rekeyed_lines, keys_gone}
 use Rattle.channel_world_runs.proofs.refinement.Departing.{same_senders, same_receivers}
 use Rattle.channel_world_runs.proofs.refinement.Leaving.{StreamsAreStreams, own_gone, other_gone}
-use Rattle.channel_world_runs.proofs.refinement.Listening.{joins_keys, joins_lines, joins_wait_lists, joined, at_last}
+use Rattle.channel_world_runs.proofs.refinement.Listening.{second_of, joins_keys, joins_lines, joins_wait_lists, joined, at_last}
 
 -- ---- keys held
 
@@ -47,12 +47,9 @@ told_by told waiting e = rw e refl
 first_of : (told waiting : Bool) (p q r : Listeners Waiter) → told ≡ true → (if told then p else (if waiting then q else r)) ≡ p
 first_of told waiting p q r e = rw e refl
 
-second_of : (told waiting : Bool) (p q r : Listeners Waiter) → told ≡ false → waiting ≡ true → (if told then p else (if waiting then q else r)) ≡ q
-second_of told waiting p q r e f = rw (e, f) refl
-
 module _ (kind : Kind) (held : KeysHeld) (closed : Bool) (streams : StreamsAreStreams kind) (line : WaitList) (w : Waiter) (k : kind w ≡ Some line) (l : Waiting) (placed : Placed kind l) (keys : KeysFit kind held l)
     (shut : closed ≡ true → (line : WaitList) → untold line l ≡ []) (a : WaitLists Waiter) (h : ShowsLines kind held closed a l) where
-  -- ---- one who stands nowhere
+  -- ---- one that stands nowhere
 
   -- where it held nothing
   pub away_unheld : held w ≡ None → Waited kind held closed w a a None (gone w l)
@@ -87,7 +84,7 @@ module _ (kind : Kind) (held : KeysHeld) (closed : Bool) (streams : StreamsAreSt
         },
       )
 
-  -- ---- one who stays
+  -- ---- one that stays
 
   pub stays : (key : Key) → held w ≡ Some key → is_among w l.woken ≡ false → is_among w (untold line l) ≡ true
       → (waits key (listeners (list_of line) a) ≡ true) × Waited kind held closed w a (with_listeners (list_of line) (registration key w (listeners (list_of line) a)) a) (Some key) (standing line w l)
@@ -115,7 +112,7 @@ module _ (kind : Kind) (held : KeysHeld) (closed : Bool) (streams : StreamsAreSt
         },
       )
 
-  -- ---- one who comes
+  -- ---- one that comes
 
   pub comes : (b : WaitLists Waiter) (key : Key) → is_among w (untold line l) ≡ false → kind_of (listeners (list_of line) b) key ≡ None → Waited kind held closed w a b None (gone w l)
       → (d : WaitLists Waiter) → d ≡ with_listeners (list_of line) (joined key w (listeners (list_of line) b)) b → Waited kind held closed w a d (Some key) (standing line w l)

@@ -120,7 +120,7 @@ rekeyed_lines kind held closed a l w key n h line = record {
       (λ v e. with_other w v key held (apart_from w v l.woken n.woken (among_of_line kind line v l.woken e).0));
 }
 
--- one who is gone holds nothing
+-- one that is gone holds nothing
 pub keys_gone : (kind : Kind) (held : KeysHeld) (w : Waiter) (l : Waiting) → KeysFit kind held l → KeysFit kind (with_held w None held) (gone w l)
 keys_gone kind held w l h = record {
   holds = λ v key e. elim (decided (same_waiter w v)) [
@@ -136,7 +136,7 @@ keys_gone kind held w l h = record {
   ];
 }
 
--- kinds that differ only at one who is nowhere
+-- kinds that differ only at one that is nowhere
 pub of_line_by : (kind other : Kind) (line : WaitList) (ws : List Waiter) → ((v : Waiter) → is_among v ws ≡ true → other v ≡ kind v) → of_line other line ws ≡ of_line kind line ws
 of_line_by kind other line [] same = refl
 of_line_by kind other line (x ∷ xs) same =

@@ -109,7 +109,7 @@ module _ (kind : Kind) (held : KeysHeld) (closed : Bool) where
   first_are_told line a tag so (e ∷ es) (w ∷ ws) h = ((h.0.0, so), tt)
   first_are_told line a tag so es ws h = absurd h
 
-  -- by a notice of this kind
+  -- by a notification of this kind
   pub next_line : (line : WaitList) (a : Bool) (tag : Unit {0}) (n : ℕ) (x : Listeners Waiter) (l : Waiting) → n ≡ min 1 (length x.waiting) → (closed ≡ false → IsToldSo line a) → AllOf kind line (untold line l)
       → ShowsLine kind held closed line x l → ShowsLine kind held closed line (notified a (take n (tag ∷ [])) x) (after_news (NextIn line) l)
   next_line line a tag n x l e so all h =

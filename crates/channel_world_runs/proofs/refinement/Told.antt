@@ -2,12 +2,12 @@
 use Rattle.channel_world_runs.proofs.refinement.Words.{arith, ◌≡◌, ◌≤◌, ◌+◌, nat_eq, List, [], ◌++◌, Bool, true, false, not, Option, None, Some, refl, sym, ap, ◌∙◌, append-nil, append_assoc, inl, inr, lookup, option_map_or, filter-append, set_value_same, Kind, Placed, times, times_in, Waiting, same_waiter, is_among, without_waiter, untold, told_by, after_news, gone, passed_on, left_after, told_after, standing, Names, Directory, Operation, at, with_operation_changed, OpId, Waiter, News, WaitList, Sends, decided, without_absent, none_left, among_counts, left_nowhere}
 use Rattle.channel_world_runs.proofs.refinement.Departing.{times_nowhere}
 
--- ---- those who are woken
+-- ---- those that are woken
 
 without_append : (w : Waiter) (xs ys : List Waiter) → without_waiter w (xs ++ ys) ≡ without_waiter w xs ++ without_waiter w ys
 without_append w xs ys = filter-append (λ (v : Waiter). not (same_waiter w v)) xs ys
 
--- one that was taken out, and is none of those who came, is taken out of all
+-- one that was taken out, and is none of those that came, is taken out of all
 pub without_others : (w : Waiter) (xs ys : List Waiter) → is_among w (without_waiter w xs ++ ys) ≡ false → without_waiter w xs ++ ys ≡ without_waiter w (xs ++ ys)
 without_others w xs ys away =
     sym (without_absent w (without_waiter w xs ++ ys) away)
@@ -15,7 +15,7 @@ without_others w xs ys away =
     ∙ ap (λ (zs : List Waiter). zs ++ without_waiter w ys) (without_absent w (without_waiter w xs) (none_left w xs))
     ∙ sym (without_append w xs ys)
 
--- one who leaves after news is told no more
+-- one that leaves after news is told no more
 pub told_left : (news : News) (line : WaitList) (w : Waiter) (l : Waiting) → (left_after news line w l).woken ≡ without_waiter w (l.woken ++ told_after news line w l)
 told_left news line w l =
     let told : Waiting = after_news news l in
@@ -45,7 +45,7 @@ stood_woken : (line : WaitList) (w : Waiter) (l : Waiting) (b : Bool) → is_amo
 stood_woken Sends w l b e f = rw (e ∙ f) refl
 stood_woken line w l b e f = rw (e ∙ f) refl
 
--- one who stands in its line after a poll is told no more
+-- one that stands in its line after a poll is told no more
 pub told_standing : (kind : Kind) (line : WaitList) (w : Waiter) (l : Waiting) → Placed kind l → (standing line w l).woken ≡ without_waiter w (l.woken ++ [])
 told_standing kind line w l placed = elim (decided (is_among w (untold line l))) [
   | inl u ↦ elim (decided (is_among w l.woken)) [

@@ -1,4 +1,4 @@
--- The names of those who listen on one list, in its order.
+-- The names of those that listen on one list, in its order.
 use Rattle.channel_world_runs.proofs.rest.Words.{AllZip, zip_append, ◌≡◌, ◌≤◌, Bool, true, false, List, [], ◌∷◌, ◌++◌, length, Option, Some, ◌⊎◌, inl, inr, refl, sym, ap, ◌∙◌, subst, arith, keys_of, Notice, Key, WaitList, Sends, MayBeTold, EachTold, IsIn, absent_counts, same_refl, same_sound, decided, or_true, KeysHeld, Kind, times, same_waiter, is_among, Waiter, IsAmong, NoneTwice, key_of_entry, AreUntold, IsToldSo, AreToldInTurn}
 use Rattle.std.proofs.lemmas.Slice.Zip.{AllZip-long}
 
@@ -41,7 +41,7 @@ module _ (Has : Key → Waiter → Type 0) where
   pub stand_length : (ks : List Key) (ws : List Waiter) → Stand ks ws → length ws ≡ length ks
   stand_length ks ws h = AllZip-long Has ks ws h
 
-  -- whoever is among them has one of the keys
+  -- each that is among them has one of the keys
   pub stand_key : (ks : List Key) (ws : List Waiter) (w : Waiter) → Stand ks ws → is_among w ws ≡ true
       → (key : Key) × IsAmong key ks × Has key w
   stand_key [] [] w h e = absurd (let no : false ≡ true = e in cc)

@@ -104,7 +104,7 @@ module _ {T : Type 0} where
     once : (v : Waiter) → times v (but_for own (b.order.woken ++ o.woken)) ≤ 1
     once v = subst (λ (xs : List Waiter). times v xs ≤ 1) told_are (stood_once v answer.after.waiting (awake.placed.once v))
 
-    -- whoever was woken held a listener before, but for the call's own
+    -- each that was woken held a listener before, but for the call's own
     holds : (v : Waiter) → is_among v (but_for own o.woken) ≡ true → is_some (held_of b.name_table v) ≡ true
     holds v e =
         let among : is_among v answer.after.waiting.woken ≡ true =

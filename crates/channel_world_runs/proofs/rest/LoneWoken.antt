@@ -1,5 +1,5 @@
--- A call that was made alone leaves those who were woken in the order in which the model leaves them.
-use Rattle.channel_world_runs.proofs.rest.Words.{◌≡◌, ◌≤◌, ◌+◌, arith, List, [], ◌∷◌, ◌++◌, Bool, true, false, not, cond, Option, None, Some, ◌⊎◌, inl, inr, refl, sym, ap, subst, ◌∙◌, false_from_ne_true, filter, filter-append, append_assoc, append-nil, option_map_or, Key, ListenerRef, Outcome, count_append, among_counts, among_self, or_right, same_sound, decided, without_absent, times, same_waiter, is_among, without_waiter, Call, Waiter, Op, Stream, asks, on_return_of, names_begun, all_woken, order_begun, order_settled, WakeOrder, placed, IsAmong, waits, free, status, is_name_pending, names_of, OnReturn, NameTable, Admitted, order_alone, but_for, NameState, Configuration, WorldInvariant}
+-- A call that was made alone leaves those that were woken in the order in which the model leaves them.
+use Rattle.channel_world_runs.proofs.rest.Words.{◌≡◌, ◌≤◌, ◌+◌, arith, List, [], ◌∷◌, ◌++◌, Bool, true, false, not, cond, Option, None, Some, ◌⊎◌, inl, inr, refl, sym, ap, subst, ◌∙◌, false_from_ne_true, filter, filter-append, append_assoc, append-nil, option_map_or, Key, ListenerRef, Outcome, count_append, among_counts, among_self, or_right, same_sound, decided, without_absent, times, same_waiter, is_among, without_waiter, Call, Waiter, Op, Stream, asks, on_return_of, names_begun, all_woken, order_begun, order_settled, WakeOrder, IsAmong, waits, free, status, is_name_pending, names_of, OnReturn, NameTable, Admitted, order_alone, but_for, NameState, Configuration, WorldInvariant}
 use Rattle.channel_world_runs.specs.declared.names.OnReturn.TheVariants as on_return
 use Rattle.channel_world_model.specs.Asked.{keeper_in}
 use Rattle.channel_world_runs.specs.Owners.{subject}
@@ -50,7 +50,7 @@ passing (Some w) f (x ∷ xs) all own = elim (decided (same_waiter w x)) [
       rw (first, t) (ap (λ (ys : List Waiter). x ∷ ys) on)
 ]
 
--- ---- those who are woken come last
+-- ---- those that are woken come last
 
 module _ {T : Type 0} where
   abbrev HavePlaces : NameTable T → WakeOrder → Type 0
@@ -116,7 +116,7 @@ module _ {T : Type 0} where
     placed_then : (v : Waiter) (h : ListenerRef) → status r v ≡ waits h → IsAmong v b.order.places
     placed_then v h e = let w = kept.woken in w.placed v (inl (h, e))
 
-    -- How the call begins for those who were woken: the own name is not among them any more. Whoever is pending then has a place,
+    -- How the call begins for those that were woken: the own name is not among them any more. Whoever is pending then has a place,
     -- and any other than the own name that was pending is; the own name isn't, nor the one at which the call works, which wasn't
     -- woken either.
     record Begun : Type 0 where
@@ -223,7 +223,7 @@ module _ {T : Type 0} where
         by (inl k) = quiet k
         by (inr k) = touching k
 
-    -- whoever was woken when the call began is woken after it, and then those whom it woke, in order, but for its own name
+    -- each that was woken when the call began is woken after it, and then those that it woke, in order, but for its own name
     pub woken_follows : (o : Outcome T Waiter)
         → ((v : Waiter) → is_among v (but_for own o.woken) ≡ true → (h : ListenerRef) × (status r v ≡ waits h))
         → ((v : Waiter) → times v (but_for own (b.order.woken ++ o.woken)) ≤ 1)

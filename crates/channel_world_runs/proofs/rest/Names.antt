@@ -6,12 +6,8 @@ use Rattle.channel_world_model.specs.declared.name.Operation.TheVariants as live
 abbrev pub on : WaitList → Key → ListenerRef
 on line key = record { line = line; key = key }
 
-abbrev status_held : ListenerRef → NameStatus → ListenerRef
-status_held h (waits k) = k
-status_held h x = h
-
 pub same_held : (h k : ListenerRef) → waits h ≡ waits k → h ≡ k
-same_held h k e = ap (λ (p : NameStatus). status_held h p) e
+same_held h k e = cc e
 
 -- ---- what is pending
 
@@ -126,7 +122,7 @@ module _ {T : Type 0} where
     holds_it (Op op) h e = (op_at (lookup (nat_eq op.0) r.operations) h e).0
     holds_it (Stream handle) h e = (hold_at (lookup (nat_eq handle.0) r.handles) h e).0
 
-    -- only who is pending holds one
+    -- only one that is pending holds one
     pub pends : (w : Waiter) (key : Key) → held_of r w ≡ Some key → Pends (status r w) key
     pends (Op op) key e = op_pends (lookup (nat_eq op.0) r.operations) key e
     pends (Stream handle) key e = handle_entry_pends (lookup (nat_eq handle.0) r.handles) key e

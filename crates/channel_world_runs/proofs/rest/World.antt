@@ -1,4 +1,4 @@
--- A channel at rest shows a state of the model: on each list, those who hold its listeners, and the woken in their order.
+-- A channel at rest shows a state of the model: on each list, those that hold its listeners, and the woken in their order.
 use Rattle.channel_world_runs.proofs.rest.Words.{among_counts, absent_counts, is_line, line_at, count_of, free_places, line_refl, decided, tasks_are, if◌then◌else◌, ◌≡◌, ◌≤◌, ◌+◌, ℕ, true, false, List, [], ◌++◌, length, Option, None, Some, IsSome, ◌⊎◌, inl, inr, refl, sym, ap, ◌∙◌, subst, arith, keys_of, Notice, Key, ListenerRef, WaitList, Sends, Receives, Streams, Closings, told_of, Any, count_append, Kind, Enough, times, times_in, Placed, AwakeIn, Waiting, same_waiter, is_among, untold, State, Waiter, ActiveCall, Configuration, IsAmong, waits, status, holding, keys, IsListed, Holder, named, calling, AnyOf, HoldsIn, Owned, WorldInvariant, names_of, held_of, NameState, key_of_entry, state_at, IsWorld, RestIsAWorld, WokenSound, of_line, ShowsLine, ShowsLines, KeysFit, Refines, AreUntold, AreSame}
 use Rattle.channel_steps.specs.every_run.Waits.{Waits}
 use Rattle.channel_calls.specs.Parts.{listeners}
@@ -96,7 +96,7 @@ module _ {T : Type 0} (b : NameState T) (s : Configuration T Waiter) (kept : Wor
   abbrev who : Waiting
   who = state.waiting
 
-  -- whoever holds a waiting listener waits for his own name
+  -- each that holds a waiting listener waits for its own name
   his_task : (line : WaitList) (e : Key × Option Waiter) (w : Waiter) → IsAmong e (waiting line) → Has line e.0 w → e.1 ≡ Some w
   his_task line e w i p = by (marks.stands w (on line e.0) p)
     where
@@ -126,7 +126,7 @@ module _ {T : Type 0} (b : NameState T) (s : Configuration T Waiter) (kept : Wor
       let parts = none_parts (keys_of (told line)) (keys_of (waiting line)) (owned.once line) in
       stand_once (Has line) (keys_of (told line)) (D line) w parts.left (one_key line w) (told_names line).1
 
-  -- whoever was woken is pending
+  -- each that was woken is pending
   is_woken : (w : Waiter) → is_among w who.woken ≡ true → (h : ListenerRef) × (status b.name_table w ≡ waits h)
   is_woken w i = marks.pending w (among_is w who.woken i)
 
@@ -146,7 +146,7 @@ module _ {T : Type 0} (b : NameState T) (s : Configuration T Waiter) (kept : Wor
       marked_told line key among (inl m) = m.1
       marked_told line key among (inr m) = absurd (m.0 (among_is w who.woken among))
 
-  -- and whoever is told was woken
+  -- and each that is told was woken
   not_told : (w : Waiter) (line : WaitList) → is_among w (of_line kind line who.woken) ≡ false → times w (D line) ≡ 0
   not_told w line out = stand_none (Has line) (keys_of (told line)) (D line) w (told_names line).1
       (λ key i p. by key i p (marks.stands w (on line key) p))
@@ -158,7 +158,7 @@ module _ {T : Type 0} (b : NameState T) (s : Configuration T Waiter) (kept : Wor
           let parts = none_parts (keys_of (told line)) (keys_of (waiting line)) (owned.once line) in
           parts.apart key i (key_of_entry (key, Some w) (waiting line) m.1)
 
-  -- on each list those who were told are just those who were woken
+  -- on each list those that were told are just those that were woken
   told_are : (line : WaitList) → AreSame (D line) (of_line kind line who.woken)
   told_are line w = elim (decided (is_among w (of_line kind line who.woken))) [
     | inl t ↦ omega (arith, is_told w line t, once_told w line, once_woken w line, among_counts w (of_line kind line who.woken) t)
@@ -215,7 +215,7 @@ module _ {T : Type 0} (b : NameState T) (s : Configuration T Waiter) (kept : Wor
       let split = both_lists w line in
       omega (arith, one, split)
 
-  -- who was woken belongs to a line
+  -- one that was woken belongs to a line
   wakes : (w : Waiter) → is_among w who.woken ≡ true → IsSome (kind w)
   wakes w i = let h = is_woken w i in subst (λ (o : Option WaitList). IsSome o) (sym (line_is b.name_table w h.0 h.1)) refl
 

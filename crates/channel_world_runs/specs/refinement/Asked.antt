@@ -1,4 +1,4 @@
--- What a call asks of the channel in a state of the model, and who keeps the listener that it leaves.
+-- What a call asks of the channel in a state of the model, and the name that keeps the listener that it leaves.
 use Rattle.std.specs.Prelude.{Option}
 use Rattle.channel_calls.specs.declared.ask.ChannelAsk.{ChannelAsk}
 use Rattle.channel_world_model.specs.Asked.{KeysHeld}

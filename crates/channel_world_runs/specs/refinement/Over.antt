@@ -64,7 +64,7 @@ module _ {T : Type 0} where
   names_after s (call.Upgrade weak new) o = made_names new (option_map strong_of (kind_at weak s.names)) o.reply s.names
   names_after s c o = s.names
 
-  -- ---- and of who waits
+  -- ---- and of those that wait
 
   -- the keys held after a call that left this one to its keeper
   abbrev pub held_after : State T → Call T → Option Key → KeysHeld → KeysHeld
@@ -74,8 +74,8 @@ module _ {T : Type 0} where
   abbrev pub woken_after : State T → Call T → Outcome T Waiter → List Waiter
   woken_after s c o = let told = s.waiting.woken ++ o.woken in option_map_or (λ (w : Waiter). without_waiter w told) (keeper s c) told
 
-  -- what the channel answered, whom it woke in order, and what it is now, are as the model may answer this call; the names
-  -- and those who are told are then these
+  -- what the channel answered, the names that it woke, in order, and what it is now, are as the model may answer this call; the names and
+  -- those that are told are then these
   pub record Matches (held : KeysHeld) (s : State T) (c : Call T) (o : Outcome T Waiter) : Type 0 where
     pub answer : Answer T
     pub allowed : Answers s c answer

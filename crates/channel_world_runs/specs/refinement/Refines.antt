@@ -35,7 +35,7 @@ abbrev pub AreUntold : KeysHeld → List (Key × Option Waiter) → List Waiter 
 AreUntold held es ws = AllZip (ShowsUntold held) es ws
 
 -- how those of a line are told while the channel is open: a send or a receive as one more, streams all at once, and a
--- notice of the closing not at all
+-- notification of the closing not at all
 abbrev pub IsToldSo : WaitList → Bool → Type 0
 IsToldSo Sends additional = additional ≡ true
 IsToldSo Receives additional = additional ≡ true
@@ -71,7 +71,7 @@ abbrev pub ShowsLines : Kind → KeysHeld → Bool → WaitLists Waiter → Wait
 ShowsLines kind held closed wait_lists waiting =
     (line : WaitList) → ShowsLine kind held closed line (listeners (list_of line) wait_lists) waiting
 
--- only who waits holds a key, and no two of a line hold the same
+-- only one that waits holds a key, and no two of a line hold the same
 pub record KeysFit (kind : Kind) (held : KeysHeld) (waiting : Waiting) : Type 0 where
   pub holds : (w : Waiter) (key : Key) → held w ≡ Some key → 1 ≤ times_in w waiting
   pub apart :

@@ -28,13 +28,13 @@ module _ {T : Type 0} where
   abbrev pub NonePolled : NameTable T → Type 0
   NonePolled r = (w : Waiter) (line : WaitList) → status r w ≡ polled line → ⊥
 
--- where nobody is at work, the model refuses what is refused by names, for the same reason
+-- if nobody is at work, the model refuses what is refused by names, for the same reason
 abbrev pub RefusalsAgree : Type 0 → Type 0
 RefusalsAgree T =
     (b : NameState T) (s : Configuration T Waiter) (c : Call T) → WorldInvariant b s → b.agents ≡ []
     → begin_refusal b.name_table c ≡ model.refusal (state_at b s) c
 
--- Where nobody is at work, a call that is not refused and is made alone answers as the model may; the names, the order of waking
+-- If nobody is at work, a call that is not refused and is made alone answers as the model may; the names, the order of waking
 -- and the channel after it are the model's state after it.
 abbrev pub LoneCallsAnswer : Type 0 → Type 0
 LoneCallsAnswer T =
@@ -43,7 +43,7 @@ LoneCallsAnswer T =
     → Alone (asks b.name_table c) s.now o → t.now ≡ o.channel
     → Answers (state_at b s) c (record { after = state_at (name_state_alone b c o) t; reply = o.reply; woken = o.woken })
 
--- Where nobody is at work, whoever is pending and was woken may be polled alone, a stream also while a live operation borrows its
+-- With no call under way, each name that is pending and was woken may be polled alone, a stream also while a live operation borrows its
 -- receiver: the poll answers as the model may, and the names, the order of waking and the channel after it are the model's state
 -- after it.
 abbrev pub PollsAnswer : Type 0 → Type 0

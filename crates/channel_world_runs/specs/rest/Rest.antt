@@ -16,7 +16,7 @@ use Rattle.channel_world_runs.specs.refinement.Refines.{Refines}
 use Rattle.channel_steps.specs.Configuration.{Configuration}
 
 module _ {T : Type 0} where
-  -- the state of the model: the names as they live, those who wait in the order of each list, and the woken in the order of
+  -- the state of the model: the names as they live, those that wait in the order of each list, and the woken in the order of
   -- their waking
   abbrev pub state_at : NameState T → Configuration T Waiter → State T
   state_at b s = record {
@@ -47,7 +47,7 @@ module _ {T : Type 0} where
         → refusal (state_at b s) c ≡ None → Alone (asked_in (held_of b.name_table) (state_at b s) c) s.now o
         → Matches (held_of b.name_table) (state_at b s) c o
 
--- A channel with no call under way shows such a state, however it came about, wherever what every step keeps of those who wait
+-- A channel with no call under way shows such a state, however it came about, wherever what every step keeps of those that wait
 -- is kept.
 abbrev pub RestIsAWorld : Type 0 → Type 0
 RestIsAWorld T = (b : NameState T) (s : Configuration T Waiter) → WorldInvariant b s → s.under_way ≡ [] → IsWorld b s

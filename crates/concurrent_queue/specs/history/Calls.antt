@@ -43,7 +43,7 @@ module _ {T : Type 0} where
   abbrev pub Rests : QueueForm → CallState T → Type 0
   Rests form at = (d : Deed T) (r : CallStep T) → Next form at d r → ⊥
 
-  -- ---- where a step has answered no operation follows
+  -- ---- if a step has answered no operation follows
 
   abbrev IsOver : CallState T → Type 0
   IsOver (Asked a) = ⊥

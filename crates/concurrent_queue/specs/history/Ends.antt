@@ -16,7 +16,7 @@ use Rattle.concurrent_queue.specs.declared.single.SingleAction.{SingleAction}
 use Rattle.concurrent_queue.specs.declared.single.SingleAction.TheVariants as single
 
 module _ {T : Type 0} where
-  -- where this step answers it leaves an action that no operation follows
+  -- if this step answers it leaves an action that no operation follows
   abbrev pub SingleEnds : SingleStep T → Type 0
   SingleEnds x = MatchOption x.reply (Unit {0}) (λ _. x.action ≡ single.Finished)
 

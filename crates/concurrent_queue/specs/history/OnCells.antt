@@ -53,7 +53,7 @@ module _ {T : Type 0} where
     on_cell (retires b a) x h g = absurd h
     on_cell (rests a) x h (n, e) = absurd (no_deed d n)
 
-  -- ---- a slot that wasn't ready: the message is handed back, or none was found
+  -- ---- a slot that wasn't ready: the message is returned, or none was found
 
   abbrev pub IsRefused : Deed T → Type 0
   IsRefused (did_put at v o) = o ≡ Err v

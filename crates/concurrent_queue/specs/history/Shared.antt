@@ -233,13 +233,13 @@ module _ {T A : Type 0} where
     abbrev pub Won : ℕ → Option T → Option T → Deed T → Seated T A → Seated T A → Type 0
     Won i x y d m m' = moves m.0.form m.0.state (does (Some d)) m'.0.state × (m' ≡ (holding (going_on m.0 m'.0.state) (Some (i, y)), (i, x) ∷ m.1))
 
-    -- a message is taken out of a slot in the step that wins its guard; where another seat has it nothing was done
+    -- a message is taken out of a slot in the step that wins its guard; if another seat has it nothing was done
     abbrev pub takes : Step (Option T) → Seated T A → ℕ → Seated T A → Type 0
     takes st m found m' =
         (found ≡ 0 → (x : Option T) × Won st.word x None (did_take (At st.word) x) m m')
         × (found ≢ 0 → m' ≡ m)
 
-    -- this message is put into a slot in the step that wins its guard, or is handed back
+    -- this message is put into a slot in the step that wins its guard, or is returned
     abbrev pub PutOn : ℕ → T → Option T → Seated T A → Seated T A → Type 0
     PutOn i v None m m' = Won i None (Some v) (did_put (At i) v (Ok tt)) m m'
     PutOn i v (Some y) m m' = Won i (Some y) (Some y) (did_put (At i) v (Err v)) m m'
@@ -290,7 +290,7 @@ module _ {T A : Type 0} where
   abbrev pub count_sets : (A → A → Type 0) → Step (Option T) → Seated T A → ℕ → Seated T A → Type 0
   count_sets to st m found m' = led_by to st m found m'
 
-  -- where it is 0 the party goes on as a relation says; where it isn't nothing was done
+  -- if it is 0 the party goes on as a relation says; if it isn't nothing was done
   abbrev pub count_passes : (A → A → Type 0) → Step (Option T) → Seated T A → ℕ → Seated T A → Type 0
   count_passes to st m found m' = (found ≡ 0 → led_by to st m found m') × (found ≢ 0 → m' ≡ m)
 

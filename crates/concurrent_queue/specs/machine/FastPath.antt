@@ -1,4 +1,4 @@
--- Steps of a machine that are made on end.
+-- The fast paths of a machine: steps that are made one after another in straight code.
 use Rattle.std.specs.Prelude.{◌≡◌, ℕ, false, None, Some, Result, MatchResult}
 use Rattle.std.proofs.Common.{zero, suc}
 use Rattle.concurrent_queue.specs.declared.call.QueueMark.{QueueMark}

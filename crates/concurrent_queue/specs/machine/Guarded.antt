@@ -36,7 +36,7 @@ module _ {T : Type 0} where
   abbrev pub looked : Step (Option T) → Seated T → ℕ → Seated T → Type 0
   looked st m found m' = m' ≡ m
 
-  -- where the guard was 0 the seat now holds the slot; else nothing was done
+  -- if the guard was 0 the seat now holds the slot; else nothing was done
   abbrev pub won : Step (Option T) → Seated T → ℕ → Seated T → Type 0
   won st m found m' = (found ≡ 0 → (m'.0 ≡ Some st.word) × ((x : Option T) × (m'.1 ≡ (st.word, x) ∷ m.1))) × (found ≢ 0 → m' ≡ m)
 

@@ -1,4 +1,4 @@
--- How many steps a call of a ring still needs at most, where the others are quiet. A call whose word has moved on since
+-- How many steps a call of a ring still needs at most, if the others are quiet. A call whose word has moved on since
 -- it read it needs at most one more try.
 use Rattle.std.specs.Prelude.{ℕ, ◌+◌, ◌%◌, ◌^◌, ◌==◌, Bool, if◌then◌else◌}
 use Rattle.concurrent_queue.specs.Contents.{Contents}

@@ -59,7 +59,7 @@ module _ {T : Type 0} where
   abbrev pub holders : List (Place (SingleAction T) T) → ℕ
   holders ps = sum (λ a. holds a) ps
 
-  -- the word and the slot, with the calls under way, mean this queue. Where nobody holds the slot it has what the list has;
+  -- the word and the slot, with the calls under way, mean this queue. If nobody holds the slot it has what the list has;
   -- at most one call holds it
   pub record Means (c : Contents T) (q : Queue T) (ps : List (Place (SingleAction T) T)) (locked : Bool) (item slot : Option T) : Type 0 where
     pub state : c.state ≡ word_of locked (is_some item) q.closed

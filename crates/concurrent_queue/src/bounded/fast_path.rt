@@ -1,10 +1,9 @@
-//! The steps of a push and of a pop of a ring made on end, each of them atomic; what is saved is the choice of the next action
-//! at each of them. Over cells of any kind they are proved to be steps of the machine, to the answer or to the action that is
-//! handed on, and it is proved which answers they may give.
+//! The fast path of a push and of a pop of a ring: the operations of the machine in straight code, which saves choosing the next action at
+//! each one. Over cells of any kind it is proved that they are the machine's steps, up to the answer or to the action at which the machine
+//! goes on, and which answers they may give.
 //!
 //! `push_fast` makes `Push`, `PushStamp`, `PushSwap`, `PushPut` and `PushStore`, or `PushHead` for a full ring; `pop_fast` makes `Pop`,
-//! `PopStamp`, `PopSwap`, `PopTake` and `PopStore`, or `PopTail` for an empty one: `bounded` gives the reason for each operation at that
-//! step. A step that does not lead on is left to the machine.
+//! `PopStamp`, `PopSwap`, `PopTake` and `PopStore`, or `PopTail` for an empty one. `bounded` has the whole reason for each order.
 
 ghost use Rattle.std.specs.Prelude.{ℕ, true, MatchResult};
 ghost use Rattle.concurrent_queue.specs.machine.FastPath.{PushesOnEnd, PopsOnEnd};
@@ -19,8 +18,8 @@ use crate::bounded::{RingAction, Shape, WhenFull};
 use crate::cells::{Cells, Slot, Word};
 use crate::error::{PopError, PushError};
 
-/// Pushes or is refused, or answers the action at which the machine has to go on: its first where another call was quicker or
-/// is on its way, or where positions end.
+/// Pushes or is refused; or returns the action at which the machine has to go on: its first if another call was faster or is under way, or
+/// if positions end.
 #[inline(always)]
 pub(crate) fn push_fast<T: Drop, C: Cells<T>>(
     shape: Shape,
@@ -33,6 +32,7 @@ pub(crate) fn push_fast<T: Drop, C: Cells<T>>(
     ensures answers { MatchResult result (λ r. MayPush true value (reply.Push r))
         (λ a. (cap : ℕ) (r : QueueReply T) → MayRing cap a r → MayPush true value r) }
 {
+    // The tail first: the stamp below is that of this position, and the exchange expects this word. It also shows a closed queue.
     let tail = cells.load(Word::Tail);
     if shape.is_marked(tail) {
         return Ok(Err(PushError::Closed(value)));
@@ -40,29 +40,34 @@ pub(crate) fn push_fast<T: Drop, C: Cells<T>>(
     if u64::MAX - shape.lap() < tail {
         return Err(RingAction::PushShut(WhenFull::Refuse, value));
     }
+    // After the tail. A stamp equal to the position can't change until a push moves the tail from here.
     let stamp = cells.load(shape.stamp(tail));
     if stamp != tail {
         let lap = shape.lap();
+        // The head last: if it still is one lap behind, the queue is full at this load. If not, a pop has won the old message and `Full`
+        // would be false.
         if lap <= tail && stamp == tail - lap + 1 && cells.load(Word::Head) == tail - lap {
             return Ok(Err(PushError::Full(value)));
         }
         return Err(RingAction::Push(WhenFull::Refuse, value));
     }
+    // Commit. An exchange: an add would take a position of a closed queue, or one whose slot isn't free.
     if cells
         .compare_exchange(Word::Tail, tail, shape.next(tail))
         .is_err()
     {
         return Err(RingAction::Push(WhenFull::Refuse, value));
     }
+    // Put before the stamp is stored: a pop takes the message as soon as it finds that stamp.
     if let Err(value) = cells.put(Slot::At(shape.index(tail)), value) {
         return Err(RingAction::PushPut(WhenFull::Refuse, value, tail));
     }
+    // Last: this publishes the message to pops.
     cells.store(shape.stamp(tail), tail.wrapping_add(1));
     Ok(Ok(()))
 }
 
-/// Pops or is refused, or answers the action at which the machine has to go on: its first where another call was quicker or is on
-/// its way.
+/// Pops or is refused; or returns the action at which the machine has to go on: its first if another call was faster or is under way.
 #[inline(always)]
 pub(crate) fn pop_fast<T: Drop, C: Cells<T>>(
     shape: Shape,
@@ -74,7 +79,9 @@ pub(crate) fn pop_fast<T: Drop, C: Cells<T>>(
     ensures answers { MatchResult result (λ _. Unit {0})
         (λ a. (cap : ℕ) (r : QueueReply T) → MayRing cap a r → MayPop r) }
 {
+    // The head first: the stamp below is that of this position, and the exchange expects this word.
     let head = cells.load(Word::Head);
+    // After the head. A stamp that announces the message can't change until a call moves the head from here.
     let stamp = cells.load(shape.stamp(head));
     if stamp != head.wrapping_add(1) {
         if stamp == head {
@@ -82,14 +89,17 @@ pub(crate) fn pop_fast<T: Drop, C: Cells<T>>(
         }
         return Err(RingAction::Pop);
     }
+    // Commit. An exchange, since another pop or a displacing push may have won this message.
     if cells
         .compare_exchange(Word::Head, head, shape.next(head))
         .is_err()
     {
         return Err(RingAction::Pop);
     }
+    // Take before the stamp is stored: the push of the next lap puts its message as soon as it finds that stamp.
     match cells.take(Slot::At(shape.index(head))) {
         Some(value) => {
+            // Last: this frees the slot for the next lap.
             cells.store(shape.stamp(head), head.wrapping_add(shape.lap()));
             Ok(Ok(value))
         }
@@ -97,7 +107,7 @@ pub(crate) fn pop_fast<T: Drop, C: Cells<T>>(
     }
 }
 
-/// The last step of a pop that found no message at the head: the queue is empty where the tail stands there.
+/// The last step of a pop that found no message at the head: the queue is empty if the tail is there too.
 #[inline(always)]
 fn pop_empty<T: Drop, C: Cells<T>>(
     shape: Shape,
@@ -110,6 +120,7 @@ fn pop_empty<T: Drop, C: Cells<T>>(
     ensures answers { MatchResult result (λ _. Unit {0})
         (λ a. (cap : ℕ) (r : QueueReply T) → MayRing cap a r → MayPop r) }
 {
+    // The tail after the head. In the other order a push and a pop in between could make them equal while there was a message all the time.
     let tail = cells.load(Word::Tail);
     if shape.unmarked(tail) != head {
         Err(RingAction::Pop)

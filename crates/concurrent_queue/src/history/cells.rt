@@ -1,5 +1,5 @@
-//! The queue's cells over the seat of a call: each operation is asked to be the next of the call's machine, and is one event of the one
-//! history.
+//! The queue's cells over the seat of a call. Each operation is one event of the one history, and its caller proves that it is the next one
+//! of the call's machine. The machines have the reason for each.
 
 ghost use Rattle.std.specs.Prelude.{◌≡◌};
 
@@ -17,15 +17,15 @@ pub trait QueueMachine<T, A>: Machine<T, A> {
     /// On a queue of this form, the next operation on a cell of a party at this state is the next one of this call.
     ghost calls: { QueueForm → A → QueueCall T → Type 0 };
 
-    /// Such a party may make what its call makes next, and by what it makes its call is led on.
+    /// Such a party may make what its call makes next, and that leads the call on.
     ghost may: { CallsMayMove Self.moves calls };
 
     ghost led: { CallsAreLed Self.moves calls };
 }
 
-/// The cells of a call under way. An operation on a slot that another call has is refused and is no event, and its call makes it again. The
-/// law `histories_touch_their_own` says that none is refused so while there are fewer events than positions, which the rule doesn't count.
-/// It has no drop.
+/// The cells of a call under way. An operation on a slot that another call holds is refused and is no event, and the call makes it again.
+/// The law `histories_touch_their_own` says that none is refused so while there are fewer events than positions, which the rule doesn't
+/// count. It has no drop, so a call can't be dropped before it has answered.
 pub struct HistoryCells<'a, T, A, P: Machine<T, A>> {
     /// The seat of its party.
     pub seat: CallSeat<'a, T, A, P>,
@@ -114,11 +114,11 @@ impl<'a, T: Drop, A, P: QueueMachine<T, A>> Cells<T> for HistoryCells<'a, T, A, 
         }
     }
 
-    /// Of a queue with a bound no call asks for a block.
+    /// A queue with a bound has no blocks.
     fn spare(&mut self) -> Result<u64, NoMemory> {
         Err(NoMemory)
     }
 
-    /// Nor does one give a block back.
+    /// A queue with a bound has no blocks.
     fn retire(&mut self, _block: u64) {}
 }

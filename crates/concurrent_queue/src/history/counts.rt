@@ -1,5 +1,5 @@
-//! Operations on the words with which a machine counts, as the handles of a channel or those who wait on a list. Each is asked to be the next step of its party's
-//! machine. None waits.
+//! Operations on the words with which a machine counts, such as the handles of a channel or the waiters of a wait queue. Each is one atomic
+//! operation, whose caller proves that it is the next step of the party's machine. None waits.
 
 ghost use Rattle.std.specs.Prelude.{◌≡◌, ℕ, ◌+◌, ◌-◌, ◌<◌, ◌^◌, MatchBool};
 ghost use Rattle.concurrent_queue.specs.history.Shared.{slots_of, words_of, count_at};
@@ -41,12 +41,11 @@ impl<'a, T, A, P: Machine<T, A>> CallSeat<'a, T, A, P> {
         ensures same { (self.new.seat.table_id ≡ self.old.seat.table_id) × (self.new.seat.me.0.who ≡ self.old.seat.me.0.who) × (self.new.seat.me.0.form ≡ self.old.seat.me.0.form) × (self.new.seat.me.0.over ≡ self.old.seat.me.0.over) }
     {
         let at = count_index(self.table, which);
-        // One load: what it finds is the count of this moment, as the history has it.
+        // What this load finds is the count at this step of the history.
         self.table.shared.load::<CountReads<P>>(&mut self.seat, at)
     }
 
-    /// Makes the word one less, and answers what it held. A word that holds 0 wraps to 2^64 - 1; whether it can hold 0 is for the machine to
-    /// exclude.
+    /// Lowers the word by one and answers what it held. A word that holds 0 wraps to 2^64 - 1; the machine has to exclude that.
     #[inline(always)]
     pub fn lower_count(&mut self, which: Counter) -> u64
         requires next { (n : ℕ) → (a : A) × P.counts self.old.seat.me.0.form self.old.seat.me.0.state a which Lower n }
@@ -54,13 +53,13 @@ impl<'a, T, A, P: Machine<T, A>> CallSeat<'a, T, A, P> {
         ensures same { (self.new.seat.table_id ≡ self.old.seat.table_id) × (self.new.seat.me.0.who ≡ self.old.seat.me.0.who) × (self.new.seat.me.0.form ≡ self.old.seat.me.0.form) × (self.new.seat.me.0.over ≡ self.old.seat.me.0.over) }
     {
         let at = count_index(self.table, which);
-        // Read and lowered in one operation: of two who lower the word at once, only one may find that it was the last.
+        // Read and lowered in one operation: of two calls that lower the word at once, only one may find that it was the last.
         self.table
             .shared
             .fetch_sub::<CountLowers<P>>(&mut self.seat, at, 1)
     }
 
-    /// Makes the word one more where it holds `from`, and answers what it held.
+    /// Raises the word by one if it holds `from`, and answers what it held.
     #[inline(always)]
     pub fn raise_count(&mut self, which: Counter, from: u64) -> u64
         requires room { from < 2 ^ 64 - 1 }
@@ -69,13 +68,13 @@ impl<'a, T, A, P: Machine<T, A>> CallSeat<'a, T, A, P> {
         ensures same { (self.new.seat.table_id ≡ self.old.seat.table_id) × (self.new.seat.me.0.who ≡ self.old.seat.me.0.who) × (self.new.seat.me.0.form ≡ self.old.seat.me.0.form) × (self.new.seat.me.0.over ≡ self.old.seat.me.0.over) }
     {
         let at = count_index(self.table, which);
-        // An exchange and no addition: the caller has tested that there is room above `from`, and of another number it knows nothing.
+        // An exchange, not an add: the caller has tested that there is room above `from`, and of any other number it knows nothing.
         self.table
             .shared
             .compare_exchange::<CountRaises<P>>(&mut self.seat, at, from, from + 1)
     }
 
-    /// Sets the word to `value`. Where this leads the party, the proof of the caller says by a relation, who says what it is about.
+    /// Sets the word to `value`. The caller's proof says by a relation where this leads the party, and passes what it is about.
     #[inline(always)]
     pub fn set_count<E: LeadsTo<A>, X, Y>(
         &mut self,
@@ -89,14 +88,14 @@ impl<'a, T, A, P: Machine<T, A>> CallSeat<'a, T, A, P> {
         ensures same { (self.new.seat.table_id ≡ self.old.seat.table_id) × (self.new.seat.me.0.who ≡ self.old.seat.me.0.who) × (self.new.seat.me.0.form ≡ self.old.seat.me.0.form) × (self.new.seat.me.0.over ≡ self.old.seat.me.0.over) }
     {
         let at = count_index(self.table, which);
-        // One store with what the party does: who reads the word sees both or neither.
+        // One store together with what the party does, so a call that reads the word sees both or neither.
         self.table
             .shared
             .store::<CountSets<E>>(&mut self.seat, at, value);
     }
 
-    /// True: the word held 0, and at that moment the party went where the relation leads that the proof of the caller says. False: it held
-    /// another number, and nothing was done.
+    /// True: the word held 0, and at that step the party went where the caller's proof says. False: it held another number, and nothing was
+    /// done.
     #[inline(always)]
     pub fn pass_count<E: LeadsTo<A>, X, Y>(&mut self, which: Counter, _about: &X, _and: &Y) -> bool
         requires next { (a : A) × P.counts self.old.seat.me.0.form self.old.seat.me.0.state a which Read 0 × E.to self.old.seat.me.0.state a }
@@ -104,7 +103,7 @@ impl<'a, T, A, P: Machine<T, A>> CallSeat<'a, T, A, P> {
         ensures same { (self.new.seat.table_id ≡ self.old.seat.table_id) × (self.new.seat.me.0.who ≡ self.old.seat.me.0.who) × (self.new.seat.me.0.form ≡ self.old.seat.me.0.form) × (self.new.seat.me.0.over ≡ self.old.seat.me.0.over) }
     {
         let at = count_index(self.table, which);
-        // One load, which is the whole step where it finds 0.
+        // If it finds 0, this load is the whole step: at this moment nobody was counted.
         let found = self.table.shared.load::<CountPasses<E>>(&mut self.seat, at);
         found == 0
     }

@@ -1,5 +1,5 @@
-//! Calls that may be no call of this queue. A `QueueCall` is a plain value, which may have been begun on another queue, so its step may be
-//! any operation at any place. The first such call sets a flag, once; from then on the guards are kept, and no history.
+//! Calls that may be no calls of this queue. A `QueueCall` is a plain value that may have been begun on another queue, so its step may be
+//! any operation on any cell. The first such call sets a flag, once; from then on the rule covers the guards alone, and no history.
 
 ghost use Rattle.std.specs.Prelude.{true, false, ◌≡◌, ◌<◌, ◌+◌, [], None, IfErr};
 ghost use Rattle.concurrent_queue.specs.history.Shared.{slots_of, words_of};
@@ -12,8 +12,8 @@ use crate::history::table::{KitTable, RuledTable, flag_index, slot_index, word_i
 use crate::{NoMemory, QueueForm};
 use atomic_table::Seat;
 
-/// A seat of the table for foreign calls, which are the cells of such a call: any operation may be made, and nothing is known of what they
-/// hold. It holds no slot.
+/// A seat of the table for foreign calls, used as the cells of such a call: every operation may be made, and nothing is known of the
+/// contents. It holds no slot.
 #[derive(Drop)]
 pub struct ForeignSeat<'a, T> {
     pub(crate) table: &'a KitTable<T, Standing<T>, OfQueue>,
@@ -34,9 +34,12 @@ impl<T> RuledTable<T, Standing<T>, OfQueue> {
         ensures form { result.seat.me.0.form ≡ self.now.table.shared.key }
     {
         let at = flag_index(&self.table);
+        // The load makes the seat and reads the flag.
         let (found, seat) = self.table.shared.load_new_seat::<Comes<OfQueue>>(at);
         let mut seat = seat;
         if found == 0 {
+            // Before the first foreign operation: a look that still loads 0 must find the cells as the machines left them. A store
+            // suffices: the flag is never cleared, and all write 1.
             self.table.shared.store::<TurnsForeign>(&mut seat, at, 1);
         }
         ForeignSeat {
@@ -54,10 +57,13 @@ impl<'a, T> ForeignSeat<'a, T> {
         ensures form { self.new.seat.me.0.form ≡ self.old.seat.me.0.form }
     {
         let shared = &self.table.shared;
+        // The guard is kept for foreign calls too: only its winner touches the slot, whatever the words hold.
         if shared.compare_exchange::<Wins>(&mut self.seat, index, 0, 1) != 0 {
             return None;
         }
+        // The guard is won, so this access to the slot races with none.
         let found = shared.exchange(&mut self.seat, index, None);
+        // After the access: the next winner of the guard finds the slot as it is left.
         shared.store::<Gives>(&mut self.seat, index, 0);
         found
     }
@@ -70,15 +76,18 @@ impl<'a, T> ForeignSeat<'a, T> {
         ensures form { self.new.seat.me.0.form ≡ self.old.seat.me.0.form }
     {
         let shared = &self.table.shared;
+        // As in `take_from`.
         if shared.compare_exchange::<Wins>(&mut self.seat, index, 0, 1) != 0 {
             return Err(value);
         }
+        // The old content shows whether the slot was empty.
         match shared.exchange(&mut self.seat, index, Some(value)) {
             None => {
                 shared.store::<Gives>(&mut self.seat, index, 0);
                 Ok(())
             }
             Some(old) => {
+                // The slot was full: put the old message back before the guard is released, so that nobody sees it missing.
                 let back = shared.exchange(&mut self.seat, index, Some(old));
                 shared.store::<Gives>(&mut self.seat, index, 0);
                 match back {
@@ -124,6 +133,7 @@ impl<'a, T: Drop> Cells<T> for ForeignSeat<'a, T> {
     #[inline(always)]
     fn load(&mut self, at: Word) -> u64 {
         match word_index(self.table, self.table.slot_count(), at) {
+            // On words a foreign call may make any operation. It is one operation of the table, and no event of the history.
             Some(index) => self.table.shared.load::<Passes>(&mut self.seat, index),
             None => 0,
         }

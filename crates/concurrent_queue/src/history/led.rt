@@ -1,4 +1,4 @@
-//! A step that touches no cell and no count, of which the caller's proof says by a relation where it leads.
+//! A step that touches no cell and no count. The caller's proof says by a relation where it leads.
 
 ghost use Rattle.std.specs.Prelude.{◌≡◌};
 
@@ -7,7 +7,7 @@ use crate::history::table::{CallSeat, flag_index};
 use atomic_table::Play;
 use std::marker::{Brand, PhantomData};
 
-/// Where a step leads, which the proof of a call picks where the call passes `Brand`.
+/// Where a step leads. The proof of a call picks it where the call passes `Brand`.
 pub trait LeadsTo<A> {
     ghost to: { A → A → Type 0 };
 }
@@ -28,8 +28,8 @@ impl<T, A, E: LeadsTo<A>> Play<Option<T>, View<T, A>> for Led<E> {
 }
 
 impl<'a, T, A, P: Machine<T, A>> CallSeat<'a, T, A, P> {
-    /// The party makes a step that touches no cell and no count, to a state to which the relation leads that the proof of the caller picks,
-    /// who says what it is about. It costs a load.
+    /// Makes a step that touches no cell and no count, to a state to which the relation leads and which the caller's proof picks. It costs
+    /// one load.
     #[inline(always)]
     pub fn turn_by<E: LeadsTo<A>, X, Y>(&mut self, _about: &X, _and: &Y)
         requires next { (a : A) × P.turns self.old.seat.me.0.form self.old.seat.me.0.state a × E.to self.old.seat.me.0.state a }
@@ -37,6 +37,7 @@ impl<'a, T, A, P: Machine<T, A>> CallSeat<'a, T, A, P> {
         ensures same { (self.new.seat.table_id ≡ self.old.seat.table_id) × (self.new.seat.me.0.who ≡ self.old.seat.me.0.who) × (self.new.seat.me.0.form ≡ self.old.seat.me.0.form) × (self.new.seat.me.0.over ≡ self.old.seat.me.0.over) }
     {
         let at = flag_index(self.table);
+        // A load whose answer nobody needs: only an atomic operation can change the view.
         self.table.shared.load::<Led<E>>(&mut self.seat, at);
     }
 }

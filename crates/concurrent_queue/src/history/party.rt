@@ -1,5 +1,5 @@
-//! A party that makes calls of a queue, one after another, each by the queue's machine. These types are for the proofs alone: no value
-//! of them is made.
+//! A party that makes calls of a queue, one after another, each by the queue's machine. These types are for the proofs alone: no value of
+//! them is made.
 
 ghost use Rattle.std.specs.Prelude.{◌≡◌};
 
@@ -11,7 +11,7 @@ use crate::history::table::{CallSeat, RuledTable};
 use crate::{QueueAsk, QueueCall, QueueReply};
 use std::collections::LinkedList;
 
-/// Where a party stands.
+/// The state of a party.
 pub struct Standing<T> {
     /// What its calls asked, in order.
     pub asked: LinkedList<QueueAsk<T>>,
@@ -78,9 +78,9 @@ impl<'a, T> CallSeat<'a, T, Standing<T>, OfQueue> {
     ghost use Rattle.std.specs.Prelude.{true};
     ghost use Rattle.concurrent_queue.specs.history.Runs.{IsRunWith};
 
-    /// At any moment, whatever other threads are in the midst of: what all parties have done is a run of the closable queue, as
-    /// `run_queue_steps` promises it, with each reply that a party has got. This party is among them, as its view says. It costs a load.
-    /// `false`: a foreign call was admitted, and nothing is told.
+    /// At any moment, whatever other threads are doing: what all parties have done is a run of the closable queue, as `run_queue_steps`
+    /// makes it, with each reply that a party has got, and this party is in it as its view says. `false`: a foreign call was admitted, and
+    /// nothing is known. It costs one load.
     pub fn run_so_far(&mut self) -> bool
         ensures run { result ≡ true → IsRunWith self.old.seat.me.0 }
         ensures kept { (self.new.seat.me ≡ self.old.seat.me) × (self.new.seat.table_id ≡ self.old.seat.table_id) }
@@ -94,7 +94,8 @@ impl<T> RuledTable<T, Standing<T>, OfQueue> {
     ghost use Rattle.std.specs.Prelude.{true};
     ghost use Rattle.concurrent_queue.specs.history.Runs.{IsRunWith};
 
-    /// The same with a witness: its party is among them, and so is each that was joined in, with what its calls asked and were answered.
+    /// The same for a witness: its party is in that run, and so is each that was joined into it, with what its calls asked and were
+    /// answered.
     pub fn run_so_far(&self, witness: &mut Witness<T>) -> bool
         requires same { witness.old.seat.table_id ≡ self.now.table.shared.table_id }
         ensures run { result ≡ true → IsRunWith witness.old.seat.me.0 }

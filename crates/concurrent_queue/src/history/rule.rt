@@ -1,4 +1,4 @@
-//! What a seat of the table knows, the machine whose history the table has, the rule that the table is what this history made of it, and the
+//! What a seat knows (`View`), the machine whose history the table has, the rule that the cells are what this history made of them, and the
 //! kinds of steps that keep the rule. All but `Counter` is for the proofs alone: no value of these types is made.
 
 use crate::QueueForm;
@@ -7,21 +7,21 @@ use atomic_table::{Join, Play, Split, TableRule};
 use std::collections::LinkedList;
 use std::marker::{Brand, PhantomData};
 
-/// What a seat knows of its party. A party is whoever has one seat, and makes calls one after another.
+/// What a seat knows of its party. A party has one seat, and makes calls one after another.
 pub struct View<T, A> {
-    /// The party's number, which is its seat's, where the seat knows it.
+    /// The party's number, which is its seat's, if the seat knows it.
     pub who: u64,
-    /// Whether it doesn't: a seat that came of another one.
+    /// Whether it doesn't know it, as a seat that was split off another one.
     pub nameless: bool,
     /// Which kind of queue the table is of.
     pub form: QueueForm,
-    /// Where the party's machine stands.
+    /// The state of the party's machine.
     pub state: A,
     /// The slot that is out with the seat, and what the history has there meanwhile.
     pub held: Option<(u64, Option<T>)>,
     /// Whether its party makes operations that may be no machine's.
     pub foreign: bool,
-    /// The parties that have ended and were joined into this view, with where each stood.
+    /// The parties that have ended and were joined into this view, with the state of each.
     pub over: LinkedList<(u64, A)>,
     /// Whether the party was joined into another's view, and acts no more.
     pub spent: bool,
@@ -48,9 +48,9 @@ pub enum Counter {
 pub enum CountStep {
     /// It is read.
     Read,
-    /// It is made one less.
+    /// It is lowered by one.
     Lower,
-    /// It is made one more, where it is this number.
+    /// It is raised by one, if it is this number.
     Raise(u64),
     /// It is set to this number.
     Set(u64),
@@ -85,7 +85,7 @@ pub trait Machine<T, A> {
     /// A step that touches no cell and no count leads a party from the one state to the other, as the beginning of a call.
     ghost turns: { QueueForm → A → A → Type 0 };
 
-    /// This operation on this counting word does, where it found this number.
+    /// This operation on this counting word, which found this number, leads a party from the one state to the other.
     ghost counts: { QueueForm → A → A → Counter → CountStep → ℕ → Type 0 };
 
     /// The state of a party that has taken in what lies with another, by the states of both.
@@ -103,7 +103,7 @@ pub trait Machine<T, A> {
     /// Whether calls are admitted that may be no call of the machine.
     ghost admits: { Type 0 };
 
-    /// There is a history in which the parties of these views stand where these say, and which has made of a new queue's cells these cells,
+    /// There is a history in which the parties of these views are where these say, and which has made of a new queue's cells these cells,
     /// and of its counts these numbers.
     ghost history: { QueueForm → List (View T A) → Contents T → Tally → Type 0 };
 
@@ -213,7 +213,7 @@ impl<T, A, P: Machine<T, A>> Play<Option<T>, View<T, A>> for Puts<P> {
     ghost then = { puts P.moves };
 }
 
-/// A slot and its guard are given back.
+/// A slot is put back and its guard is released.
 pub struct Gives;
 
 impl<T, A> Play<Option<T>, View<T, A>> for Gives {
@@ -299,7 +299,7 @@ impl<T, A, P: Machine<T, A>> Play<Option<T>, View<T, A>> for CountReads<P> {
     ghost then = { count_reads P.counts };
 }
 
-/// A counting word is made one less.
+/// A counting word is lowered by one.
 pub struct CountLowers<P> {
     of: PhantomData<P>,
 }
@@ -310,7 +310,7 @@ impl<T, A, P: Machine<T, A>> Play<Option<T>, View<T, A>> for CountLowers<P> {
     ghost then = { count_lowers P.counts };
 }
 
-/// A counting word is made one more, where it is what was expected.
+/// A counting word is raised by one, if it is what was expected.
 pub struct CountRaises<P> {
     of: PhantomData<P>,
 }
@@ -332,7 +332,7 @@ impl<T, A, E: LeadsTo<A>> Play<Option<T>, View<T, A>> for CountSets<E> {
     ghost then = { count_sets E.to };
 }
 
-/// A counting word is read; where it is 0 the step leads the party so, and elsewhere nowhere.
+/// A counting word is read; if it is 0 the step leads the party so, and otherwise nowhere.
 pub struct CountPasses<E> {
     of: PhantomData<E>,
 }
@@ -352,7 +352,7 @@ impl<T, A> Play<Option<T>, View<T, A>> for Names {
     ghost then = { names };
 }
 
-/// A new seat of no call, which is foreign where a foreign call was admitted before.
+/// A new seat of no call, which is foreign if a foreign call was admitted before.
 pub struct Comes<P> {
     of: PhantomData<P>,
 }

@@ -1,9 +1,9 @@
-//! Seats of parties: how a party comes, rests and goes on; how a look tells it of the history; and how what lies with one seat goes to
-//! another. Nothing else makes the seat of a party that acts, or lets one go, so a body that stops in the midst of a call does not
-//! type-check. No call here waits.
+//! Seats of parties: how a party enters, rests and goes on, how it looks at the history, and how one seat's part goes to another. Nothing
+//! else makes or drops the seat of a party that acts, so a body that stops in the middle of a call does not type-check. No call here waits.
+//! Each costs one load, except `go_on`, `rest` and `forget_name`, which make no atomic operation.
 //!
-//! A view of the table changes only in an atomic operation. Where a step of a machine touches no cell and no count, this is a load whose
-//! answer nobody needs: without it no view could say that the step was made.
+//! A view of the table changes only in an atomic operation. So a step of a machine that touches no cell and no count is a load whose answer
+//! nobody needs: without it no view could say that the step was made.
 
 ghost use Rattle.std.specs.Prelude.{true, false, ◌≡◌, ℕ, [], None};
 ghost use Rattle.concurrent_queue.specs.history.Shared.{Shown, both_views, left_view, spent_as, spent_view};
@@ -16,9 +16,8 @@ use crate::history::table::{CallSeat, RuledTable, flag_index};
 use atomic_table::Seat;
 use std::marker::Brand;
 
-/// The seat of a party that has no call under way, and that knows its number: a value of no bytes. It has no reference to the table, so it
-/// can lie in a struct, and in a slot of another table. Nothing makes one of a party that has a call under way. At which state the party
-/// rests is for the one to know who keeps the seat.
+/// The seat of a party that has no call under way and knows its number: a value of no bytes. It has no reference to the table, so it can
+/// lie in a struct, and in a slot of another table. The keeper of the seat knows at which state the party rests.
 #[derive(Drop)]
 pub struct IdleSeat<T, A> {
     pub(crate) seat: Seat<Option<T>, View<T, A>>,
@@ -28,7 +27,7 @@ pub struct IdleSeat<T, A> {
     ghost named: { seat.me.0.nameless ≡ false },
 }
 
-/// The same of a party that may not know its number, as one to which `part` gave what it has. It can be taken in, and it can't look.
+/// The seat of a party that may not know its number, as one that `part` made. It can be taken in, and it can't look.
 #[derive(Drop)]
 pub struct NamelessSeat<T, A> {
     pub(crate) seat: Seat<Option<T>, View<T, A>>,
@@ -38,7 +37,7 @@ pub struct NamelessSeat<T, A> {
 }
 
 impl<T, A> IdleSeat<T, A> {
-    /// The same seat, as one that can be taken in. It makes no atomic operation.
+    /// The same seat, as one that can be taken in.
     #[inline(always)]
     pub fn forget_name(self) -> NamelessSeat<T, A>
         ensures { result.seat ≡ self.seat }
@@ -49,7 +48,7 @@ impl<T, A> IdleSeat<T, A> {
 }
 
 impl<T, A, P: Machine<T, A>> RuledTable<T, A, P> {
-    /// A new party comes. At which state, the proof of the caller picks, by what the caller says it is about. It costs one load.
+    /// Adds a new party, at the state that the caller's proof picks.
     #[inline(always)]
     pub fn enter<E: Picks<A>, X>(&self, _about: &X) -> CallSeat<'_, T, A, P>
         requires enters { P.enters self.now.table.shared.key (E.to P.first) }
@@ -58,7 +57,7 @@ impl<T, A, P: Machine<T, A>> RuledTable<T, A, P> {
         ensures alone { result.seat.me.0.over ≡ [] }
     {
         let at = flag_index(&self.table);
-        // The load makes the seat. It is on the line of the flag, which nobody writes but the first foreign call.
+        // The load makes the seat. It reads the flag, which nobody writes but the first foreign call.
         let (_, seat) = self.table.shared.load_new_seat::<Enters<P, E>>(at);
         CallSeat {
             table: &self.table,
@@ -67,7 +66,7 @@ impl<T, A, P: Machine<T, A>> RuledTable<T, A, P> {
         }
     }
 
-    /// The party of this seat goes on, at the state where it rested. It makes no atomic operation.
+    /// The party of this seat goes on, at the state where it rested.
     #[inline(always)]
     pub fn go_on(&self, idle: IdleSeat<T, A>) -> CallSeat<'_, T, A, P>
         requires same { idle.seat.table_id ≡ self.now.table.shared.table_id }
@@ -82,7 +81,7 @@ impl<T, A, P: Machine<T, A>> RuledTable<T, A, P> {
         }
     }
 
-    /// The seat gets to know its number, so that its party can make calls, and look. It costs one load.
+    /// The seat gets to know its number, so that its party can make calls, and look.
     #[inline(always)]
     pub fn name(&self, nameless: NamelessSeat<T, A>) -> IdleSeat<T, A>
         requires same { nameless.seat.table_id ≡ self.now.table.shared.table_id }
@@ -96,21 +95,21 @@ impl<T, A, P: Machine<T, A>> RuledTable<T, A, P> {
         IdleSeat { seat }
     }
 
-    /// At any moment, whatever other threads are in the midst of: there is one history of what all parties did, in which the party of this
-    /// seat stands where its view says, and so does each party that was joined in. It costs one load. `false`: a foreign call was admitted,
-    /// and nothing is known. Of a machine that admits none the history is known whatever the answer.
+    /// At any moment, whatever other threads are doing: there is one history of what all parties did, in which the party of this seat is
+    /// where its view says, and so is each party that was joined into it. `false`: a foreign call was admitted, and nothing is known. For a
+    /// machine that admits none the history is known whatever the answer.
     pub fn look(&self, idle: &mut IdleSeat<T, A>) -> bool
         requires same { idle.old.seat.table_id ≡ self.now.table.shared.table_id }
         ensures history { (P.admits → result ≡ true) → Shown P.history idle.old.seat.me.0 }
         ensures kept { (idle.new.seat.me ≡ idle.old.seat.me) × (idle.new.seat.table_id ≡ idle.old.seat.table_id) }
     {
         let at = flag_index(&self.table);
-        // It has to read the flag: once that is raised, a foreign operation may have changed the cells as no machine does.
+        // It has to read the flag: once the flag is set, a foreign operation may have changed the cells as no machine does.
         let found = self.table.shared.load::<Looks<P>>(&mut idle.seat, at);
         found == 0
     }
 
-    /// Joins another party into the view of this one, so that one look tells of both in one history. It costs one load.
+    /// Joins another party into the view of this one, so that one look says of both that they are in one history.
     pub fn join(&self, one: &mut IdleSeat<T, A>, other: IdleSeat<T, A>)
         requires one { one.old.seat.table_id ≡ self.now.table.shared.table_id }
         requires other { other.seat.table_id ≡ self.now.table.shared.table_id }
@@ -131,12 +130,13 @@ impl<T, A, P: Machine<T, A>> RuledTable<T, A, P> {
         let IdleSeat { seat } = other;
         self.table
             .shared
+            // One atomic operation changes both views, so at no moment the other party is in neither.
             .join_seat::<Joined<P, E>>(&mut one.seat, seat);
     }
 }
 
 impl<'a, T, A, P: Machine<T, A>> CallSeat<'a, T, A, P> {
-    /// The party rests, which has no call under way. It makes no atomic operation.
+    /// Ends the party's acting; it has no call under way.
     #[inline(always)]
     pub fn rest(self) -> IdleSeat<T, A>
         requires rests { P.rests self.seat.me.0.state }
@@ -150,8 +150,7 @@ impl<'a, T, A, P: Machine<T, A>> CallSeat<'a, T, A, P> {
         IdleSeat { seat }
     }
 
-    /// The party makes a step that touches no cell and no count, as the beginning of a call. Where it leads, the proof of the caller picks, by
-    /// what the caller says it is about. It costs one load.
+    /// Makes a step that touches no cell and no count, such as the beginning of a call, to a state that the caller's proof picks.
     #[inline(always)]
     pub fn turn<E: Picks<A>, X>(&mut self, _about: &X)
         requires next { P.turns self.old.seat.me.0.form self.old.seat.me.0.state (E.to self.old.seat.me.0.state) }
@@ -159,6 +158,7 @@ impl<'a, T, A, P: Machine<T, A>> CallSeat<'a, T, A, P> {
         ensures same { (self.new.seat.table_id ≡ self.old.seat.table_id) × (self.new.seat.me.0.who ≡ self.old.seat.me.0.who) × (self.new.seat.me.0.form ≡ self.old.seat.me.0.form) × (self.new.seat.me.0.over ≡ self.old.seat.me.0.over) }
     {
         let at = flag_index(self.table);
+        // A load whose answer nobody needs: only an atomic operation can change the view. The flag is the word that is written least.
         self.table.shared.load::<Turns<E>>(&mut self.seat, at);
     }
 
@@ -174,8 +174,8 @@ impl<'a, T, A, P: Machine<T, A>> CallSeat<'a, T, A, P> {
         found == 0
     }
 
-    /// The party takes in what lies with another seat of the table, which is used up. The parties that were joined into the other's view are
-    /// not joined into this one's. It costs one load.
+    /// Takes in what lies with another seat of the table, which is used up. Parties that were joined into the other's view are not joined
+    /// into this one's.
     #[inline(always)]
     pub fn take_in(&mut self, other: NamelessSeat<T, A>)
         requires other { other.seat.table_id ≡ self.old.seat.table_id }
@@ -196,11 +196,12 @@ impl<'a, T, A, P: Machine<T, A>> CallSeat<'a, T, A, P> {
         let NamelessSeat { seat } = other;
         self.table
             .shared
+            // One atomic operation changes both views, so what passes is with one of them at each moment.
             .join_seat::<TakesIn<P, E>>(&mut self.seat, seat);
     }
 
-    /// Some of what lies with the party goes to a new party, which has no call under way. What stays and what goes, the proof of the caller
-    /// picks, by what the caller says it is about. It costs one load.
+    /// Splits off some of what lies with the party, to a new party that has no call under way. The caller's proof picks what stays and what
+    /// goes.
     #[inline(always)]
     pub fn part<E: PicksTwo<A>, X>(&mut self, _about: &X) -> NamelessSeat<T, A>
         requires parts { P.parts self.old.seat.me.0.form self.old.seat.me.0.state (E.stays self.old.seat.me.0.state) (E.goes self.old.seat.me.0.state) }
@@ -209,6 +210,7 @@ impl<'a, T, A, P: Machine<T, A>> CallSeat<'a, T, A, P> {
         ensures goes { (result.seat.me.0.state ≡ E.goes self.old.seat.me.0.state) × (result.seat.me.0.over ≡ []) × (result.seat.me.0.form ≡ self.old.seat.me.0.form) × (result.seat.table_id ≡ self.old.seat.table_id) }
         ensures same { (self.new.seat.table_id ≡ self.old.seat.table_id) × (self.new.seat.me.0.who ≡ self.old.seat.me.0.who) × (self.new.seat.me.0.form ≡ self.old.seat.me.0.form) × (self.new.seat.me.0.over ≡ self.old.seat.me.0.over) }
     {
+        // One atomic operation changes both views, so nothing is with both of them.
         let seat = self.table.shared.split_seat::<Parted<E>>(&mut self.seat);
         NamelessSeat { seat }
     }

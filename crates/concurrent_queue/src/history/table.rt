@@ -1,5 +1,9 @@
-//! The cells of a bounded queue that threads share, from a seat. Each operation is one event of one history, and is asked to be the next
-//! of its party's machine.
+//! The cells of a bounded queue that threads share, accessed by a seat. Each operation is one atomic operation on the table and one event
+//! of its history; its caller proves that it is the next one of the party's machine. The machines (`single`, `bounded`) have the reason for
+//! each.
+//!
+//! Each slot has a guard word. The invariant: a slot is out of the table only while its guard is 1, and then with the seat that set it. So
+//! two threads never touch a slot at once, whatever the words hold.
 
 ghost use Rattle.std.specs.Prelude.{false, ◌≡◌, ℕ, ◌+◌, ◌<◌, ◌≤◌, ◌^◌, [], ◌++◌, replicate, None, Some, Option, Ok, Err, Result, IfOk, MatchResult, MatchOption, MatchBool};
 ghost use Rattle.concurrent_queue.specs.Bridge.{does};
@@ -62,8 +66,8 @@ pub struct RuledTable<T, A, P: Machine<T, A>> {
     ghost words: { table.shared.table_id.words ≡ slots_of table.shared.key + words_of table.shared.key },
 }
 
-/// The same from the seat of a party that acts. The seat has no slot, and knows its number. It has no drop, so that a call can't be left in
-/// its midst.
+/// The cells from the seat of a party that acts. The seat holds no slot and knows its number. It has no drop, so a body that leaves a call
+/// in the middle does not type-check.
 pub struct CallSeat<'a, T, A, P: Machine<T, A>> {
     pub(crate) table: &'a KitTable<T, A, P>,
     /// How many slots the table has. It is loaded once, since each operation on a word may have changed what memory holds.
@@ -185,8 +189,7 @@ pub(crate) fn slot_index<T, A, P: Machine<T, A>>(
 }
 
 impl<T, A, P: Machine<T, A>> RuledTable<T, A, P> {
-    /// The cells of a new queue that holds at most `capacity` messages, with the table's first party. `Err` where there is no memory for
-    /// them.
+    /// The cells of a new queue that holds at most `capacity` messages, with the table's first party. `Err` if there is no memory for them.
     pub fn new(
         alloc: Global,
         capacity: usize,
@@ -215,7 +218,8 @@ impl<'a, T, A, P: Machine<T, A>> CallSeat<'a, T, A, P> {
         QueueForm::Bounded(self.count)
     }
 
-    /// An operation that leaves all cells as they are, which the proof of the call picks. It costs a load.
+    /// An operation that leaves all cells as they are, which the proof of the call picks. It costs one load, since a view changes only in
+    /// an atomic operation.
     #[inline(always)]
     fn happen<E: Happens<T>, X, Y>(&mut self, _about: &X, _and: &Y)
         requires quiet { LeavesAll self.old.table.now.shared.key E.deed }
@@ -224,10 +228,11 @@ impl<'a, T, A, P: Machine<T, A>> CallSeat<'a, T, A, P> {
         ensures same { (self.new.seat.table_id ≡ self.old.seat.table_id) × (self.new.seat.me.0.who ≡ self.old.seat.me.0.who) × (self.new.seat.me.0.form ≡ self.old.seat.me.0.form) × (self.new.seat.me.0.over ≡ self.old.seat.me.0.over) }
     {
         let at = flag_index(self.table);
+        // Nobody needs the answer. Nobody writes the flag but the first foreign call.
         self.table.shared.load::<Happened<P, E>>(&mut self.seat, at);
     }
 
-    /// What the word holds; 0 where there is no such word.
+    /// What the word holds; 0 if there is no such word.
     #[inline(always)]
     pub fn load(&mut self, at: Word) -> u64
         requires next { (n : ℕ) → (a : A) × P.moves self.old.seat.me.0.form self.old.seat.me.0.state (does (Some (loaded at n))) a }
@@ -243,7 +248,7 @@ impl<'a, T, A, P: Machine<T, A>> CallSeat<'a, T, A, P> {
         }
     }
 
-    /// Writes the word, where there is one.
+    /// Writes the word, if there is one.
     #[inline(always)]
     pub fn store(&mut self, at: Word, value: u64)
         requires next { (a : A) × P.moves self.old.seat.me.0.form self.old.seat.me.0.state (does (Some (stored at value))) a }
@@ -259,7 +264,7 @@ impl<'a, T, A, P: Machine<T, A>> CallSeat<'a, T, A, P> {
         }
     }
 
-    /// Writes the word where it holds `expected`, and answers what it held. A word that isn't there holds 0 and stays so.
+    /// Writes `next` if the word holds `expected`, and answers what it held. A word that isn't there holds 0 and stays so.
     #[inline(always)]
     pub fn compare_exchange(&mut self, at: Word, expected: u64, next: u64) -> u64
         requires next { (n : ℕ) → (a : A) × P.moves self.old.seat.me.0.form self.old.seat.me.0.state (does (Some (exchanged at expected next (answer n expected)))) a }
@@ -337,7 +342,7 @@ impl<'a, T, A, P: Machine<T, A>> CallSeat<'a, T, A, P> {
 }
 
 impl<'a, T, A, P: Machine<T, A>> CallSeat<'a, T, A, P> {
-    /// Takes the message out of a slot. `None`: another seat has the slot, and nothing was done. A slot that isn't there holds nothing.
+    /// Takes the message out of a slot. `None`: another seat holds the slot, and nothing was done. A slot that isn't there holds nothing.
     #[inline(always)]
     pub fn try_take(&mut self, at: Slot) -> Option<Option<T>>
         requires next { (o : Option T) → (a : A) × P.moves self.old.seat.me.0.form self.old.seat.me.0.state (does (Some (did_take at o))) a }
@@ -354,8 +359,8 @@ impl<'a, T, A, P: Machine<T, A>> CallSeat<'a, T, A, P> {
         }
     }
 
-    /// Puts a message into an empty slot. `Err` hands the message back: with `true` the slot was full, or isn't there; with `false` another
-    /// seat has it, and nothing was done.
+    /// Puts a message into an empty slot. `Err` returns the message: with `true` the slot was full or isn't there; with `false` another
+    /// seat holds it, and nothing was done.
     #[inline(always)]
     pub fn try_put(&mut self, at: Slot, value: T) -> Result<(), (T, bool)>
         requires next { (o : Result Unit T) → (a : A) × P.moves self.old.seat.me.0.form self.old.seat.me.0.state (does (Some (did_put at value o))) a }
@@ -382,10 +387,15 @@ impl<'a, T, A, P: Machine<T, A>> CallSeat<'a, T, A, P> {
         ensures same { (self.new.seat.table_id ≡ self.old.seat.table_id) × (self.new.seat.me.0.who ≡ self.old.seat.me.0.who) × (self.new.seat.me.0.form ≡ self.old.seat.me.0.form) × (self.new.seat.me.0.over ≡ self.old.seat.me.0.over) }
     {
         let shared = &self.table.shared;
+        // An exchange from 0: only one seat wins the guard, and until it stores 0 nobody else touches the slot. This is the event of the
+        // history.
         if shared.compare_exchange::<Takes<P>>(&mut self.seat, index, 0, 1) != 0 {
             return None;
         }
+        // The guard is won, so this access to the slot races with none.
         let found = shared.exchange(&mut self.seat, index, None);
+        // After the access: the next winner of the guard finds the slot as it is left. A store suffices, since only its holder writes a
+        // guard of 1.
         shared.store::<Gives>(&mut self.seat, index, 0);
         Some(found)
     }
@@ -401,18 +411,21 @@ impl<'a, T, A, P: Machine<T, A>> CallSeat<'a, T, A, P> {
     {
         let shared = &self.table.shared;
         let brought = Some(value);
+        // As in `take_from`. The message is lent to the operation, since the event of the history names it.
         if shared.compare_exchange_with::<Puts<P>>(&mut self.seat, index, 0, 1, &brought) != 0 {
             return match brought {
                 Some(value) => Err((value, false)),
                 None => unreachable!(),
             };
         }
+        // The old content shows whether the slot was empty.
         match shared.exchange(&mut self.seat, index, brought) {
             None => {
                 shared.store::<Gives>(&mut self.seat, index, 0);
                 Ok(())
             }
             Some(old) => {
+                // The slot was full: put the old message back before the guard is released, so that nobody sees it missing.
                 let back = shared.exchange(&mut self.seat, index, Some(old));
                 shared.store::<Gives>(&mut self.seat, index, 0);
                 match back {

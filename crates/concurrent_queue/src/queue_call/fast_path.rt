@@ -1,4 +1,5 @@
-//! The steps of a push and of a pop made on end, in the form of their queue.
+//! The fast path of a push and of a pop, in the form of their queue. A call that it leaves goes on in the machine at the action that
+//! failed, so no operation is made twice.
 
 ghost use Rattle.std.specs.Prelude.{◌≡◌, MatchResult};
 ghost use Rattle.concurrent_queue.specs.Replies.{MayCall, MayAnswer};
@@ -25,7 +26,7 @@ fn going_on<T: Drop>(state: CallState<T>) -> QueueCall<T>
     }
 }
 
-/// Pushes or is refused, or answers the call that has to be stepped on.
+/// Pushes or is refused; or returns the call, which has to be stepped on.
 #[inline(always)]
 pub(crate) fn push_fast<T: Drop, C: Cells<T>>(
     value: T,
@@ -57,7 +58,7 @@ pub(crate) fn push_fast<T: Drop, C: Cells<T>>(
     }
 }
 
-/// Pops or is refused, or answers the call that has to be stepped on.
+/// Pops or is refused; or returns the call, which has to be stepped on.
 #[inline(always)]
 pub(crate) fn pop_fast<T: Drop, C: Cells<T>>(
     cells: &mut C,
@@ -89,7 +90,7 @@ pub(crate) fn pop_fast<T: Drop, C: Cells<T>>(
     }
 }
 
-/// Makes a push or a pop that has made no step; or answers the call that has to be stepped on.
+/// Makes a push or a pop that has made no step; or returns the call, which has to be stepped on.
 #[inline(always)]
 pub(crate) fn call_fast<T: Drop, C: Cells<T>>(
     call: QueueCall<T>,

@@ -1,5 +1,5 @@
-//! How far a call has come among the actions of its machine. Each step leads to a later action or goes back, so a step after
-//! which a call stands no later than before is one whose action is to be made again.
+//! How far a call has come among the actions of its machine. Each step leads to a later action or goes back, so if the place after a step
+//! is no later than before, the call has to repeat an action, and yields first.
 
 use crate::bounded::RingAction;
 use crate::queue_call::{CallState, QueueCall};

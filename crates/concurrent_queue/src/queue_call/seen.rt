@@ -1,6 +1,5 @@
-//! Calls of a queue on cells of any kind that a trace sees. Each gives the trace back with its answer: what `queue_call` says of the
-//! cells, it says of what the trace saw. Of neither is anything known here, so no call can show the trace anything but by an operation
-//! on the cells.
+//! Calls on cells of any kind whose operations a trace sees. Each call returns the trace with its answer: what `queue_call` says of the
+//! cells, this says of what the trace saw. Nothing is known of either, so a call can report to the trace only by an operation on the cells.
 
 ghost use Rattle.std.specs.Prelude.{MatchResult};
 ghost use Rattle.concurrent_queue.specs.Replies.{AsksWords, Follows, MayAnswer, MayCall};
@@ -17,7 +16,7 @@ use crate::queue_call::{QueueCall, fast_path, whole};
 use crate::seen::{Seen, Trace};
 use std::sync::Wait;
 
-/// One step of a call. It yields where the call is to make an action again.
+/// One step of a call. It yields if the call has to repeat an action.
 #[inline(always)]
 pub(crate) fn step<T: Drop, C: Cells<T> + Drop, S: Trace<T>>(
     call: &mut QueueCall<T>,
@@ -48,7 +47,7 @@ pub(crate) fn tell<T: Drop, C: Cells<T> + Drop, S: Trace<T>>(
     (reply, seen.into_trace())
 }
 
-/// The steps of a call to its end. What straight code hands on is to make an action again, so it yields first.
+/// Steps a call to its end. The fast path leaves a call that has to repeat an action, so it yields first.
 #[inline(always)]
 pub(crate) fn finish<T: Drop, R: Wait, C: Cells<T> + Drop, S: Trace<T>>(
     rt: &R,
@@ -64,7 +63,7 @@ pub(crate) fn finish<T: Drop, R: Wait, C: Cells<T> + Drop, S: Trace<T>>(
     (reply, seen.into_trace())
 }
 
-/// Pushes or is refused, or answers the call that has to be stepped on.
+/// Pushes or is refused; or returns the call, which has to be stepped on.
 #[inline(always)]
 pub(crate) fn push_fast<T: Drop, C: Cells<T> + Drop, S: Trace<T>>(
     value: T,
@@ -80,7 +79,7 @@ pub(crate) fn push_fast<T: Drop, C: Cells<T> + Drop, S: Trace<T>>(
     (made, seen.into_trace())
 }
 
-/// Pops or is refused, or answers the call that has to be stepped on.
+/// Pops or is refused; or returns the call, which has to be stepped on.
 #[inline(always)]
 pub(crate) fn pop_fast<T: Drop, C: Cells<T> + Drop, S: Trace<T>>(
     seen: Seen<C, S>,
@@ -95,7 +94,7 @@ pub(crate) fn pop_fast<T: Drop, C: Cells<T> + Drop, S: Trace<T>>(
     (made, seen.into_trace())
 }
 
-/// Makes a push or a pop that has made no step; or answers the call that has to be stepped on.
+/// Makes a push or a pop that has made no step; or returns the call, which has to be stepped on.
 #[inline(always)]
 pub(crate) fn call_fast<T: Drop, C: Cells<T> + Drop, S: Trace<T>>(
     call: QueueCall<T>,
@@ -111,7 +110,7 @@ pub(crate) fn call_fast<T: Drop, C: Cells<T> + Drop, S: Trace<T>>(
     (made, seen.into_trace())
 }
 
-/// The steps of a call up to its answer, over cells that are given back. A push or a pop is made at once where nothing stands against it.
+/// The steps of a call up to its answer, over cells that are returned. A push or a pop takes the fast path.
 #[inline(always)]
 pub(crate) fn complete<T: Drop, R: Wait, C: Cells<T>, S: Trace<T>>(
     rt: &R,
@@ -147,7 +146,7 @@ pub(crate) fn complete_question<T: Drop, C: Cells<T>, S: Trace<T>>(
     (reply, cells, trace)
 }
 
-/// A push up to its answer, over cells that are given back.
+/// A push up to its answer, over cells that are returned.
 #[inline(always)]
 pub(crate) fn push<T: Drop, R: Wait, C: Cells<T>, S: Trace<T>>(
     rt: &R,
@@ -164,7 +163,7 @@ pub(crate) fn push<T: Drop, R: Wait, C: Cells<T>, S: Trace<T>>(
     (answer, cells, trace)
 }
 
-/// A pop up to its answer, over cells that are given back.
+/// A pop up to its answer, over cells that are returned.
 #[inline(always)]
 pub(crate) fn pop<T: Drop, R: Wait, C: Cells<T>, S: Trace<T>>(
     rt: &R,

@@ -1,5 +1,9 @@
-//! Calls of a queue made up to their answers, over cells of any kind. Each does to the cells what the machine of their form
-//! does, and nothing else.
+//! Calls of a queue made up to their answers, over cells of any kind. Each does to the cells what the machine of their form does, and
+//! nothing else.
+//!
+//! # Extensions
+//!
+//! All of this module.
 
 ghost use Rattle.concurrent_queue.specs.Walked.{CallMakes, Walked, WalkedAsking, first_of, standing};
 ghost use Rattle.concurrent_queue.specs.Replies.{AsksWords, Follows, MayAnswer, MayCall};
@@ -13,9 +17,8 @@ use crate::queue_call::QueueCall;
 use crate::queue_call::fast_path::{call_fast, pop_fast, push_fast};
 use std::sync::Wait;
 
-/// Makes the steps of a call up to its answer, and nothing else. A push or a pop that has made no step is made at once where
-/// nothing stands against it. It yields where the call has to make an action again. The call is used up: nothing can be asked of
-/// it afterwards. With a call that has answered before it never returns. Own to this project.
+/// Makes the steps of a call up to its answer, and nothing else. A push or a pop that has made no step takes the fast path. It yields
+/// before it repeats an action. The call is used up. With a call that has answered already it never returns.
 #[inline(always)]
 pub fn complete<T: Drop, R: Wait, C: Cells<T>>(
     rt: &R,
@@ -32,7 +35,7 @@ pub fn complete<T: Drop, R: Wait, C: Cells<T>>(
     }
 }
 
-/// A push up to its answer. Its cells are lent to no function that stands apart, so they need no place in memory.
+/// A push up to its answer. It lends its cells to no function that is not inlined, so they stay in registers.
 #[inline(always)]
 pub(crate) fn push<T: Drop, R: Wait, C: Cells<T>>(
     rt: &R,
@@ -75,7 +78,7 @@ pub(crate) fn pop<T: Drop, R: Wait, C: Cells<T>>(rt: &R, cells: C) -> (Result<T,
     }
 }
 
-/// What straight code hands on, apart from it, so that it has no room to make for this.
+/// Finishes what the fast path left. It stands apart, so that the fast path needs no stack for it.
 #[cold]
 #[inline(never)]
 fn finish_apart<T: Drop, R: Wait, C: Cells<T>>(
@@ -92,7 +95,7 @@ fn finish_apart<T: Drop, R: Wait, C: Cells<T>>(
     (reply, cells)
 }
 
-/// Makes the steps of a call that waits for nobody up to its answer, and nothing else: its second step answers at the latest.
+/// Makes the steps of a call that never waits, up to its answer, and nothing else: its second step answers at the latest.
 pub fn tell<T: Drop, C: Cells<T>>(ask: QueueAsk<T>, cells: &mut C) -> QueueReply<T>
     requires words { AsksWords ask }
     requires stands { C.stands (first_of (C.form_of cells.old) ask) cells.old }
@@ -113,7 +116,7 @@ pub fn tell<T: Drop, C: Cells<T>>(ask: QueueAsk<T>, cells: &mut C) -> QueueReply
     }
 }
 
-/// Steps a call to its end. What straight code hands on is to make an action again, so it yields first.
+/// Steps a call to its end. The fast path leaves a call that has to repeat an action, so it yields first.
 pub(crate) fn finish<T: Drop, R: Wait, C: Cells<T>>(
     rt: &R,
     call: QueueCall<T>,
@@ -148,7 +151,7 @@ fn step_on<T: Drop, R: Wait, C: Cells<T>>(
     unreachable!()
 }
 
-/// One step. It yields where the call is to make an action again.
+/// One step. It yields if the call has to repeat an action.
 pub(crate) fn step<T: Drop, C: Cells<T>>(
     call: &mut QueueCall<T>,
     cells: &mut C,

@@ -1,4 +1,5 @@
-//! The blocks of a shared unbounded queue.
+//! The blocks of a shared unbounded queue. `Blocks` owns every block that was made, under its number, until the queue is dropped, and a
+//! lock guards the list of spare ones. The invariant: that list has room for each block that was made, so retiring one takes no memory.
 
 ghost use Rattle.std.specs.Prelude.{◌≡◌, ◌≤◌, ◌+◌, [], MatchResult};
 ghost use Rattle.std.specs.VecDeque.{deque_capacity};
@@ -23,8 +24,8 @@ pub(crate) const READS: usize = 1;
 
 pub(crate) const WRITTEN: usize = APART;
 
-/// The numbers of the blocks that are spare, and how many blocks were made. There is a place for each of them from the moment at
-/// which it is made, so that giving one back takes no memory.
+/// The numbers of the spare blocks, and how many blocks were made. There is a place for each of them from the moment at which it is made,
+/// so retiring one takes no memory.
 #[derive(Drop)]
 pub(crate) struct Stock {
     spares: VecDeque<u64>,
@@ -32,8 +33,8 @@ pub(crate) struct Stock {
     ghost placed: { made ≤ deque_capacity spares },
 }
 
-/// All blocks that were made, under their numbers, and under a lock which of them are spare. A block is kept until its queue is
-/// dropped, so any thread may step on it at any time.
+/// All blocks that were made, by their numbers, and under a lock which of them are spare. A block is kept until its queue is dropped, so
+/// any thread may make steps on it at any time.
 #[derive(Drop)]
 pub(crate) struct Blocks<T> {
     alloc: Global,
@@ -60,13 +61,14 @@ impl<T: Drop> Blocks<T> {
         Some(self.made.get(block as usize)?.seat())
     }
 
-    /// Takes the lock.
+    /// Takes the lock of the spare list.
     pub(crate) fn stock<R: Wait>(&self, rt: &R) -> MutexGuard<'_, Stock> {
+        // Pushes lock at a block's last slot, pops after its last message: about once for 31 messages.
         self.stock.lock(rt)
     }
 
-    /// The spare block that was given back last, or where none is spare a new one, under the next number that was never given.
-    /// `Err`, and nothing is changed, where there is no memory for it.
+    /// The spare block that was retired last, or if none is spare a new one, under the next number that was never given. `Err`, with
+    /// nothing changed, if there is no memory for it.
     pub(crate) fn spare<R: Wait>(&self, rt: &R, stock: &mut Stock) -> Result<u64, NoMemory>
         ensures gives { MatchResult result
             (λ b. (b ≡ spare_in stock.old.spares.items stock.old.made) × (stock.new.spares.items ≡ others_of stock.old.spares.items) × (stock.new.made ≡ made_of stock.old.spares.items stock.old.made))
@@ -103,15 +105,15 @@ impl<T: Drop> Blocks<T> {
         Ok(number as u64)
     }
 
-    /// Sets the words of a block to 0 and puts its number on the spare list, which has a place for it. Its slots are empty,
-    /// since each message of it was taken or never put.
+    /// Sets the words of a block to 0 and puts its number on the spare list, which has a place for it. Its slots are empty, since each
+    /// message of it was taken or never put.
     pub(crate) fn retire(&self, stock: &mut Stock, block: u64)
         ensures spares { stock.new.spares.items ≡ with_spare stock.old.spares.items stock.old.made block }
         ensures made { stock.new.made ≡ stock.old.made }
     {
-        // Nobody sees the first of these stores without the last: only a call that won one of the block's positions touches its words,
-        // a push up to the flag of its slot and a pop up to its count of reads, and the pop that counted the last of them gives the
-        // block back. Who wins a position of it later has its number by way of `spare`, and so from behind this section of the lock.
+        // Nobody sees the first of these stores without the last: only a call that won one of the block's positions touches its words, a
+        // push up to the flag of its slot and a pop up to its count of reads, and the pop that counted the last of them retires the block.
+        // A call that wins a position of it later has its number by way of `spare`, and so after this critical section.
         if let Some(mut words) = self.seat(block) {
             words.store(NEXT, 0);
             words.store(READS, 0);

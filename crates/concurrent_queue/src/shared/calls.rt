@@ -1,6 +1,12 @@
-//! The calls of a shared queue. Each makes the one of `queue` that shows a trace what it does, with a copy of the queue's own
-//! watch: this file has no other way to the cells of a queue. Of that watch nothing is known here, so each call can say what it
-//! saw only of the call that it made, and of the answer that came of it.
+//! The public calls of a shared queue. Each makes the call of `queue` that reports to a trace, with a copy of the queue's own trace: this
+//! module has no other way to the cells.
+//!
+//! A method that takes the runtime `rt` may wait: it yields while another call is in the midst of a change, and without a bound it may
+//! block on the lock of the spare list. A method without `rt` never waits.
+//!
+//! # Extensions
+//!
+//! `step`, `complete` and `step_words`.
 
 use crate::call::{QueueAsk, QueueReply};
 use crate::error::{ForcePushError, PopError, PushError};
@@ -13,8 +19,8 @@ use std::sync::Wait;
 impl<T: Drop, W: Trace<T> + Copy> ConcurrentQueue<T, W> {
     ghost use Rattle.concurrent_queue.specs.SharedQueue.{IsSharedStep, IsSharedCall, IsWordsAlone, SawStep, SawRest};
 
-    /// One step of a call. It yields where the call has to make its action again, and may wait for the lock of the spare
-    /// list. What it answers is what this queue may answer: a capacity is this queue's own. Own to this project.
+    /// Makes one step of a call. It yields if the call has to repeat its action. It answers what this queue may answer; a capacity is this
+    /// queue's own.
     pub fn step<R: Wait>(&self, rt: &R, call: &mut QueueCall<T>) -> Option<QueueReply<T>>
         ensures deed { SawStep W.did self.now call.old call.new result }
         ensures answers { IsSharedStep self.now call.old call.new result }
@@ -22,10 +28,8 @@ impl<T: Drop, W: Trace<T> + Copy> ConcurrentQueue<T, W> {
         self.step_seen(rt, call, self.watch()).0
     }
 
-    /// Makes the steps of a call up to its answer. A push or a pop that has made no step is made at once where nothing stands
-    /// against it. It yields where the call has to make an action again, and may wait for the lock of the spare list. What it
-    /// answers is what this queue may answer to this call. The call is used up: nothing can be asked of it afterwards. With a
-    /// call that has answered before it never returns. Own to this project.
+    /// Makes the steps of a call up to its answer, which is one that this queue may give. A push or a pop that has made no step takes the
+    /// fast path. The call is used up. With a call that has answered already it never returns.
     #[inline(always)]
     pub fn complete<R: Wait>(&self, rt: &R, call: QueueCall<T>) -> QueueReply<T>
         ensures walked { SawRest W.did self.now call result }
@@ -34,8 +38,7 @@ impl<T: Drop, W: Trace<T> + Copy> ConcurrentQueue<T, W> {
         self.complete_seen(rt, call, self.watch()).0
     }
 
-    /// One step of a call that is `close` or a question but for the length. It waits for nobody, and the second one answers
-    /// at the latest. Own to this project.
+    /// Makes one step of a call that is `close` or a question other than the length. The second one answers at the latest.
     #[inline(always)]
     pub fn step_words(&self, call: &mut QueueCall<T>) -> Option<QueueReply<T>>
         requires { IsWordsAlone call.old }
@@ -53,9 +56,8 @@ impl<T: Drop, W: Trace<T> + Copy> ConcurrentQueue<T, W> {
     ghost use Rattle.concurrent_queue.specs.declared.call.QueueAsk.TheVariants as ask;
     ghost use Rattle.concurrent_queue.specs.declared.call.QueueReply.TheVariants as reply;
 
-    /// Appends the message. A refusal hands it back: the queue was full or closed, or an unbounded one had no memory for it.
-    /// It may wait. Other threads push and close too, so nothing that a caller knows says that it will succeed: `HasPlace` of
-    /// `specs/Room` says so of a push into a queue of one owner alone.
+    /// Appends the message. `Err` returns it: `Full`, `Closed`, or `NoMemory` of an unbounded queue. Other threads push and close
+    /// meanwhile, so nothing that a caller knows implies success; `HasPlace` of `specs/Room` does for a queue of one owner alone.
     pub fn push<R: Wait>(&self, rt: &R, value: T) -> Result<(), PushError<T>>
         ensures walked { SawCall W.did self.now (ask.Push value) (reply.Push result) }
         ensures back { IfErr result (λ e. push_message e ≡ value) }
@@ -64,8 +66,8 @@ impl<T: Drop, W: Trace<T> + Copy> ConcurrentQueue<T, W> {
         self.push_seen(rt, value, self.watch()).0
     }
 
-    /// Appends the message; where the queue is full, the oldest one leaves for it and is answered. A refusal hands the message
-    /// back: the queue was closed, or an unbounded one had no memory for it. It may wait.
+    /// Appends the message; if the queue is full, removes and returns the oldest one. `Err` returns the message: `Closed`, or `NoMemory` of
+    /// an unbounded queue.
     pub fn force_push<R: Wait>(&self, rt: &R, value: T) -> Result<Option<T>, ForcePushError<T>>
         ensures walked { SawCall W.did self.now (ask.ForcePush value) (reply.Force result) }
         ensures back { IfErr result (λ e. force_message e ≡ value) }
@@ -81,16 +83,14 @@ impl<T: Drop, W: Trace<T> + Copy> ConcurrentQueue<T, W> {
         }
     }
 
-    /// Takes the oldest message. `Err` where there was none: `Empty` while the queue was open, `Closed` once it was closed. It
-    /// may wait.
+    /// Removes the oldest message. `Err` if there was none: `Empty` while the queue was open, `Closed` once it was closed.
     pub fn pop<R: Wait>(&self, rt: &R) -> Result<T, PopError>
         ensures walked { SawCall W.did self.now ask.Pop (reply.Pop result) }
     {
         self.pop_seen(rt, self.watch()).0
     }
 
-    /// Closes the queue: nothing more comes in, and what is in can still be popped. True in the one call that closed it. It
-    /// waits for nobody.
+    /// Closes the queue: nothing more comes in, and what is in can still be popped. True in the one call that closed it.
     pub fn close(&self) -> bool
         ensures walked { SawCall W.did self.now ask.Close (reply.Close result) }
     {
@@ -100,7 +100,7 @@ impl<T: Drop, W: Trace<T> + Copy> ConcurrentQueue<T, W> {
         }
     }
 
-    /// Whether the queue is closed. It waits for nobody.
+    /// Whether the queue is closed.
     pub fn is_closed(&self) -> bool
         ensures walked { SawCall W.did self.now ask.IsClosed (reply.Flag result) }
     {
@@ -110,7 +110,7 @@ impl<T: Drop, W: Trace<T> + Copy> ConcurrentQueue<T, W> {
         }
     }
 
-    /// Whether it holds no message. It waits for nobody.
+    /// Whether it holds no message.
     pub fn is_empty(&self) -> bool
         ensures walked { SawCall W.did self.now ask.IsEmpty (reply.Flag result) }
     {
@@ -120,7 +120,7 @@ impl<T: Drop, W: Trace<T> + Copy> ConcurrentQueue<T, W> {
         }
     }
 
-    /// Whether it holds as many messages as its capacity; an unbounded queue never does. It waits for nobody.
+    /// Whether it holds as many messages as its capacity; an unbounded queue never does.
     pub fn is_full(&self) -> bool
         ensures walked { SawCall W.did self.now ask.IsFull (reply.Flag result) }
         ensures unbounded { limit self.now ≡ None → result ≡ false }
@@ -131,7 +131,7 @@ impl<T: Drop, W: Trace<T> + Copy> ConcurrentQueue<T, W> {
         }
     }
 
-    /// How many messages it held at a moment of the call. It may wait, since it asks again where others came between.
+    /// How many messages it held at a moment of the call. It repeats its loads if the tail changed in between.
     pub fn len<R: Wait>(&self, rt: &R) -> usize
         ensures walked { SawCall W.did self.now ask.Len (reply.Count result) }
     {

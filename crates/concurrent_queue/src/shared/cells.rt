@@ -1,5 +1,6 @@
-//! The cells of a shared queue without a bound, on which a call steps: with the runtime value, and of words alone for the calls that
-//! wait for nobody. Nothing is known of what they hold, since any thread may step on them at any time.
+//! The cells of a shared queue without a bound: with the runtime value, by which a call locks the spare list, or of words alone for the
+//! calls that never wait. Nothing is known of what they hold, since any thread may make steps on them at any time. The machine
+//! (`unbounded`) has the reason for each operation; here it is one operation on one word.
 
 ghost use Rattle.std.specs.Prelude.{◌≡◌, ◌<◌};
 ghost use Rattle.concurrent_queue.specs.Places.{place_of, flag_of, IsNear, OwnPlaces, OwnFlags};
@@ -33,7 +34,7 @@ pub(crate) enum Place {
     Bit(u64, usize, u64),
 }
 
-/// The flag of a slot in its block's word of written slots; none where a block has no such slot.
+/// The flag of a slot in its block's word of written slots; none if a block has no such slot.
 #[inline(always)]
 #[tactic(auto, using(crate::proofs::OwnPlaces::own_flags))]
 fn flag_of(offset: u64) -> u64
@@ -63,8 +64,8 @@ fn place_of(at: Word) -> Place
     }
 }
 
-/// Words and slots, from a seat of its own. It has no spare block and keeps none. It remembers the block that it looked up
-/// last, since a call stays with one block for most of its steps.
+/// Words and slots, from a seat of its own. It can neither get nor retire a block. It caches the seat of the block that it looked up last,
+/// since a call stays with one block for most of its steps.
 #[derive(Drop)]
 pub(crate) struct WordCells<'a, T: Drop> {
     own: SeatedTable<'a, T>,
@@ -166,8 +167,11 @@ impl<'a, T: Drop> Cells<T> for WordCells<'a, T> {
                 self.look_up(block);
                 if let Some(words) = &mut self.near {
                     if value == 0 {
+                        // An `and` of this bit, not a store: the flags of a block's other slots lie in the same word, and a store could
+                        // lose one.
                         words.fetch_and(word, !flag_of(offset));
                     } else {
+                        // An `or`, for the same reason: a lost flag would make the pop of that slot wait for ever.
                         words.fetch_or(word, flag_of(offset));
                     }
                 }
@@ -352,6 +356,7 @@ impl<'a, T: Drop, R: Wait> Cells<T> for SharedCells<'a, T, R> {
     #[inline(always)]
     fn spare(&mut self) -> Result<u64, NoMemory> {
         let blocks = self.words.blocks;
+        // One critical section: of two calls at once none may get the same spare block.
         blocks.spare(self.rt, &mut blocks.stock(self.rt))
     }
 

@@ -1,4 +1,5 @@
-//! The queue without a bound that threads share: its ends, and its blocks.
+//! The queue without a bound that threads share. It owns the words of its two ends, and its blocks. Any thread touches them, each by a seat
+//! of its own that lasts for one call.
 
 ghost use Rattle.std.specs.Prelude.{◌≡◌};
 ghost use Rattle.concurrent_queue.specs.Replies.{AsksWords, Follows, MayAnswer, MayCall};
@@ -21,7 +22,7 @@ use std::sync::Wait;
 /// How many words the two ends of a queue have.
 const WORDS: usize = 18;
 
-/// What a queue without a bound is made of. Any thread may step on it at any time, also by a call that was begun on another queue.
+/// What a queue without a bound is made of. Any thread may make steps on it at any time, also of a call that was begun on another queue.
 #[derive(Drop)]
 pub(crate) struct Endless<T: Drop> {
     ends: SharedTable<T>,
@@ -54,10 +55,9 @@ impl<T: Drop> Endless<T> {
     }
 }
 
-// A call that goes on has cells of its own: those of one that is made at once are lent to no function that stands apart, so they
-// need no place in memory.
+// A call that goes on makes new cells. Those of the fast path are lent to no function that is not inlined, so they stay in registers.
 impl<T: Drop> Endless<T> {
-    /// Steps a call to its end. What straight code hands on is to make an action again, so it yields first.
+    /// Steps a call to its end. The fast path leaves a call that has to repeat an action, so it yields first.
     fn finish<R: Wait, S: Trace<T>>(
         &self,
         rt: &R,
@@ -70,7 +70,7 @@ impl<T: Drop> Endless<T> {
         seen::finish(rt, call, self.cells(rt, trace))
     }
 
-    /// The same, apart from a push or a pop that is made at once, which so has no room to make for it.
+    /// The same, apart from the fast path, which so needs no stack for it.
     #[cold]
     #[inline(never)]
     fn finish_apart<R: Wait, S: Trace<T>>(
@@ -117,7 +117,7 @@ impl<T: Drop> Endless<T> {
         }
     }
 
-    /// One step of a call that waits for nobody.
+    /// One step of a call that never waits.
     #[inline(always)]
     pub(crate) fn step_words<S: Trace<T>>(
         &self,
@@ -187,7 +187,7 @@ impl<T: Drop> Endless<T> {
         self.finish(rt, QueueCall::new(ask), trace)
     }
 
-    /// A call that waits for nobody.
+    /// A call that never waits.
     #[inline(always)]
     pub(crate) fn tell<S: Trace<T>>(&self, ask: QueueAsk<T>, trace: S) -> (QueueReply<T>, S)
         requires { AsksWords ask }

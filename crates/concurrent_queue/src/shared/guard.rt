@@ -1,4 +1,4 @@
-//! The rule of a table of words and slots: a slot is out exactly where its guard is won, by the one seat whose view says so.
+//! The rule of a table of words and slots: a slot is out exactly while its guard is won, by the one seat whose view says so.
 //! Of all other words nothing is said. These types are for the proofs alone.
 
 use atomic_table::{Play, TableRule};
@@ -33,7 +33,7 @@ impl<T> Play<Option<T>, Option<u64>> for Look {
     ghost then = { looked };
 }
 
-/// The guard is won where it was 0, and its slot with it.
+/// The guard is won if it was 0, and its slot with it.
 pub(crate) struct Win;
 
 impl<T> Play<Option<T>, Option<u64>> for Win {
@@ -42,7 +42,7 @@ impl<T> Play<Option<T>, Option<u64>> for Win {
     ghost then = { won };
 }
 
-/// The slot and its guard are given back.
+/// The slot is put back and its guard is released.
 pub(crate) struct Give;
 
 impl<T> Play<Option<T>, Option<u64>> for Give {

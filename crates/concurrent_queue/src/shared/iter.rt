@@ -1,4 +1,4 @@
-//! Walking a shared queue.
+//! Popping the messages of a shared queue one after another. The iterator owns nothing of the queue: each item is one pop.
 
 ghost use Rattle.std.specs.Iterator.{at_most};
 ghost use Rattle.concurrent_queue.specs.Turns.{turns_left, SawNext};

@@ -1,4 +1,9 @@
-//! A queue that threads share.
+//! A queue that threads share. This module owns its memory: one table under the rule of one history with a bound, words and blocks without
+//! one. Each call is one body for whatever trace, and reaches the cells only through the trace that it was given.
+//!
+//! # Extensions
+//!
+//! The trace parameter `W`, `bounded_watched`, `unbounded_watched`, `witnessed`, and the calls whose names end in `_seen` or `_told`.
 
 ghost use Rattle.std.specs.Prelude.{◌≡◌};
 ghost use Rattle.concurrent_queue.specs.Memory.{memory_form};
@@ -26,15 +31,15 @@ pub(crate) enum Memory<T: Drop> {
     Endless(Endless<T>),
 }
 
-/// A queue that threads share through a `&` and that can be closed, as `ConcurrentQueue` of `concurrent-queue` 2.5.0. Each
-/// call makes the steps of `queue_call`, whichever other calls are under way, and yields before it makes an action again.
+/// A queue that threads share through a `&` and that can be closed, as `ConcurrentQueue` of `concurrent-queue` 2.5.0. Each call makes the
+/// steps of `queue_call`, whichever other calls are under way, and yields before it repeats an action.
 ///
-/// What a call finds depends on the others, so its contract says what holds whatever they do: nothing is read or written by
-/// two threads at once, a refused message comes back, and what each value of `T` keeps holds of each message. Of the messages
-/// that are left when the queue is dropped each is dropped once.
+/// What a call finds depends on the others, so its contract says what holds whatever they do: nothing is read or written by two threads at
+/// once, a refused message is returned, and what each value of `T` satisfies, each message satisfies. When the queue is dropped each
+/// message left in it is dropped once.
 ///
-/// A queue may be watched by a trace `W`: each call shows it what it does to the cells, and by contract its walk to this very
-/// answer was seen. Whoever watches nothing says `ConcurrentQueue<T>`. The watch is own to this project.
+/// A queue may be opened with a trace `W`: each call reports to it what it does to the cells, and by contract the trace saw the steps that
+/// lead to this very answer. Without one the type is `ConcurrentQueue<T>`.
 #[derive(Drop)]
 pub struct ConcurrentQueue<T: Drop, W: Copy = NoTrace> {
     form: QueueForm,
@@ -47,8 +52,8 @@ impl<T: Drop> ConcurrentQueue<T> {
     ghost use Rattle.std.specs.Prelude.{◌≡◌, ◌<◌, ◌≤◌, ◌^◌, IfOk, Some, None};
     ghost use Rattle.concurrent_queue.specs.SharedQueue.{limit};
 
-    /// An open empty queue that holds at most `capacity` messages. `Err` where there is no memory for its slots, which for
-    /// a capacity above 2^58 nobody is asked for.
+    /// An open empty queue that holds at most `capacity` messages. `Err` if there is no memory for its slots, which is not even asked for
+    /// above 2^58.
     #[inline(always)]
     pub fn bounded(alloc: Global, capacity: usize) -> Result<ConcurrentQueue<T>, NoMemory>
         requires { 0 < capacity }
@@ -58,8 +63,8 @@ impl<T: Drop> ConcurrentQueue<T> {
         ConcurrentQueue::bounded_watched(alloc, capacity, NoTrace)
     }
 
-    /// An open empty queue with no bound. Its blocks, of 31 messages each, come with the messages, and one whose messages
-    /// were all taken is used again. `Err` where there is no memory for its words.
+    /// An open empty queue with no bound. Its blocks, of 31 messages each, come with the messages, and one whose messages were all taken is
+    /// used again. `Err` if there is no memory for its words.
     #[inline(always)]
     pub fn unbounded(alloc: Global) -> Result<ConcurrentQueue<T>, NoMemory>
         ensures { IfOk result (λ q. limit q ≡ None) }
@@ -74,8 +79,7 @@ impl<T: Drop, W: Copy> ConcurrentQueue<T, W> {
     ghost use Rattle.concurrent_queue.specs.Memory.{table_in};
     ghost use Rattle.concurrent_queue.specs.Witnessed.{asked_in, replied_in, table_of, view_of};
 
-    /// A bounded queue, as `bounded`, whose calls show this trace what they do. Each takes a copy of it, so calls of many
-    /// threads are seen where a copy leads to what they share. `Err` as there. Own to this project.
+    /// `bounded` with a trace, of which each call takes a copy. The copies see the calls of all threads if they lead to shared memory.
     pub fn bounded_watched(
         alloc: Global,
         capacity: usize,
@@ -99,8 +103,7 @@ impl<T: Drop, W: Copy> ConcurrentQueue<T, W> {
         }
     }
 
-    /// An unbounded queue, as `unbounded`, whose calls show this trace what they do, each with a copy of it. `Err` as there. Own
-    /// to this project.
+    /// `unbounded` with a trace, of which each call takes a copy.
     pub fn unbounded_watched(alloc: Global, watch: W) -> Result<ConcurrentQueue<T, W>, NoMemory>
         ensures limit { IfOk result (λ q. limit q ≡ None) }
         ensures watch { IfOk result (λ q. watch_of q ≡ watch) }
@@ -115,7 +118,7 @@ impl<T: Drop, W: Copy> ConcurrentQueue<T, W> {
         }
     }
 
-    /// How many messages it can hold, if there is a bound. It waits for nobody.
+    /// How many messages it can hold, if there is a bound. It never waits.
     pub fn capacity(&self) -> Option<usize>
         ensures { result ≡ limit self.now }
     {
@@ -125,8 +128,8 @@ impl<T: Drop, W: Copy> ConcurrentQueue<T, W> {
         }
     }
 
-    /// Makes calls of which a witness says what they asked and what they were answered, from none on. `None` of a queue without a bound. It
-    /// waits for nobody. Own to this project.
+    /// A new party, whose calls come with a witness of what they asked and what they were answered. `None` for a queue without a bound. It
+    /// costs one load.
     pub fn witnessed(&self) -> Option<Witnessed<'_, T>>
         ensures asked { IfSome result (λ w. asked_in w ≡ []) }
         ensures replied { IfSome result (λ w. replied_in w ≡ []) }
@@ -139,7 +142,7 @@ impl<T: Drop, W: Copy> ConcurrentQueue<T, W> {
         }
     }
 
-    /// What watches it, as each call takes it. Own to this project.
+    /// The queue's trace, as each call takes it.
     #[inline(always)]
     pub(crate) fn watch(&self) -> W
         ensures { result ≡ watch_of self.now }
@@ -148,8 +151,8 @@ impl<T: Drop, W: Copy> ConcurrentQueue<T, W> {
     }
 }
 
-// Each call of a shared queue with a trace of the caller's. It is one body for whatever trace, and has no other way to the
-// cells than by the trace that it was given; `calls` makes the same with the queue's own watch.
+// Each call of a shared queue with the caller's trace, which sees its operations and nothing else. `calls` has the same with the queue's
+// own.
 impl<T: Drop, W: Copy> ConcurrentQueue<T, W> {
     ghost use Rattle.std.specs.Prelude.{◌≡◌, Some};
     ghost use Rattle.concurrent_queue.specs.SharedQueue.{form_in, IsSharedStep, IsSharedCall, IsWordsAlone};
@@ -157,8 +160,7 @@ impl<T: Drop, W: Copy> ConcurrentQueue<T, W> {
     ghost use Rattle.concurrent_queue.specs.declared.call.QueueAsk.TheVariants as ask;
     ghost use Rattle.concurrent_queue.specs.declared.call.QueueReply.TheVariants as reply;
 
-    /// One step of a call, as `step`: the trace sees its one operation, with the answer by which the call goes on. Own to this
-    /// project.
+    /// `step` with the caller's trace: it sees the one operation, with the answer by which the call goes on.
     #[inline(always)]
     pub fn step_seen<R: Wait, S: Trace<T>>(
         &self,
@@ -175,8 +177,8 @@ impl<T: Drop, W: Copy> ConcurrentQueue<T, W> {
         }
     }
 
-    /// The steps of a call up to its answer, as `complete`: the trace sees each operation, with the answers by which this one
-    /// came out, and nothing else. The call is used up. Own to this project.
+    /// `complete` with the caller's trace: it sees each operation, with the answers that led to this one, and nothing else. The call is
+    /// used up.
     #[inline(always)]
     pub fn complete_seen<R: Wait, S: Trace<T>>(
         &self,
@@ -193,7 +195,7 @@ impl<T: Drop, W: Copy> ConcurrentQueue<T, W> {
         }
     }
 
-    /// One step of a call that waits for nobody, as `step_words`: the trace sees its one operation. Own to this project.
+    /// `step_words` with the caller's trace.
     #[inline(always)]
     pub fn step_words_seen<S: Trace<T>>(
         &self,
@@ -214,7 +216,7 @@ impl<T: Drop, W: Copy> ConcurrentQueue<T, W> {
         }
     }
 
-    /// A push, as `push`: the trace sees its operations and nothing else. Own to this project.
+    /// `push` with the caller's trace.
     #[inline(always)]
     pub fn push_seen<R: Wait, S: Trace<T>>(
         &self,
@@ -231,7 +233,7 @@ impl<T: Drop, W: Copy> ConcurrentQueue<T, W> {
         }
     }
 
-    /// A pop, as `pop`: the trace sees its operations and nothing else. Own to this project.
+    /// `pop` with the caller's trace.
     #[inline(always)]
     pub fn pop_seen<R: Wait, S: Trace<T>>(&self, rt: &R, trace: S) -> (Result<T, PopError>, S)
         ensures walked { WalkedAsking S.did (form_in self.now) ask.Pop trace (reply.Pop (result.0)) (result.1) }
@@ -242,7 +244,7 @@ impl<T: Drop, W: Copy> ConcurrentQueue<T, W> {
         }
     }
 
-    /// Any other call, step by step: the trace sees its operations and nothing else. It may wait. Own to this project.
+    /// Any call, step by step, with the caller's trace. It may wait.
     #[inline(always)]
     pub fn make_seen<R: Wait, S: Trace<T>>(
         &self,
@@ -259,7 +261,7 @@ impl<T: Drop, W: Copy> ConcurrentQueue<T, W> {
         }
     }
 
-    /// A call that waits for nobody: the trace sees its operations and nothing else. Own to this project.
+    /// A call that never waits, with the caller's trace.
     #[inline(always)]
     pub fn tell_seen<S: Trace<T>>(&self, ask: QueueAsk<T>, trace: S) -> (QueueReply<T>, S)
         requires { AsksWords ask }
@@ -280,7 +282,7 @@ struct Answered<'a, A: Drop, S> {
     trace: &'a mut S,
 }
 
-// The same with a trace that is lent: it sees what it would see if it were given.
+// The same with a trace that is lent: it sees what it would see if it were moved in.
 impl<T: Drop, W: Copy> ConcurrentQueue<T, W> {
     ghost use Rattle.std.specs.Prelude.{◌≡◌, IfSome, is_some, true};
     ghost use Rattle.concurrent_queue.specs.SharedQueue.{form_in, IsSharedStep, IsSharedCall, IsWordsAlone};
@@ -339,7 +341,7 @@ impl<T: Drop, W: Copy> ConcurrentQueue<T, W> {
         trace
     }
 
-    /// `complete_seen` with a trace that is lent. Own to this project.
+    /// `complete_seen` with a trace that is lent.
     #[inline(always)]
     pub fn complete_told<R: Wait, S: Trace<T>>(
         &self,
@@ -378,7 +380,7 @@ impl<T: Drop, W: Copy> ConcurrentQueue<T, W> {
         trace
     }
 
-    /// `step_words_seen` with a trace that is lent. Own to this project.
+    /// `step_words_seen` with a trace that is lent.
     #[inline(always)]
     pub fn step_words_told<S: Trace<T>>(
         &self,

@@ -1,4 +1,5 @@
-//! The calls of a queue with a bound that threads share, each begun on its table and made up to its end.
+//! The calls of a queue with a bound that threads share. Each enters a party on the queue's table, makes its steps up to the answer, and
+//! gives the seat back.
 
 ghost use Rattle.std.specs.Prelude.{◌≡◌, ℕ, ◌<◌, ◌≤◌, ◌^◌, IfOk};
 ghost use Rattle.concurrent_queue.specs.QueueTables.{form_of};
@@ -35,7 +36,7 @@ pub(crate) struct QueueTable<T> {
 type QueueSeat<'a, T> = CallSeat<'a, T, Standing<T>, OfQueue>;
 
 impl<T> QueueTable<T> {
-    /// The table of a new queue that holds at most `capacity` messages. `Err` where there is no memory for it.
+    /// The table of a new queue that holds at most `capacity` messages. `Err` if there is no memory for it.
     pub(crate) fn new(alloc: Global, capacity: usize) -> Result<QueueTable<T>, AllocError>
         requires { (0 < capacity) × (capacity ≤ 2 ^ 58) }
         ensures { IfOk result (λ t. form_of t ≡ Bounded capacity) }
@@ -199,7 +200,7 @@ fn foreign_cells<'a, T: Drop, S>(table: &'a QueueTable<T>, trace: S) -> Seen<For
     see_foreign(table.table.admit(), trace)
 }
 
-/// One step of a call, which may be no call of this queue: from then on nothing is told of the history.
+/// One step of a call that may be no call of this queue: from then on nothing is known of the history.
 #[inline(always)]
 pub(crate) fn step<T: Drop, S: Trace<T>>(
     table: &QueueTable<T>,

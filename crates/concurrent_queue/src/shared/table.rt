@@ -1,4 +1,6 @@
-//! Words and slots that threads share, by their indices.
+//! Words and slots that threads share, by their indices, for unbounded queues. The invariant: a slot is out of the table only while its
+//! guard is 1, and then with the seat that set it; of all other words nothing is known. The machine (`unbounded`) has the reason for each
+//! operation on a word.
 
 ghost use Rattle.std.specs.Prelude.{◌≡◌, ◌<◌, ◌≤◌, ◌+◌, ◌*◌, [], None, IfSome, IfErr, IfOk, length};
 ghost use Rattle.concurrent_queue.specs.machine.Guarded.{AreFree};
@@ -18,8 +20,8 @@ pub(crate) const APART: usize = 16;
 /// How many words each table has at least, so that the first of them are found with no test.
 const LEAST: usize = 18;
 
-/// Words and slots of a queue or of one of its blocks. The table has a guard for each slot in front of the words, which is
-/// 1 while some seat has the slot.
+/// Words and slots of a queue or of one of its blocks. In front of the words the table has a guard for each slot, which is 1 while some
+/// seat holds the slot.
 #[derive(Drop)]
 pub(crate) struct SharedTable<T> {
     table: GuardTable<T>,
@@ -35,7 +37,7 @@ pub(crate) struct SeatedTable<'a, T> {
     ghost seated: { (seat.table_id ≡ table.now.shared.table_id) × (seat.me ≡ (None, [])) },
 }
 
-/// All words of a new table: the guards, then so many words, and more where they are few. All are 0.
+/// All words of a new table: the guards, then so many words, and more if they are few. All are 0.
 fn first_words(alloc: Global, slots: usize, words: usize) -> Result<Vec<u64>, AllocError>
     ensures { IfOk result (λ v. (slots + 18 ≤ length v.items) × AreFree slots v.items) }
 {
@@ -67,13 +69,14 @@ impl<T> SharedTable<T> {
         let slots = self.table.slot_count();
         SeatedTable {
             table: &self.table,
+            // The load makes the seat; what it finds isn't used.
             seat: self.table.shared.load_new_seat::<Sit>(slots).1,
         }
     }
 }
 
 impl<'a, T> SeatedTable<'a, T> {
-    /// Where a word lies in the table, if it is there.
+    /// The index of a word in the table, if it is there.
     #[inline(always)]
     fn place(&self, word: usize) -> Option<usize>
         ensures { IfSome result
@@ -91,7 +94,7 @@ impl<'a, T> SeatedTable<'a, T> {
         }
     }
 
-    /// What the word holds; 0 where there is none.
+    /// What the word holds; 0 if there is none.
     #[inline(always)]
     pub(crate) fn load(&mut self, word: usize) -> u64 {
         match self.place(word) {
@@ -100,7 +103,7 @@ impl<'a, T> SeatedTable<'a, T> {
         }
     }
 
-    /// Writes the word, where there is one.
+    /// Writes the word, if there is one.
     #[inline(always)]
     pub(crate) fn store(&mut self, word: usize, value: u64) {
         if let Some(at) = self.place(word) {
@@ -108,7 +111,7 @@ impl<'a, T> SeatedTable<'a, T> {
         }
     }
 
-    /// Writes the word where it holds `expected`; `Err` with what it holds where it does not.
+    /// Writes `next` if the word holds `expected`; otherwise `Err` with what it holds.
     #[inline(always)]
     pub(crate) fn compare_exchange(
         &mut self,
@@ -160,7 +163,7 @@ impl<'a, T> SeatedTable<'a, T> {
         }
     }
 
-    /// Fills an empty slot. `Err` hands the message back: the slot is full, or another seat has it, or there is none.
+    /// Fills an empty slot. `Err` returns the message: the slot is full, another seat holds it, or it isn't there.
     #[inline(always)]
     pub(crate) fn put(&mut self, slot: usize, value: T) -> Result<(), T>
         ensures { IfErr result (λ back. back ≡ value) }
@@ -169,15 +172,20 @@ impl<'a, T> SeatedTable<'a, T> {
             return Err(value);
         }
         let shared = &self.table.shared;
+        // An exchange from 0: only one seat wins the guard. Without a guard, a call that was begun on another queue could touch a slot together
+        // with its owner.
         if shared.compare_exchange::<Win>(&mut self.seat, slot, 0, 1) != 0 {
             return Err(value);
         }
+        // The guard is won, so this access to the slot races with none.
         match shared.exchange(&mut self.seat, slot, Some(value)) {
             None => {
+                // After the access: the next winner of the guard finds the slot as it is left.
                 shared.store::<Give>(&mut self.seat, slot, 0);
                 Ok(())
             }
             full => {
+                // The slot was full: put the old message back before the guard is released, so that nobody sees it missing.
                 let back = shared.exchange(&mut self.seat, slot, full);
                 shared.store::<Give>(&mut self.seat, slot, 0);
                 match back {
@@ -188,17 +196,19 @@ impl<'a, T> SeatedTable<'a, T> {
         }
     }
 
-    /// Empties a slot. `None`: it is empty, or another seat has it, or there is none.
+    /// Empties a slot. `None`: it is empty, another seat holds it, or it isn't there.
     #[inline(always)]
     pub(crate) fn take(&mut self, slot: usize) -> Option<T> {
         if slot >= self.table.slot_count() {
             return None;
         }
         let shared = &self.table.shared;
+        // As in `put`.
         if shared.compare_exchange::<Win>(&mut self.seat, slot, 0, 1) != 0 {
             return None;
         }
         let found = shared.exchange(&mut self.seat, slot, None);
+        // After the access, as in `put`.
         shared.store::<Give>(&mut self.seat, slot, 0);
         found
     }

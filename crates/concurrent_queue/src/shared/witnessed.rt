@@ -1,4 +1,9 @@
-//! Calls of a queue with a bound, with a witness of what they asked and what they were answered.
+//! Calls of a queue with a bound, with a witness of what they asked and what they were answered. Each call takes the witness and returns
+//! it, and nothing else makes or changes one; so its view is what its party really did, in order.
+//!
+//! # Extensions
+//!
+//! All of this module.
 
 ghost use Rattle.std.specs.Prelude.{◌≡◌, ◌∷◌, ◌++◌, [], true, None};
 ghost use Rattle.concurrent_queue.specs.QueueTables.{form_of};
@@ -18,15 +23,12 @@ use crate::shared::ruled::QueueTable;
 use std::marker::Brand;
 use std::sync::Wait;
 
-/// Makes calls of one queue with a bound, one after another, and is the witness of what they asked and what they were answered: of a party,
-/// which is one thread's calls, or those that threads hand on. When it runs it is a reference to the queue. What it knows stands in the
-/// proofs alone.
+/// Makes the calls of one party of a queue with a bound, and is the witness of what they asked and what they were answered. A party's calls
+/// come one after another; threads may hand it on. At run time it is a reference to the queue; what it knows is in the proofs alone.
 ///
-/// A look tells, at any moment and whatever other threads do, of one history of all calls of this queue, in which these calls stand with
-/// these answers. Each call does what the queue's own call of that name does, and may wait as that does. A watch of the queue isn't shown
-/// these calls.
-///
-/// Own to this project.
+/// [`look`](Witnessed::look) says at any moment, whatever other threads do, that there is one history of all calls of this queue in which
+/// these calls stand with these answers. Each call does what the queue's own call of that name does, and may wait as that does. The queue's
+/// trace isn't shown these calls.
 #[derive(Drop)]
 pub struct Witnessed<'a, T: Drop> {
     table: &'a QueueTable<T>,
@@ -59,6 +61,7 @@ fn next_cells<'a, T: Drop>(
     ensures party { (result.seat.seat.table_id ≡ witness.seat.table_id) × (result.seat.seat.me.0.who ≡ witness.seat.me.0.who) × (result.seat.seat.me.0.over ≡ witness.seat.me.0.over) }
 {
     let mut seat = table.table.go_on(witness);
+    // From this step on the history has the call, and the seat can't rest before its machine has answered.
     seat.turn::<Brand, QueueAsk<T>>(ask);
     HistoryCells { seat }
 }
@@ -88,7 +91,7 @@ fn make<T: Drop, R: Wait>(
     (reply, after)
 }
 
-/// The same of a call that waits for nobody.
+/// The same for a call that never waits.
 #[inline(always)]
 fn tell<T: Drop>(
     table: &QueueTable<T>,
@@ -133,6 +136,7 @@ impl<'a, T: Drop> Witnessed<'a, T> {
     {
         let Witnessed { table, witness } = self;
         let mut seat = table.table.go_on(witness);
+        // The history has the call from here on, as in `next_cells`.
         seat.turn::<Brand, T>(&value);
         let (answer, cells) = whole::push(rt, value, HistoryCells { seat });
         let HistoryCells { seat } = cells;
@@ -140,7 +144,7 @@ impl<'a, T: Drop> Witnessed<'a, T> {
         (answer, Witnessed { table, witness })
     }
 
-    /// Appends the message, in the place of the oldest one where the queue is full, as `force_push` of the queue does.
+    /// Appends the message, in the place of the oldest one if the queue is full, as `force_push` of the queue does.
     pub fn force_push<R: Wait>(
         self,
         rt: &R,
@@ -156,12 +160,13 @@ impl<'a, T: Drop> Witnessed<'a, T> {
         }
     }
 
-    /// Takes the oldest message, as `pop` of the queue does.
+    /// Removes the oldest message, as `pop` of the queue does.
     pub fn pop<R: Wait>(self, rt: &R) -> (Result<T, PopError>, Witnessed<'a, T>)
         ensures called { HasCalled self.entry ask.Pop (reply.Pop result.0) result.1 }
     {
         let Witnessed { table, witness } = self;
         let mut seat = table.table.go_on(witness);
+        // The history has the call from here on, as in `next_cells`.
         seat.turn::<Brand, ()>(&());
         let (answer, cells) = whole::pop(rt, HistoryCells { seat });
         let HistoryCells { seat } = cells;
@@ -169,7 +174,7 @@ impl<'a, T: Drop> Witnessed<'a, T> {
         (answer, Witnessed { table, witness })
     }
 
-    /// Closes the queue, as `close` of the queue does. It waits for nobody.
+    /// Closes the queue, as `close` of the queue does. It never waits.
     pub fn close(self) -> (bool, Witnessed<'a, T>)
         ensures called { HasCalled self.entry ask.Close (reply.Close result.0) result.1 }
     {
@@ -193,7 +198,7 @@ impl<'a, T: Drop> Witnessed<'a, T> {
         }
     }
 
-    /// Takes in another witness of this queue, so that one look tells of both in one history. It costs a load.
+    /// Joins another witness of this queue, so that one look says of both that they are in one history. It costs one load.
     pub fn join(&mut self, other: Witnessed<'a, T>)
         requires same { table_of other ≡ table_of self.old }
         ensures joined { view_of self.new ≡ both_views (view_of self.old) (view_of other.entry) }
@@ -203,9 +208,9 @@ impl<'a, T: Drop> Witnessed<'a, T> {
         self.table.table.join(&mut self.witness, witness);
     }
 
-    /// At any moment, whatever other threads are in the midst of: what all calls of this queue have done so far is one run of a closable
-    /// queue, in which these calls, and those of each witness that was joined in, stand with their answers. `false`, and then nothing is
-    /// told: a call was stepped from outside. It costs a load.
+    /// At any moment, whatever other threads are doing: what all calls of this queue have done so far is one run of a closable queue, in
+    /// which these calls, and those of each joined witness, stand with their answers. `false`: a call was stepped from outside, and nothing
+    /// is known. It costs one load.
     pub fn look(&mut self) -> bool
         ensures run { result ≡ true → IsRunWith (view_of self.old) }
         ensures kept { (view_of self.new ≡ view_of self.old) × (table_of self.new ≡ table_of self.old) }

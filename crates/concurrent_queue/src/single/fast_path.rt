@@ -1,7 +1,7 @@
-//! The steps of a push and of a pop of one slot made on end, as `bounded::fast_path` makes them of a ring.
+//! The fast path of a push and of a pop of one slot: the operations of the machine in straight code.
 //!
-//! `push_fast` makes `Push`, `PushPut` and `PushUnlock`, `pop_fast` makes `Pop`, `PopTake` and `PopUnlock`: `single` gives the reason for
-//! each operation at that step. A step that does not lead on is left to the machine.
+//! `push_fast` makes `Push`, `PushPut` and `PushUnlock`, `pop_fast` makes `Pop`, `PopTake` and `PopUnlock`. After each operation that does
+//! not succeed the call goes on in the machine at that action, so that it can't be made twice.
 
 ghost use Rattle.std.specs.Prelude.{true, MatchResult};
 ghost use Rattle.concurrent_queue.specs.machine.FastPath.{PushesOnEnd, PopsOnEnd};
@@ -15,7 +15,7 @@ use crate::cells::{Cells, Word};
 use crate::error::{PopError, PushError};
 use crate::single::{CLOSED, FILLING, LOCKED, NOT_LOCKED, PUSHED, SLOT, SingleAction};
 
-/// Pushes or is refused, or answers the action at which the machine has to go on: its first where another call holds the slot.
+/// Pushes or is refused; or returns the action at which the machine has to go on: its first if another call holds the slot.
 #[inline(always)]
 pub(crate) fn push_fast<T: Drop, C: Cells<T>>(
     value: T,
@@ -26,6 +26,7 @@ pub(crate) fn push_fast<T: Drop, C: Cells<T>>(
     ensures answers { MatchResult result (λ r. MayPush true value (reply.Push r))
         (λ a. (r : QueueReply T) → MaySingle a r → MayPush true value r) }
 {
+    // Commit. Expecting 0 tests that the queue is open, the slot empty and unlocked, so a refusal read off `found` is true at this step.
     if let Err(found) = cells.compare_exchange(Word::State, 0, FILLING) {
         return if found & CLOSED != 0 {
             Ok(Err(PushError::Closed(value)))
@@ -35,15 +36,17 @@ pub(crate) fn push_fast<T: Drop, C: Cells<T>>(
             Err(SingleAction::Push(value))
         };
     }
+    // Put before the lock bit is cleared: a pop takes the message as soon as it finds the bit clear.
     if let Err(value) = cells.put(SLOT, value) {
         return Err(SingleAction::PushPut(value));
     }
+    // Last: from here on a pop can take the message. An `and` keeps the closed bit, which a store would erase.
     cells.fetch_and(Word::State, NOT_LOCKED);
     Ok(Ok(()))
 }
 
-/// Pops or is refused, or answers the action at which the machine has to go on: its first where another call holds the slot, or
-/// the queue is closed and not empty.
+/// Pops or is refused; or returns the action at which the machine has to go on: its first if another call holds the slot, or if the queue
+/// is closed and not empty.
 #[inline(always)]
 pub(crate) fn pop_fast<T: Drop, C: Cells<T>>(
     cells: &mut C,
@@ -53,6 +56,7 @@ pub(crate) fn pop_fast<T: Drop, C: Cells<T>>(
     ensures answers { MatchResult result (λ _. Unit {0})
         (λ a. (r : QueueReply T) → MaySingle a r → MayPop r) }
 {
+    // Commit. It locks the slot against pushes. Expecting an open queue, it can't lose the closed bit; of a closed one the machine pops.
     if let Err(found) = cells.compare_exchange(Word::State, PUSHED, LOCKED) {
         return if found & PUSHED != 0 {
             Err(SingleAction::Pop(found & NOT_LOCKED))
@@ -62,8 +66,10 @@ pub(crate) fn pop_fast<T: Drop, C: Cells<T>>(
             Ok(Err(PopError::Empty))
         };
     }
+    // Take before the lock bit is cleared: from then on a push can win the slot and put its message.
     match cells.take(SLOT) {
         Some(value) => {
+            // Last: from here on a push can win the slot. An `and` keeps the closed bit.
             cells.fetch_and(Word::State, NOT_LOCKED);
             Ok(Ok(value))
         }

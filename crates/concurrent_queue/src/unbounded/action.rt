@@ -1,4 +1,4 @@
-//! What a call of an unbounded queue does next, and what one step of it leaves.
+//! The program counter of a call of an unbounded queue, and what one step of it leaves.
 
 ghost use Rattle.std.specs.Prelude.{◌≡◌, None, Some};
 
@@ -91,7 +91,7 @@ pub(crate) struct UnboundedCall<T> {
     pub(crate) action: UnboundedAction<T>,
 }
 
-/// What one step leaves: the next action, what the step did, and how the call ended where it did.
+/// What one step leaves: the next action, what the step did, and how the call ended if it did.
 #[derive(Drop)]
 pub(crate) struct Progress<T> {
     pub(crate) action: UnboundedAction<T>,

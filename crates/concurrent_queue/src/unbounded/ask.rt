@@ -1,4 +1,4 @@
-//! Closing an unbounded queue, and its questions.
+//! Closing an unbounded queue, and the questions: whether it is closed or empty, and how many messages it holds.
 
 ghost use Rattle.std.specs.Prelude.{◌≡◌, ℕ, None};
 ghost use Rattle.concurrent_queue.specs.machine.BlocksWords.{tells};

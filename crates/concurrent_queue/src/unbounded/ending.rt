@@ -2,8 +2,7 @@
 
 use crate::call::QueueReply;
 
-/// How a call ends. A push and a displacing push, which never displaces here, are one machine: what each of them answers
-/// is told apart when it ends.
+/// How a call ends. A push and a displacing push, which never displaces here, are one machine; their answers are told apart at the end.
 #[derive(Drop)]
 pub(crate) enum Ending<T> {
     Sent,

@@ -1,4 +1,5 @@
-//! The steps of a pop from an unbounded queue.
+//! The steps of a pop from an unbounded queue. A pop is the only call that moves the head, and it alone touches the slot of the position
+//! that it has won, from the push's flag until it counts the read.
 
 ghost use Rattle.std.specs.Prelude.{◌≡◌, ℕ};
 ghost use Rattle.concurrent_queue.specs.machine.BlocksState.{number};

@@ -1,4 +1,5 @@
-//! The steps of a push into an unbounded queue.
+//! The steps of a push into an unbounded queue. A push is the only call that moves the tail, and it alone writes the slot and the flag of
+//! the position that it has won. A block that it holds is named by no word until it is stored, so the call stores it or retires it.
 
 ghost use Rattle.std.specs.Prelude.{◌≡◌, ℕ};
 ghost use Rattle.concurrent_queue.specs.machine.BlocksWords.{look_with, look_first, when_shut, after_swap};
@@ -116,7 +117,7 @@ pub(crate) fn push_return<T: Drop, C: Cells<T>>(value: T, held: u64, cells: &mut
     ensures ends { EndFollows (UnboundedAction.PushReturn value held) result }
     ensures deed { ProgressMakes C.did cells.old (UnboundedAction.PushReturn value held) cells.new result }
 {
-    // Give the unused block back before the refusal: no word names it, so nobody else could.
+    // Retire the unused block before the refusal: no word names it, so nobody else could.
     cells.retire(held);
     finish(Ending::Closed(value))
 }
@@ -309,7 +310,7 @@ pub(crate) fn push_give<T: Drop, C: Cells<T>>(held: u64, cells: &mut C) -> Progr
     ensures ends { EndFollows (UnboundedAction.PushGive held) result }
     ensures deed { ProgressMakes C.did cells.old (UnboundedAction.PushGive held) cells.new result }
 {
-    // Give the unused block back only now, so that no pop waits for this message while the call takes the lock of the spare list.
+    // Retire the unused block only now, so that no pop waits for this message while the call takes the lock of the spare list.
     cells.retire(held);
     finish(Ending::Sent)
 }

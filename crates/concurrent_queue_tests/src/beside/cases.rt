@@ -2,7 +2,7 @@
 
 use crate::beside::plain::{CHANGES, KINDS, Kind, Plain};
 use crate::beside::{ALL, Beside, Events, Other};
-use crate::checks::{expect_equal, expect_none};
+use crate::checks::expect_equal;
 use crate::said::{Said, replied};
 use crate::scarce::{Scarce, asked, cells_with};
 use crate::turns::form_of;
@@ -69,20 +69,31 @@ impl Start {
     /// The cells of the queue, and the list that they stand for. So many messages have passed through it before.
     fn begin(self, alloc: Global) -> Result<(Scarce, Plain), AllocError> {
         let mut cells = cells_with(alloc, self.capacity, BLOCKS)?;
+        pass(&mut cells, self.passed);
+        let plain = self.fill(&mut cells);
+        Ok((cells, plain))
+    }
+
+    /// Brings its messages in, and closes the queue if it is to be closed: the list then.
+    fn fill(self, cells: &mut Scarce) -> Plain {
         let mut plain = Plain::new(self.bound);
-        for message in 0..self.passed {
-            asked(&mut cells, QueueAsk::Push(message));
-            asked(&mut cells, QueueAsk::Pop);
-        }
         for message in 1..self.messages.saturating_add(1) {
-            asked(&mut cells, QueueAsk::Push(message));
+            asked(cells, QueueAsk::Push(message));
             plain.append(message);
         }
         if self.closed {
-            asked(&mut cells, QueueAsk::Close);
-            plain.closed = true;
+            asked(cells, QueueAsk::Close);
         }
-        Ok((cells, plain))
+        plain.closed = self.closed;
+        plain
+    }
+}
+
+/// So many messages come in and leave.
+fn pass(cells: &mut Scarce, messages: u64) {
+    for message in 0..messages {
+        asked(cells, QueueAsk::Push(message));
+        asked(cells, QueueAsk::Pop);
     }
 }
 
@@ -113,7 +124,7 @@ fn make<R: Wait>(rt: &R, start: Start, cells: Scarce, case: Case) -> Outcome {
         came_whole: false,
     };
     let call = QueueCall::new(case.kind.ask(7));
-    let said = replied(&whole::complete(rt, call, &mut beside));
+    let said = replied(whole::complete(rt, call, &mut beside));
     let made = beside.made;
     beside.let_on(ALL, ALL);
     beside.let_on(ALL, ALL);
@@ -159,7 +170,7 @@ impl Outcome {
             if place == comes && is_to_come {
                 plain.append(7);
             }
-            if let Some(Some(event)) = self.events.events.get(place) {
+            if let Some(event) = self.events.events.get(place) {
                 let message = plain.do_event(event);
                 if message != 0 && event.by < 2 {
                     took[event.by] = message;
@@ -264,7 +275,8 @@ fn check<R: Wait + Abort>(
             closed,
         };
         let wrong = wrong_in(rt, alloc, start);
-        expect_none(rt, &(bound, passed, messages, closed), &wrong);
+        let place = (bound, passed, messages, closed);
+        expect_equal(rt, &(place, wrong), &(place, None));
     }
 }
 

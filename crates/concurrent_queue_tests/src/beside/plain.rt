@@ -120,6 +120,21 @@ pub(crate) struct Event {
     pub(crate) by: usize,
 }
 
+impl Event {
+    /// Whether the oldest message left.
+    fn takes(&self) -> bool {
+        matches!(
+            self.mark,
+            QueueMark::Take | QueueMark::TakeDisplaced | QueueMark::Replace
+        )
+    }
+
+    /// Whether the call's message came in.
+    fn appends(&self) -> bool {
+        matches!(self.mark, QueueMark::Append | QueueMark::Replace)
+    }
+}
+
 /// How many messages a list of these tests has room for.
 const ROOM: usize = 8;
 
@@ -170,17 +185,11 @@ impl Plain {
 
     /// Does what a step did, and answers the message that it took, or 0.
     pub(crate) fn do_event(&mut self, event: &Event) -> u64 {
-        let mut taken = 0;
-        match event.mark {
-            QueueMark::Nothing => {}
-            QueueMark::Append => self.append(event.message),
-            QueueMark::Take | QueueMark::TakeDisplaced => taken = self.take(),
-            QueueMark::Replace => {
-                taken = self.take();
-                self.append(event.message);
-            }
-            QueueMark::Close => self.closed = true,
+        let taken = if event.takes() { self.take() } else { 0 };
+        if event.appends() {
+            self.append(event.message);
         }
+        self.closed = self.closed | matches!(event.mark, QueueMark::Close);
         taken
     }
 

@@ -34,8 +34,21 @@ fn next_draw(number: u64) -> u64 {
         .wrapping_add(1_442_695_040_888_963_407)
 }
 
-/// Pushes, displaces and pops, as drawn from this number on: how many messages it made, and how many came back to it, of which each
-/// was refused, displaced or popped, and dropped.
+/// Pushes, displaces or pops: whether a message came back, which was refused, displaced or popped, and dropped.
+fn comes_back<'a, R: Wait>(
+    rt: &R,
+    queue: &ConcurrentQueue<Counted<'a>>,
+    drops: &'a AtomicUsize,
+    kind: u64,
+) -> bool {
+    match kind {
+        0 => queue.push(rt, Counted { drops }).is_err(),
+        1 => !matches!(queue.force_push(rt, Counted { drops }), Ok(None)),
+        _ => queue.pop(rt).is_ok(),
+    }
+}
+
+/// Makes calls as drawn from this number on: how many messages it made, and how many came back to it.
 fn draw_calls<'a, R: Wait>(
     rt: &R,
     queue: &ConcurrentQueue<Counted<'a>>,
@@ -48,13 +61,8 @@ fn draw_calls<'a, R: Wait>(
     for _ in 0..CALLS {
         drawn = next_draw(drawn);
         let kind = (drawn >> 33) % 3;
-        let came = match kind {
-            0 => queue.push(rt, Counted { drops }).is_err(),
-            1 => !matches!(queue.force_push(rt, Counted { drops }), Ok(None)),
-            _ => queue.pop(rt).is_ok(),
-        };
         made = made.wrapping_add(usize::from(kind < 2));
-        back = back.wrapping_add(usize::from(came));
+        back = back.wrapping_add(usize::from(comes_back(rt, queue, drops, kind)));
     }
     [made, back]
 }
@@ -90,7 +98,8 @@ fn each_is_dropped<R: Threads + Wait + Sync>(
 ) -> Option<[bool; 3]> {
     let drops = AtomicUsize::new(0);
     let queue = opened(alloc, capacity)?;
-    let [made, back] = draw_at_once(rt, alloc, &queue, &drops, seed).ok()?;
+    let drawn = draw_at_once(rt, alloc, &queue, &drops, seed);
+    let [made, back] = drawn.unwrap_or([0, usize::MAX]);
     let before = drops.load(Ordering::SeqCst);
     let held = queue.len(rt);
     drop(queue);

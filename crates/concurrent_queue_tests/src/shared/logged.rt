@@ -3,11 +3,11 @@
 use crate::checks::{expect_equal, expect_true};
 use crate::log::{Did, Line, Log, To, blank};
 use crate::said::{Said, popped, pushed, replied};
-use crate::shared::{Working, at_once, opened};
+use crate::shared::{Working, opened, wrong_at_once};
 use concurrent_queue::call::QueueAsk;
 use concurrent_queue::queue_call::QueueCall;
 use concurrent_queue::shared::queue::ConcurrentQueue;
-use std::alloc::{AllocError, Global};
+use std::alloc::Global;
 use std::sync::Wait;
 use std::thread::Threads;
 
@@ -71,7 +71,7 @@ fn logs_are<R: Wait>(
     let (answer, log) = queue.pop_seen(rt, log);
     let pop = is_logged(log, alloc, wanted[1], [popped(&answer), ("popped", 5)]);
     let (reply, log) = queue.complete_seen(rt, QueueCall::new(QueueAsk::Pop), log);
-    let none = is_logged(log, alloc, wanted[2], [replied(&reply), ("empty", 0)]);
+    let none = is_logged(log, alloc, wanted[2], [replied(reply), ("empty", 0)]);
     push && pop && none
 }
 
@@ -148,15 +148,32 @@ fn wrong(log: Log<'_>, alloc: Global, said: Said) -> u64 {
 /// How many calls each of two threads makes.
 const CALLS: u64 = 2_000;
 
+/// How many logs of a push are not of one call, 0 or 1.
+fn wrong_push<R: Wait>(
+    rt: &R,
+    alloc: Global,
+    queue: &ConcurrentQueue<u64>,
+    message: u64,
+    log: Log<'_>,
+) -> u64 {
+    let (answer, log) = queue.push_seen(rt, message, log);
+    wrong(log, alloc, pushed(&answer))
+}
+
+/// The same of a pop.
+fn wrong_pop<R: Wait>(rt: &R, alloc: Global, queue: &ConcurrentQueue<u64>, log: Log<'_>) -> u64 {
+    let (answer, log) = queue.pop_seen(rt, log);
+    wrong(log, alloc, popped(&answer))
+}
+
 /// Pushes and pops in turn: how many logs are not of one call.
 pub(crate) fn wrong_logs<R: Wait>(rt: &R, alloc: Global, queue: &ConcurrentQueue<u64>) -> u64 {
     let lines = blank(alloc);
+    let log = Log { lines: &lines };
     let mut found = 0u64;
     for message in 1..CALLS {
-        let (answer, log) = queue.push_seen(rt, message, Log { lines: &lines });
-        found = found.wrapping_add(wrong(log, alloc, pushed(&answer)));
-        let (answer, log) = queue.pop_seen(rt, log);
-        found = found.wrapping_add(wrong(log, alloc, popped(&answer)));
+        found = found.wrapping_add(wrong_push(rt, alloc, queue, message, log));
+        found = found.wrapping_add(wrong_pop(rt, alloc, queue, log));
     }
     found
 }
@@ -167,13 +184,7 @@ fn two_at_once<R: Threads + Wait + Sync>(
     alloc: Global,
     queue: &ConcurrentQueue<u64>,
 ) -> bool {
-    match &at_once(rt, alloc, queue, (Working::Logged, 2)) {
-        Ok(done) => match done.as_slice() {
-            [one, other] => one.0 == 0 && other.0 == 0,
-            _ => false,
-        },
-        Err(AllocError) => false,
-    }
+    wrong_at_once(rt, alloc, queue, (Working::Logged, 2), 2) == Some(0)
 }
 
 #[test]

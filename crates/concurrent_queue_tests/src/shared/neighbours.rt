@@ -21,15 +21,15 @@ fn pop_within<R: Wait>(
     pop: &mut QueueCall<u64>,
     lines: &Lines,
 ) -> Said {
-    let mut log = Log { lines };
+    let mut said = None;
     for _ in 0..16 {
-        let (reply, seen) = queue.step_seen(rt, pop, log);
-        log = seen;
-        if let Some(reply) = reply {
-            return replied(&reply);
+        let (reply, _) = queue.step_seen(rt, pop, Log { lines });
+        said = reply.map(replied);
+        if said.is_some() {
+            break;
         }
     }
-    ("", 0)
+    said.unwrap_or(("", 0))
 }
 
 /// How often a log has that a slot was emptied, or was to be.

@@ -9,6 +9,15 @@ use concurrent_queue::shared::queue::ConcurrentQueue;
 use std::alloc::Global;
 use std::sync::Wait;
 
+/// Makes a step of a call: what it answers, if it ends.
+fn stepped<R: Wait>(
+    rt: &R,
+    queue: &ConcurrentQueue<u64>,
+    call: &mut QueueCall<u64>,
+) -> Option<Said> {
+    queue.step(rt, call).map(replied)
+}
+
 /// What a call answers that makes so many steps at most; nothing where it is still under way after them.
 pub(crate) fn answer_within<R: Wait>(
     rt: &R,
@@ -16,12 +25,14 @@ pub(crate) fn answer_within<R: Wait>(
     call: &mut QueueCall<u64>,
     steps: u32,
 ) -> Said {
+    let mut said = None;
     for _ in 0..steps {
-        if let Some(reply) = queue.step(rt, call) {
-            return replied(&reply);
+        said = stepped(rt, queue, call);
+        if said.is_some() {
+            break;
         }
     }
-    ("", 0)
+    said.unwrap_or(("", 0))
 }
 
 /// Makes a call of so many steps at most, and says its answer.
@@ -46,11 +57,11 @@ enum Way {
 /// What the methods of a closing and of the questions answer.
 fn by_methods(queue: &ConcurrentQueue<u64>) -> [Said; 5] {
     [
-        replied(&QueueReply::Close(queue.close())),
-        replied(&QueueReply::Flag(queue.is_closed())),
-        replied(&QueueReply::Flag(queue.is_empty())),
-        replied(&QueueReply::Flag(queue.is_full())),
-        replied(&QueueReply::Cap(queue.capacity())),
+        replied(QueueReply::Close(queue.close())),
+        replied(QueueReply::Flag(queue.is_closed())),
+        replied(QueueReply::Flag(queue.is_empty())),
+        replied(QueueReply::Flag(queue.is_full())),
+        replied(QueueReply::Cap(queue.capacity())),
     ]
 }
 

@@ -2,29 +2,28 @@
 //! told once a call was stepped from outside.
 
 use crate::checks::expect_true;
-use crate::shared::{opened, push_and_pop};
+use crate::shared::{Working, opened, wrong_at_once};
 use concurrent_queue::queue_call::QueueCall;
 use concurrent_queue::shared::queue::ConcurrentQueue;
 use std::alloc::Global;
 use std::sync::Wait;
-use std::thread;
 use std::thread::Threads;
 
 /// How many messages a thread pushes with a witness, each followed by a look.
 const LOOKS: u64 = 500;
 
-/// Pushes messages with a witness, and looks after each: whether each look was told.
-fn looks_between<R: Wait>(rt: &R, queue: &ConcurrentQueue<u64>) -> bool {
+/// Pushes messages with a witness, and looks after each: how many looks were not told.
+pub(crate) fn untold_looks<R: Wait>(rt: &R, queue: &ConcurrentQueue<u64>) -> u64 {
     let Some(mut calls) = queue.witnessed() else {
-        return false;
+        return LOOKS;
     };
-    let mut told = true;
+    let mut untold = 0u64;
     for message in 0..LOOKS {
         let (_, next) = calls.push(rt, message);
         calls = next;
-        told = calls.look() && told;
+        untold = untold.wrapping_add(u64::from(!calls.look()));
     }
-    told
+    untold
 }
 
 /// Whether each look is told beside two threads that push, displace and pop.
@@ -32,19 +31,7 @@ fn told_beside_others<R: Threads + Wait + Sync>(rt: &R, alloc: Global, capacity:
     let Some(queue) = opened(alloc, capacity) else {
         return false;
     };
-    let queue = &queue;
-    let (told, _) = thread::join(
-        rt,
-        || looks_between(rt, queue),
-        || {
-            thread::join(
-                rt,
-                || push_and_pop(rt, queue, true),
-                || push_and_pop(rt, queue, true),
-            )
-        },
-    );
-    told
+    wrong_at_once(rt, alloc, &queue, (Working::Looked, 3), 1) == Some(0)
 }
 
 /// Whether calls with a witness answer as they have to in a queue of one place, and a look is told just as long as no call was stepped.

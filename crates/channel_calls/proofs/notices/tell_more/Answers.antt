@@ -7,7 +7,7 @@ use Rattle.event_listener.specs.declared.notify.Notify.{Notify}
 use Rattle.channel_calls.proofs.NoticeFacts.{answer_by, more_told, more_woken}
 use Rattle.channel_calls.proofs.notices.tell_more.Goals as goal
 
--- the notice has as many tags as are asked for
+-- the notification has as many tags as are asked for
 abbrev gives : Additional Notify → Result (Unit {0}) NoMemory → Additional Notify → Type 0
 gives s r t = (r ≡ Ok tt) × (t.inner ≡ s.inner)
 

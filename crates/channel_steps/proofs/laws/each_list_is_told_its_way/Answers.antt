@@ -1,4 +1,4 @@
--- Who brings or takes a message tells one more, and only who closes tells all who wait for it.
+-- One that brings or takes a message tells one more, and only who closes tells all that wait for it.
 use Rattle.channel_steps.proofs.every_run.Notices.{tellings_stay_fit, tellings_always_fit}
 use Rattle.channel_steps.proofs.laws.each_list_is_told_its_way.Goals as goal
 

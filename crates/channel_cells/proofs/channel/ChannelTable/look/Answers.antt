@@ -1,4 +1,5 @@
 use Rattle.channel_history.specs.Machine.{states}
+use Rattle.channel_cells.proofs.LastHandle.{last_handle_closes}
 use Rattle.channel_cells.proofs.channel.ChannelTable.look.Goals as goal
 
 pub returns-clause-told : goal.returns-clause-told
@@ -21,9 +22,11 @@ returns-clause-told g c =
       listeners = c.registrations_are_live.ensures.live v.form all cells senders receivers history;
       run = λ lasts.
           let says = c.histories_are_runs.ensures.runs v.form all cells senders receivers has history lasts in
+          let moment = c.each_moment_is_said.ensures.said v.form all cells senders receivers history says in
           record {
             says = says;
-            moment = c.each_moment_is_said.ensures.said v.form all cells senders receivers history says;
+            moment = moment;
+            last = last_handle_closes v.form all cells senders receivers history says moment;
             accounts = c.histories_are_accounted.ensures.accounted v.form all cells senders receivers history says;
             rest = c.nobody_is_missed_at_rest.ensures.rest v.form all cells senders receivers history says;
           };

@@ -21,14 +21,16 @@ call_alone-requires-clause-room g c =
     rw (inside_is c.self.inside.world_state c.args.self.now c.self.view_is)
     (wakes_few laws.refused (world_state_of c.args.self.now) k.stands c.requires.quiet c.args.call laws.answered c.requires.accepted c.in-Some.room c.in-Some.ensures)
 
-pub invariant_of-self : goal.invariant_of-self
-invariant_of-self g c =
+pub returns-clause-leads : goal.returns-clause-leads
+returns-clause-leads g c =
     let a = c.call_alone.ensures in
     let accepted = refused_alike c.a_call_made_alone_is_the_models.ensures.refused (world_state_of c.args.self.now) c.keeps_names.ensures.stands c.requires.quiet c.args.call
     ∙ c.requires.accepted in
-    stands_led (world_state_of c.args.self.now) c.call_alone.new.self _ c.keeps_names.ensures.stands
-    (leads_whatever c.args.call (world_state_of c.args.self.now) c.call_alone.new.self c.call_alone.result c.requires.quiet
-    accepted (rw (sym (inside_is c.self.inside.world_state c.args.self.now c.self.view_is)) a.ok) (rw (sym (inside_is c.self.inside.world_state c.args.self.now c.self.view_is)) a.err))
+    leads_whatever c.args.call (world_state_of c.args.self.now) c.call_alone.new.self c.call_alone.result c.requires.quiet
+    accepted (rw (sym (inside_is c.self.inside.world_state c.args.self.now c.self.view_is)) a.ok) (rw (sym (inside_is c.self.inside.world_state c.args.self.now c.self.view_is)) a.err)
+
+pub invariant_of-self : goal.invariant_of-self
+invariant_of-self g c = stands_led (world_state_of c.args.self.now) c.call_alone.new.self _ c.keeps_names.ensures.stands (returns-clause-leads g c)
 
 pub returns-clause-ok : goal.returns-clause-ok
 returns-clause-ok g c =
@@ -39,11 +41,3 @@ returns-clause-ok g c =
 
 pub returns-in_default-clause-leads : goal.returns-in_default-clause-leads
 returns-in_default-clause-leads g c = leads_nowhere (world_state_of c.args.self.now)
-
-pub returns-clause-leads : goal.returns-clause-leads
-returns-clause-leads g c =
-    let a = c.call_alone.ensures in
-    let accepted = refused_alike c.a_call_made_alone_is_the_models.ensures.refused (world_state_of c.args.self.now) c.keeps_names.ensures.stands c.requires.quiet c.args.call
-    ∙ c.requires.accepted in
-    leads_whatever c.args.call (world_state_of c.args.self.now) c.call_alone.new.self c.call_alone.result c.requires.quiet
-    accepted (rw (sym (inside_is c.self.inside.world_state c.args.self.now c.self.view_is)) a.ok) (rw (sym (inside_is c.self.inside.world_state c.args.self.now c.self.view_is)) a.err)

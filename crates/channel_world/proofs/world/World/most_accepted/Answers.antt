@@ -1,4 +1,4 @@
--- From the numbers of those who are pending on each line, and of the places that are free.
+-- From the numbers of those that are pending on each line, and of the places that are free.
 use Rattle.std.proofs.Common.{arith, ◌≡◌, ◌∙◌, ◌+◌, length, false, Some, sym}
 use Rattle.channel_calls.specs.declared.stage.WaitList.TheVariants.{Sends, Receives, Streams}
 use Rattle.channel_world.specs.Settled.{pending_on}

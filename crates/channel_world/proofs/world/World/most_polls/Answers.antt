@@ -1,4 +1,4 @@
--- From the numbers of those who are pending on each line.
+-- From the numbers of those that are pending on each line.
 use Rattle.std.proofs.Common.{arith, ◌+◌, ◌*◌, ◌≡◌, ◌∙◌, List, length, vec_len, ap}
 use Rattle.channel_world_model.specs.declared.name.Waiter.{Waiter}
 use Rattle.channel_world.specs.World.{at_rest}

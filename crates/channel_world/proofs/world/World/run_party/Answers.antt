@@ -10,6 +10,7 @@ use Rattle.channel_world.proofs.HeadlineFacts.{headline, ends_in_front, counted}
 use Rattle.channel_world_runs.proofs.WorldStateFacts.{ran_none}
 use Rattle.channel_world.proofs.PartyFacts.{Ended, ended_refused, ended_well, not_silent, answer_ends, once_silent, none_written, party_more, silent_ends, silent_more, some_written}
 use Rattle.channel_world.proofs.Inside.{world_state_of}
+use Rattle.channel_world.proofs.world.World.run_party.Given.{Over}
 use Rattle.channel_world.proofs.world.World.run_party.Goals as goal
 
 pub loop-made-init : goal.loop-made-init
@@ -26,10 +27,9 @@ loop-made-init g c =
       empty = c.new-steps.ensures.items;
     }
 
-pub returns-then-not-have_room-clause-headline : goal.returns-then-not-have_room-clause-headline
-returns-then-not-have_room-clause-headline g c =
-    let ended : Ended c.args.party (world_state_of c.args.self.now) c.stopped.result.trace.items c.stopped.result.stopped (world_state_of c.loop-made.self) =
-    (let trace = c.loop-made.trace.items in
+ended_roomless : (g : Over) (c : goal.After-drop-steps-then-not-have_room g) → Ended c.args.party (world_state_of c.args.self.now) c.stopped.result.trace.items c.stopped.result.stopped (world_state_of c.loop-made.self)
+ended_roomless g c =
+    let trace = c.loop-made.trace.items in
     let some : 0 < length trace = some_written (vec_len c.have_room.new.trace) c.have_room.new.trace.items trace
     (sym c.is_empty.ensures ∙ c.if-is_empty.false) c.have_room.new.trace.ok.0 c.have_room.ensures.trace in
     ended_refused c.args.party c.loop-made._made (world_state_of c.args.self.now) trace (world_state_of c.loop-made.self) (world_state_of c.loop-made.self) NoMemory
@@ -40,7 +40,11 @@ returns-then-not-have_room-clause-headline g c =
       refl,
     ))
     (ap (λ t. t.items) c.stopped.ensures.trace ∙ c.have_room.ensures.trace) c.stopped.ensures.stopped
-    (c.have_room.new.trace.ok.0 ∙ ap (λ (t : List (Entry g.row.T.Denot)). length t) c.have_room.ensures.trace)) in
+    (c.have_room.new.trace.ok.0 ∙ ap (λ (t : List (Entry g.row.T.Denot)). length t) c.have_room.ensures.trace)
+
+pub returns-then-not-have_room-clause-headline : goal.returns-then-not-have_room-clause-headline
+returns-then-not-have_room-clause-headline g c =
+    let ended = ended_roomless g c in
     headline _ (refused_of c.args.party c.stopped.result.stopped) (world_state_of c.args.self.now) c.stopped.result.trace.items
     c.stopped.result.stopped (world_state_of c.loop-made.self) ended.ran ended.stops
 
@@ -52,19 +56,7 @@ returns-then-not-have_room-clause-answered g c =
 
 pub returns-then-not-have_room-clause-leads : goal.returns-then-not-have_room-clause-leads
 returns-then-not-have_room-clause-leads g c =
-    let ended : Ended c.args.party (world_state_of c.args.self.now) c.stopped.result.trace.items c.stopped.result.stopped (world_state_of c.loop-made.self) =
-    (let trace = c.loop-made.trace.items in
-    let some : 0 < length trace = some_written (vec_len c.have_room.new.trace) c.have_room.new.trace.items trace
-    (sym c.is_empty.ensures ∙ c.if-is_empty.false) c.have_room.new.trace.ok.0 c.have_room.ensures.trace in
-    ended_refused c.args.party c.loop-made._made (world_state_of c.args.self.now) trace (world_state_of c.loop-made.self) (world_state_of c.loop-made.self) NoMemory
-    c.stopped.result.trace.items c.stopped.result.stopped (vec_len c.have_room.new.trace) c.loop-made.invariant.count
-    c.loop-made.invariant.ran (ran_none (step.Step c.args.party ∷ []) (world_state_of c.loop-made.self)) (inr (
-      c.loop-made.invariant.at_work
-          some,
-      refl,
-    ))
-    (ap (λ t. t.items) c.stopped.ensures.trace ∙ c.have_room.ensures.trace) c.stopped.ensures.stopped
-    (c.have_room.new.trace.ok.0 ∙ ap (λ (t : List (Entry g.row.T.Denot)). length t) c.have_room.ensures.trace)) in
+    let ended = ended_roomless g c in
     record {
       on = ran_leads _ (refused_of c.args.party c.stopped.result.stopped) (world_state_of c.args.self.now) c.stopped.result.trace.items (world_state_of c.loop-made.self)
           ended.ran;
@@ -72,89 +64,73 @@ returns-then-not-have_room-clause-leads g c =
 
 pub returns-then-not-have_room-clause-messages : goal.returns-then-not-have_room-clause-messages
 returns-then-not-have_room-clause-messages g c =
-    let ended : Ended c.args.party (world_state_of c.args.self.now) c.stopped.result.trace.items c.stopped.result.stopped (world_state_of c.loop-made.self) =
-    (let trace = c.loop-made.trace.items in
-    let some : 0 < length trace = some_written (vec_len c.have_room.new.trace) c.have_room.new.trace.items trace
-    (sym c.is_empty.ensures ∙ c.if-is_empty.false) c.have_room.new.trace.ok.0 c.have_room.ensures.trace in
-    ended_refused c.args.party c.loop-made._made (world_state_of c.args.self.now) trace (world_state_of c.loop-made.self) (world_state_of c.loop-made.self) NoMemory
-    c.stopped.result.trace.items c.stopped.result.stopped (vec_len c.have_room.new.trace) c.loop-made.invariant.count
-    c.loop-made.invariant.ran (ran_none (step.Step c.args.party ∷ []) (world_state_of c.loop-made.self)) (inr (
-      c.loop-made.invariant.at_work
-          some,
-      refl,
-    ))
-    (ap (λ t. t.items) c.stopped.ensures.trace ∙ c.have_room.ensures.trace) c.stopped.ensures.stopped
-    (c.have_room.new.trace.ok.0 ∙ ap (λ (t : List (Entry g.row.T.Denot)). length t) c.have_room.ensures.trace)) in
+    let ended = ended_roomless g c in
     counted _ (refused_of c.args.party c.stopped.result.stopped) (world_state_of c.args.self.now) c.stopped.result.trace.items (world_state_of c.loop-made.self)
     ended.ran c.keeps.ensures
 
+once_answered : (g : Over) (c : goal.After-drop-steps-then-answered g) → StepsOnce c.args.party c.loop-made.self c.loop-made.trace.items c.in-Ok.answered c.step_party.new.trace.items c.step_party.new.self
+once_answered g c =
+    subst (λ (t : List (Entry g.row.T.Denot)). StepsOnce c.args.party c.loop-made.self t c.in-Ok.answered
+    c.step_party.new.trace.items c.step_party.new.self) c.have_room.ensures.trace c.in-Ok.ensures.made
+
+one_longer : (g : Over) (c : goal.After-drop-steps-then-answered g) → length c.step_party.new.trace.items ≡ c.loop-made._made + 1
+one_longer g c =
+    let count = c.loop-made.invariant.count in
+    let once = once_answered g c in
+    let w = ap (λ (t : List (Entry g.row.T.Denot)). length t) once.written in
+    grind (arith, common_steps, w, count)
+
+ended_answered : (g : Over) (c : goal.After-drop-steps-then-answered g)
+    → Ended c.args.party (world_state_of c.args.self.now) c.step_party.new.trace.items None (world_state_of c.step_party.new.self)
+ended_answered g c =
+    ended_well c.args.party (c.loop-made._made + 1) (world_state_of c.args.self.now) c.step_party.new.trace.items (world_state_of c.step_party.new.self) (one_longer g c)
+    (party_more c.args.party c.loop-made._made (world_state_of c.args.self.now) c.loop-made.trace.items (world_state_of c.loop-made.self) c.in-Ok.answered
+    c.step_party.new.trace.items (world_state_of c.step_party.new.self) c.loop-made.invariant.ran (once_answered g c))
+
 pub returns-then-answered-clause-headline : goal.returns-then-answered-clause-headline
 returns-then-answered-clause-headline g c =
-    let ended : Ended c.args.party (world_state_of c.args.self.now) c.step_party.new.trace.items None (world_state_of c.step_party.new.self) =
-    (let once = (subst (λ (t : List (Entry g.row.T.Denot)). StepsOnce c.args.party c.loop-made.self t c.in-Ok.answered
-    c.step_party.new.trace.items c.step_party.new.self) c.have_room.ensures.trace c.in-Ok.ensures.made) in
-    let count = c.loop-made.invariant.count in
-    let long : length c.step_party.new.trace.items ≡ c.loop-made._made + 1 =
-    (let w = ap (λ (t : List (Entry g.row.T.Denot)). length t) once.written in grind (arith, common_steps, w, count)) in
-    ended_well c.args.party (c.loop-made._made + 1) (world_state_of c.args.self.now) c.step_party.new.trace.items (world_state_of c.step_party.new.self) long
-    (party_more c.args.party c.loop-made._made (world_state_of c.args.self.now) c.loop-made.trace.items (world_state_of c.loop-made.self) c.in-Ok.answered
-    c.step_party.new.trace.items (world_state_of c.step_party.new.self) c.loop-made.invariant.ran once)) in
+    let ended = ended_answered g c in
     headline _ (refused_of c.args.party None) (world_state_of c.args.self.now) c.step_party.new.trace.items None (world_state_of c.step_party.new.self) ended.ran
     ended.stops
 
 pub returns-then-answered-clause-answered : goal.returns-then-answered-clause-answered
 returns-then-answered-clause-answered g c =
-    let once = (subst (λ (t : List (Entry g.row.T.Denot)). StepsOnce c.args.party c.loop-made.self t c.in-Ok.answered
-    c.step_party.new.trace.items c.step_party.new.self) c.have_room.ensures.trace c.in-Ok.ensures.made) in
+    let once = once_answered g c in
     subst (λ (t : List (Entry g.row.T.Denot)). EndsWithAnswer t None) (sym once.written)
     (answer_ends c.loop-made.trace.items once.entry c.loop-made.invariant.silent)
 
 pub returns-then-answered-clause-leads : goal.returns-then-answered-clause-leads
 returns-then-answered-clause-leads g c =
-    let ended : Ended c.args.party (world_state_of c.args.self.now) c.step_party.new.trace.items None (world_state_of c.step_party.new.self) =
-    (let once = (subst (λ (t : List (Entry g.row.T.Denot)). StepsOnce c.args.party c.loop-made.self t c.in-Ok.answered
-    c.step_party.new.trace.items c.step_party.new.self) c.have_room.ensures.trace c.in-Ok.ensures.made) in
-    let count = c.loop-made.invariant.count in
-    let long : length c.step_party.new.trace.items ≡ c.loop-made._made + 1 =
-    (let w = ap (λ (t : List (Entry g.row.T.Denot)). length t) once.written in grind (arith, common_steps, w, count)) in
-    ended_well c.args.party (c.loop-made._made + 1) (world_state_of c.args.self.now) c.step_party.new.trace.items (world_state_of c.step_party.new.self) long
-    (party_more c.args.party c.loop-made._made (world_state_of c.args.self.now) c.loop-made.trace.items (world_state_of c.loop-made.self) c.in-Ok.answered
-    c.step_party.new.trace.items (world_state_of c.step_party.new.self) c.loop-made.invariant.ran once)) in
+    let ended = ended_answered g c in
     record { on = ran_leads _ (refused_of c.args.party None) (world_state_of c.args.self.now) c.step_party.new.trace.items (world_state_of c.step_party.new.self) ended.ran }
 
 pub returns-then-answered-clause-messages : goal.returns-then-answered-clause-messages
 returns-then-answered-clause-messages g c =
-    let ended : Ended c.args.party (world_state_of c.args.self.now) c.step_party.new.trace.items None (world_state_of c.step_party.new.self) =
-    (let once = (subst (λ (t : List (Entry g.row.T.Denot)). StepsOnce c.args.party c.loop-made.self t c.in-Ok.answered
-    c.step_party.new.trace.items c.step_party.new.self) c.have_room.ensures.trace c.in-Ok.ensures.made) in
-    let count = c.loop-made.invariant.count in
-    let long : length c.step_party.new.trace.items ≡ c.loop-made._made + 1 =
-    (let w = ap (λ (t : List (Entry g.row.T.Denot)). length t) once.written in grind (arith, common_steps, w, count)) in
-    ended_well c.args.party (c.loop-made._made + 1) (world_state_of c.args.self.now) c.step_party.new.trace.items (world_state_of c.step_party.new.self) long
-    (party_more c.args.party c.loop-made._made (world_state_of c.args.self.now) c.loop-made.trace.items (world_state_of c.loop-made.self) c.in-Ok.answered
-    c.step_party.new.trace.items (world_state_of c.step_party.new.self) c.loop-made.invariant.ran once)) in
+    let ended = ended_answered g c in
     counted _ (refused_of c.args.party None) (world_state_of c.args.self.now) c.step_party.new.trace.items (world_state_of c.step_party.new.self) ended.ran
     c.keeps.ensures
 
 pub returns-then-answered-clause-short : goal.returns-then-answered-clause-short
 returns-then-answered-clause-short g c = λ none silent.
-    let once = (subst (λ (t : List (Entry g.row.T.Denot)). StepsOnce c.args.party c.loop-made.self t c.in-Ok.answered
-    c.step_party.new.trace.items c.step_party.new.self) c.have_room.ensures.trace c.in-Ok.ensures.made) in
+    let once = once_answered g c in
     absurd (not_silent c.loop-made.trace.items once.entry (sym c.if-answered.true ∙ once.told)
     (subst (λ (t : List (Entry g.row.T.Denot)). AreSilent t) once.written silent))
 
-pub returns-in-Err-clause-headline : goal.returns-in-Err-clause-headline
-returns-in-Err-clause-headline g c =
-    let ended : Ended c.args.party (world_state_of c.args.self.now) c.stopped-in-Err.result.trace.items c.stopped-in-Err.result.stopped
-    (world_state_of c.step_party.new.self) =
-    (let refused = (subst (λ (t : List (Entry g.row.T.Denot)). IsRefused c.args.party c.loop-made.self t c.in-Err.why
+ended_refusing : (g : Over) (c : goal.After-drop-steps-in-Err g) → Ended c.args.party (world_state_of c.args.self.now) c.stopped-in-Err.result.trace.items c.stopped-in-Err.result.stopped
+    (world_state_of c.step_party.new.self)
+ended_refusing g c =
+    let refused = (subst (λ (t : List (Entry g.row.T.Denot)). IsRefused c.args.party c.loop-made.self t c.in-Err.why
     c.step_party.new.trace.items c.step_party.new.self) c.have_room.ensures.trace c.in-Err.ensures.refused) in
     ended_refused c.args.party c.loop-made._made (world_state_of c.args.self.now) c.loop-made.trace.items (world_state_of c.loop-made.self) (world_state_of c.step_party.new.self)
     c.in-Err.why
     c.stopped-in-Err.result.trace.items c.stopped-in-Err.result.stopped (vec_len c.step_party.new.trace) c.loop-made.invariant.count
     c.loop-made.invariant.ran refused.ran refused.reason (ap (λ t. t.items) c.stopped-in-Err.ensures.trace ∙ refused.unwritten)
     c.stopped-in-Err.ensures.stopped
-    (c.step_party.new.trace.ok.0 ∙ ap (λ (t : List (Entry g.row.T.Denot)). length t) refused.unwritten)) in
+    (c.step_party.new.trace.ok.0 ∙ ap (λ (t : List (Entry g.row.T.Denot)). length t) refused.unwritten)
+
+pub returns-in-Err-clause-headline : goal.returns-in-Err-clause-headline
+returns-in-Err-clause-headline g c =
+    let ended = ended_refusing g c in
     headline _ (refused_of c.args.party c.stopped-in-Err.result.stopped) (world_state_of c.args.self.now) c.stopped-in-Err.result.trace.items
     c.stopped-in-Err.result.stopped (world_state_of c.step_party.new.self) ended.ran ended.stops
 
@@ -168,16 +144,7 @@ returns-in-Err-clause-answered g c =
 
 pub returns-in-Err-clause-leads : goal.returns-in-Err-clause-leads
 returns-in-Err-clause-leads g c =
-    let ended : Ended c.args.party (world_state_of c.args.self.now) c.stopped-in-Err.result.trace.items c.stopped-in-Err.result.stopped
-    (world_state_of c.step_party.new.self) =
-    (let refused = (subst (λ (t : List (Entry g.row.T.Denot)). IsRefused c.args.party c.loop-made.self t c.in-Err.why
-    c.step_party.new.trace.items c.step_party.new.self) c.have_room.ensures.trace c.in-Err.ensures.refused) in
-    ended_refused c.args.party c.loop-made._made (world_state_of c.args.self.now) c.loop-made.trace.items (world_state_of c.loop-made.self) (world_state_of c.step_party.new.self)
-    c.in-Err.why
-    c.stopped-in-Err.result.trace.items c.stopped-in-Err.result.stopped (vec_len c.step_party.new.trace) c.loop-made.invariant.count
-    c.loop-made.invariant.ran refused.ran refused.reason (ap (λ t. t.items) c.stopped-in-Err.ensures.trace ∙ refused.unwritten)
-    c.stopped-in-Err.ensures.stopped
-    (c.step_party.new.trace.ok.0 ∙ ap (λ (t : List (Entry g.row.T.Denot)). length t) refused.unwritten)) in
+    let ended = ended_refusing g c in
     record {
       on = ran_leads _ (refused_of c.args.party c.stopped-in-Err.result.stopped) (world_state_of c.args.self.now) c.stopped-in-Err.result.trace.items
           (world_state_of c.step_party.new.self) ended.ran;
@@ -185,24 +152,18 @@ returns-in-Err-clause-leads g c =
 
 pub returns-in-Err-clause-messages : goal.returns-in-Err-clause-messages
 returns-in-Err-clause-messages g c =
-    let ended : Ended c.args.party (world_state_of c.args.self.now) c.stopped-in-Err.result.trace.items c.stopped-in-Err.result.stopped
-    (world_state_of c.step_party.new.self) =
-    (let refused = (subst (λ (t : List (Entry g.row.T.Denot)). IsRefused c.args.party c.loop-made.self t c.in-Err.why
-    c.step_party.new.trace.items c.step_party.new.self) c.have_room.ensures.trace c.in-Err.ensures.refused) in
-    ended_refused c.args.party c.loop-made._made (world_state_of c.args.self.now) c.loop-made.trace.items (world_state_of c.loop-made.self) (world_state_of c.step_party.new.self)
-    c.in-Err.why
-    c.stopped-in-Err.result.trace.items c.stopped-in-Err.result.stopped (vec_len c.step_party.new.trace) c.loop-made.invariant.count
-    c.loop-made.invariant.ran refused.ran refused.reason (ap (λ t. t.items) c.stopped-in-Err.ensures.trace ∙ refused.unwritten)
-    c.stopped-in-Err.ensures.stopped
-    (c.step_party.new.trace.ok.0 ∙ ap (λ (t : List (Entry g.row.T.Denot)). length t) refused.unwritten)) in
+    let ended = ended_refusing g c in
     counted _ (refused_of c.args.party c.stopped-in-Err.result.stopped) (world_state_of c.args.self.now) c.stopped-in-Err.result.trace.items
     (world_state_of c.step_party.new.self) ended.ran c.keeps.ensures
 
+ended_at_most : (g : Over) (c : goal.After-drop-steps-2 g) → Ended c.args.party (world_state_of c.args.self.now) c.loop-made.trace.items None (world_state_of c.loop-made.self)
+ended_at_most g c =
+    ended_well c.args.party c.loop-made._made (world_state_of c.args.self.now) c.loop-made.trace.items (world_state_of c.loop-made.self) c.loop-made.invariant.count
+    c.loop-made.invariant.ran
+
 pub returns-clause-headline : goal.returns-clause-headline
 returns-clause-headline g c =
-    let ended : Ended c.args.party (world_state_of c.args.self.now) c.loop-made.trace.items None (world_state_of c.loop-made.self) =
-    (ended_well c.args.party c.loop-made._made (world_state_of c.args.self.now) c.loop-made.trace.items (world_state_of c.loop-made.self) c.loop-made.invariant.count
-    c.loop-made.invariant.ran) in
+    let ended = ended_at_most g c in
     headline _ (refused_of c.args.party None) (world_state_of c.args.self.now) c.loop-made.trace.items None (world_state_of c.loop-made.self) ended.ran ended.stops
 
 pub returns-clause-answered : goal.returns-clause-answered
@@ -211,16 +172,12 @@ returns-clause-answered g c =
 
 pub returns-clause-leads : goal.returns-clause-leads
 returns-clause-leads g c =
-    let ended : Ended c.args.party (world_state_of c.args.self.now) c.loop-made.trace.items None (world_state_of c.loop-made.self) =
-    (ended_well c.args.party c.loop-made._made (world_state_of c.args.self.now) c.loop-made.trace.items (world_state_of c.loop-made.self) c.loop-made.invariant.count
-    c.loop-made.invariant.ran) in
+    let ended = ended_at_most g c in
     record { on = ran_leads _ (refused_of c.args.party None) (world_state_of c.args.self.now) c.loop-made.trace.items (world_state_of c.loop-made.self) ended.ran }
 
 pub returns-clause-messages : goal.returns-clause-messages
 returns-clause-messages g c =
-    let ended : Ended c.args.party (world_state_of c.args.self.now) c.loop-made.trace.items None (world_state_of c.loop-made.self) =
-    (ended_well c.args.party c.loop-made._made (world_state_of c.args.self.now) c.loop-made.trace.items (world_state_of c.loop-made.self) c.loop-made.invariant.count
-    c.loop-made.invariant.ran) in
+    let ended = ended_at_most g c in
     counted _ (refused_of c.args.party None) (world_state_of c.args.self.now) c.loop-made.trace.items (world_state_of c.loop-made.self) ended.ran c.keeps.ensures
 
 pub loop-made-preserved : goal.loop-made-preserved
@@ -256,11 +213,7 @@ returns-then-is_empty-clause-unchanged g c =
 
 pub returns-then-answered-clause-within : goal.returns-then-answered-clause-within
 returns-then-answered-clause-within g c =
-    let once = (subst (λ (t : List (Entry g.row.T.Denot)). StepsOnce c.args.party c.loop-made.self t c.in-Ok.answered
-    c.step_party.new.trace.items c.step_party.new.self) c.have_room.ensures.trace c.in-Ok.ensures.made) in
-    let count = c.loop-made.invariant.count in
-    let long : length c.step_party.new.trace.items ≡ c.loop-made._made + 1 =
-    (let w = ap (λ (t : List (Entry g.row.T.Denot)). length t) once.written in grind (arith, common_steps, w, count)) in
+    let long = one_longer g c in
     let below = c.loop-made-test.true in
     omega (arith, long, below)
 

@@ -29,7 +29,7 @@ taken : (g : Over) (c : After-stamp-in-Some g) → IsStep (RingMakes c.args.shap
 taken g c =
     message_out g.C.Cells.did c.args.shape.cap c.args.shape.mark c.compare_exchange.new.self c.take.new.self c.load-head.result c.index.result c.index.ensures c.in-Some.value c.in-Some.ensures.deed
 
--- ---- what they are on end
+-- ---- what they are one after another
 
 pub returns-then-stamp-head-2-clause-deeds : goal.returns-then-stamp-head-2-clause-deeds
 returns-then-stamp-head-2-clause-deeds g c =

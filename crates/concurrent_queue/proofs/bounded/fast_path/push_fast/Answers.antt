@@ -32,7 +32,7 @@ filled : (g : Over) (c : After-stamp-2 g) → IsStep (RingMakes c.args.shape.cap
 filled g c =
     message_put g.C.Cells.did c.args.shape.cap c.args.shape.mark c.compare_exchange.new.self c.put.new.self c.args.value c.load-tail.result c.index.result c.index.ensures c.in_default.field-0 c.in_default.ensures.deed
 
--- ---- what they are on end
+-- ---- what they are one after another
 
 pub returns-then-is_marked-clause-deeds : goal.returns-then-is_marked-clause-deeds
 returns-then-is_marked-clause-deeds g c = tail_marked g.C.Cells.did c.args.shape.cap c.args.shape.mark c.args.cells.now c.load-tail.new.self c.args.value c.load-tail.result c.load-tail.ensures.deed (sym c.is_marked.ensures ∙ c.if-is_marked.true)

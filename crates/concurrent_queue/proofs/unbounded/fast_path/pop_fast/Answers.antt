@@ -32,7 +32,7 @@ next_found : (g : Over) (c : Else-next-eq0 g) → IsStep (ActionMakes g.C.Cells.
 next_found g c =
     deed.next_found g.C.Cells.did c.compare_exchange.new.self c.load-next.new.self c.load-head.result (c.load-block.result - 1) c.load-next.result c.load-next.ensures.deed c.if-next-eq0.false
 
--- ---- what they are on end
+-- ---- what they are one after another
 
 pub returns-then-offset-eq31-clause-deeds : goal.returns-then-offset-eq31-clause-deeds
 returns-then-offset-eq31-clause-deeds g c =

@@ -27,7 +27,7 @@ filled : (g : Over) (c : In_default g) → IsStep (ActionMakes g.C.Cells.did) c.
 filled g c =
     deed.message_put g.C.Cells.did c.compare_exchange.new.self c.put.new.self c.args.value c.load-tail.result (c.load-block.result - 1) (c.load-tail.result / 2 % 32) refl c.in_default.field-0 c.in_default.ensures.deed
 
--- ---- what they are on end
+-- ---- what they are one after another
 
 pub returns-then-tail-eq1-clause-deeds : goal.returns-then-tail-eq1-clause-deeds
 returns-then-tail-eq1-clause-deeds g c = deed.tail_closed g.C.Cells.did c.args.cells.now c.load-tail.new.self c.args.value c.load-tail.result c.load-tail.ensures.deed c.if-tail-eq1.true

@@ -38,7 +38,7 @@ filled : (g : Over) (c : In_default-put g) → IsStep (ActionMakes g.C.Cells.did
 filled g c =
     deed.message_put g.C.Cells.did c.store-2.new.self c.put.new.self c.args.value c.args.tail c.args.block 30 c.requires.last c.in_default-put.field-0 c.in_default-put.ensures.deed
 
--- ---- what they are on end
+-- ---- what they are one after another
 
 pub returns-then-is_err-clause-deeds : goal.returns-then-is_err-clause-deeds
 returns-then-is_err-clause-deeds g c =
