@@ -326,7 +326,7 @@ module _ {T A : Type 0} {moves : QueueForm → A → Event T → A → Type 0} {
             vacant (block_at c n).slots i (Some y) long e,
             refl,
             (let same : set (block_at c n).slots i (Some y) ≡ (block_at c n).slots = subst (λ (o : Option T). set (block_at c n).slots i o ≡ (block_at c n).slots) e (set-get_or (block_at c n).slots i None) in
-            ap (λ (l : List (Option T)). with_block c n (record (block_at c n) { slots = l })) same ∙ ap (λ (l : List (BlockCells T)). record c { blocks = l }) (set-get_or c.blocks n no_block)),
+                ap (λ (l : List (Option T)). with_block c n (record (block_at c n) { slots = l })) same ∙ ap (λ (l : List (BlockCells T)). record c { blocks = l }) (set-get_or c.blocks n no_block)),
           )) b.1
           ((λ _. (Some y, (b.1, refl))), λ miss. absurd (miss hit))
 

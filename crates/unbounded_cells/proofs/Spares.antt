@@ -376,8 +376,7 @@ module _ {T A : Type 0} {moves : QueueForm → A → Event T → A → Type 0} {
             let empty : c.spares ≡ [] = no_spares s.blocks (slice_index_or s.words 25 0) c.spares zero_top q.shown.chain in
             let e : Contents T = record c { blocks = c.blocks ++ blank ∷ []; spares = [] } in
             let none : BlocksShown s.blocks c.blocks [] = subst (λ (l : List ℕ). BlocksShown s.blocks c.blocks l) empty q.shown.blocks in
-            rule.by_deed laws machine admits s.words s.words s.blocks bs' s.views q id v w (deed.spared (Ok n)) e at
-            (
+            rule.by_deed laws machine admits s.words s.words s.blocks bs' s.views q id v w (deed.spared (Ok n)) e at (
               sym q.shown.blocks.made ∙ ap (λ (l : List ℕ). spare_in l (length c.blocks)) (sym empty),
               ap (λ (l : List ℕ). record c { blocks = blocks_with l c.blocks; spares = others_of l }) (sym empty),
               (let k : ℕ = length c.blocks in let f : k < 2 ^ 61 = few s q in let j : ℕ = length (c.blocks ++ blank ∷ []) in let g : j ≡ k + 1 = blocks.longer c.blocks blank in let z : j < 2 ^ 64 = omega arith in z),

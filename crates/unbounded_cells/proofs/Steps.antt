@@ -243,12 +243,12 @@ module _ {T A : Type 0} {moves : QueueForm → A → Event T → A → Type 0} {
               chain = blocks.chain_stays s.blocks bs' (let l : ℕ = length s.blocks in let l' : ℕ = length bs' in let same : l' ≡ l = length-set s.blocks n _ in let z : l ≤ l' = omega arith in z) c.spares (slice_index_or s.words 25 0) (λ b' _. link_stays b') q.shown.chain;
             })
             (λ j g b' i h there held. ap (λ (l : List (Option T)). slice_index_or l i None) (blocks.slots_stay c.blocks n y u.0 e.0 b') ∙ ⊎_elim
-                (λ (t : (j ≡ id) × (w ≡ g)). q.away id v b' i h at (ap (λ (o : V). o.held) t.1 ∙ held))
-                (λ (t : (j ≢ id) × (get_elem? s.views j ≡ home.some g)). q.away j g b' i h t.1 held)
-                (at_set s.views id j w g there))
+            (λ (t : (j ≡ id) × (w ≡ g)). q.away id v b' i h at (ap (λ (o : V). o.held) t.1 ∙ held))
+            (λ (t : (j ≢ id) × (get_elem? s.views j ≡ home.some g)). q.away j g b' i h t.1 held)
+            (at_set s.views id j w g there))
             (λ j g there is. ⊎_elim
-                (λ (t : (j ≡ id) × (w ≡ g)). subst (λ (o : V). Cleared bs' o) t.1 (unseen s r bs' n q u.1 other id v at (ap (λ (o : V). o.keeper) t.1 ∙ is)))
-                (λ (t : (j ≢ id) × (get_elem? s.views j ≡ home.some g)). unseen s r bs' n q u.1 other j g t.1 is)
-                (at_set s.views id j w g there))),
+            (λ (t : (j ≡ id) × (w ≡ g)). subst (λ (o : V). Cleared bs' o) t.1 (unseen s r bs' n q u.1 other id v at (ap (λ (o : V). o.keeper) t.1 ∙ is)))
+            (λ (t : (j ≢ id) × (get_elem? s.views j ≡ home.some g)). unseen s r bs' n q u.1 other j g t.1 is)
+            (at_set s.views id j w g there))),
         (b.1, refl),
       )
