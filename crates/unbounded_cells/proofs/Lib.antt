@@ -1,0 +1,8 @@
+mod Blocks
+mod Steps
+mod Room
+mod Spares
+mod Slots
+mod Words
+mod OfQueue
+mod Seats
