@@ -4,17 +4,17 @@ use Rattle.std.proofs.Common.{◌==◌, true, false, ◌≡◌, ◌≢◌, ℕ, 
 use Rattle.std.proofs.lemmas.Bool.{cases_lt}
 use Rattle.std.proofs.lemmas.List.{set-get_or, get_or-replicate}
 use Rattle.std.proofs.lemmas.Nat.Bits.{bit_at-zero}
-use Rattle.std.specs.Prelude.{Option, None, Some, slice_index, slice_index_or, slice_set}
+use Rattle.std.specs.Prelude.{Option, None, Some, slice_index_or}
 use mathlib.Core.Logic.{dite}
 use native.Mathlib.Decide.{ℕ_discrete}
 use Rattle.growing_table.specs.State as state
 use Rattle.growing_table.specs.State.{BlockState, block, block_of, home_of}
-use Rattle.concurrent_queue.specs.Contents.{Contents, BlockCells, blank, nones, zeros, block_in, no_block, in_each, read, write}
+use Rattle.concurrent_queue.specs.Contents.{Contents, BlockCells, blank, nones, zeros, block_in, no_block, read, write}
 use Rattle.concurrent_queue.specs.machine.BlocksCalls.{same}
 use Rattle.concurrent_queue.specs.machine.BlocksDenotes.{times}
 use Rattle.concurrent_queue.specs.declared.cells.Word.{Word}
 use Rattle.concurrent_queue.specs.declared.cells.Word.TheVariants as word
-use Rattle.unbounded_cells.specs.Rule.{Homes, Blocks, inner, WordsShown, SlotsShown, BlocksShown, Chain, IsShown, IsRoot, root_at}
+use Rattle.unbounded_cells.specs.Rule.{Homes, Blocks, inner, WordsShown, SlotsShown, BlocksShown, Chain, IsRoot}
 
 pub same_not : (n m : ℕ) → (m ≡ n → ⊥) → same n m ≡ 0
 same_not n m ne = let e : (n == m) ≡ false = grind (arith, nat_tests) in rw e refl

@@ -1,9 +1,8 @@
 -- What a queue's own machine knows of blocks, in a history that is shorter than there are positions.
-use Rattle.std.proofs.Common.{◌≡◌, ◌≢◌, ℕ, zero, suc, ◌+◌, ◌*◌, ◌/◌, ◌<◌, ◌≤◌, ◌^◌, ◌==◌, ◌&&◌, ◌⊎◌, inl, inr, ⊎_elim, Bool, true, false, not, if◌then◌else◌, List, [], ◌∷◌, ◌++◌, length, map, refl, sym, ap, ◌∙◌, subst, arith, length-set}
+use Rattle.std.proofs.Common.{◌≡◌, ℕ, zero, suc, ◌+◌, ◌*◌, ◌/◌, ◌<◌, ◌≤◌, ◌^◌, ◌==◌, ◌&&◌, inr, Bool, true, false, not, List, [], ◌∷◌, ◌++◌, length, map, refl, sym, ap, ◌∙◌, subst, arith, length-set}
 use Rattle.std.proofs.lemmas.Bool.Decides.{nat_tests}
-use Rattle.std.specs.Prelude.{Option, None, Some, Ok, Err, slice_index_or, slice_get, nat_lt}
+use Rattle.std.specs.Prelude.{Option, None, Some, Ok, Err, slice_index_or, slice_get}
 use mathlib.Core.Option as home
-use lib.ListN.{get_elem?}
 use Rattle.concurrent_queue.specs.Bridge.{Event, Happening, begins, does, Changes, InOneOrder}
 use Rattle.concurrent_queue.specs.Contents.{Contents, BlockCells, blank, block_at, blocks_with, write, write_slot, slot_at}
 use Rattle.concurrent_queue.specs.Deeds as deed
@@ -11,7 +10,7 @@ use Rattle.concurrent_queue.specs.Deeds.{Deed, Move, loads, stores, exchanges, a
 use Rattle.concurrent_queue.specs.Effects.{Does}
 use Rattle.concurrent_queue.specs.Queue.{Queue, Phase}
 use Rattle.concurrent_queue.specs.Step.{ActiveQueueCall, seat, FitsAt, FitsForm, FitsBy, IsAtBlocks}
-use Rattle.concurrent_queue.specs.Touched.{Target, target, touched_block, on_word, on_slot, on_spares, on_block, on_nothing, target_at, next_target, IsUnderWayAmong, PartiesAreAmongOthers}
+use Rattle.concurrent_queue.specs.Touched.{Target, target, touched_block, on_word, on_slot, on_spares, on_block, target_at, IsUnderWayAmong, PartiesAreAmongOthers}
 use Rattle.concurrent_queue.specs.Walked.{standing, CallMakes}
 use Rattle.concurrent_queue.specs.machine.BlocksCalls as call
 use Rattle.concurrent_queue.specs.machine.BlocksCalls.{KnowsBlocks, owes, same}
@@ -45,8 +44,7 @@ use Rattle.concurrent_queue.specs.declared.single.SingleAction.TheVariants as si
 use Rattle.concurrent_queue.specs.declared.unbounded.action.UnboundedAction.{UnboundedAction}
 use Rattle.concurrent_queue.specs.declared.unbounded.action.UnboundedAction.TheVariants as act
 use Rattle.concurrent_queue.specs.declared.unbounded.action.UnboundedCall.{UnboundedCall}
-use Rattle.concurrent_queue.specs.history.History.{IsHistory}
-use Rattle.concurrent_queue.specs.history.Runs.{fresh, moves, history, standing_in, standing_of, HistoriesTouchTheirOwn}
+use Rattle.concurrent_queue.specs.history.Runs.{moves, history, standing_in, standing_of, HistoriesTouchTheirOwn}
 use Rattle.concurrent_queue.proofs.HistoryRuns as runs
 use Rattle.concurrent_queue.proofs.StepFacts.{part}
 use Rattle.unbounded_cells.specs.Queue.{sized}

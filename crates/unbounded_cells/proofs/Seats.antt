@@ -1,18 +1,15 @@
 -- Seats come, go on, look, and hand on the lock of the spare list, under the rule; and a new table is under it.
-use Rattle.std.proofs.Common.{◌≡◌, ◌≢◌, ℕ, zero, suc, ◌+◌, ◌<◌, ◌≤◌, ◌^◌, ◌⊎◌, inl, inr, ⊎_elim, Bool, true, false, List, [], ◌∷◌, ◌++◌, length, map, replicate, get_or, set, refl, sym, ap, ◌∙◌, subst, arith, length-set, get_or-set_other, get_or-set_same}
-use Rattle.std.proofs.lemmas.Bool.{cases_lt}
-use Rattle.std.proofs.lemmas.List.{map-set, set-get_or, length-map, map-append}
-use Rattle.std.specs.Prelude.{Option, None, Some, slice_index, slice_index_or, slice_set}
+use Rattle.std.proofs.Common.{◌≡◌, ◌≢◌, ℕ, zero, suc, ◌<◌, ◌⊎◌, inl, inr, ⊎_elim, true, false, List, [], ◌∷◌, ◌++◌, length, replicate, set, refl, sym, ap, ◌∙◌, subst, arith}
+use Rattle.std.proofs.lemmas.List.{map-set, set-get_or}
+use Rattle.std.specs.Prelude.{Option, None, Some, slice_index, slice_index_or}
 use mathlib.Core.Option as home
 use mathlib.Core.Option.{some-injective, some-ne-none}
-use mathlib.Core.Logic.{dite}
-use native.Mathlib.Decide.{ℕ_discrete}
 use lib.ListN.{get_elem?}
 use Rattle.atomic_table.proofs.Lists.{at_set, at_map, at_longer, set_else, set_again}
 use Rattle.growing_table.specs.State as state
 use Rattle.growing_table.specs.State.{Me, me, keeps, own, count, block, home_of, Allows, Enters, Splits, Joins}
 use Rattle.concurrent_queue.specs.Bridge.{Event, HasCells}
-use Rattle.concurrent_queue.specs.Contents.{Contents, BlockCells, block_in, read, empty_blocks}
+use Rattle.concurrent_queue.specs.Contents.{Contents, block_in, read, empty_blocks}
 use Rattle.concurrent_queue.specs.Made.{new_cells}
 use Rattle.concurrent_queue.specs.declared.cells.QueueForm.{QueueForm}
 use Rattle.concurrent_queue.specs.declared.cells.QueueForm.TheVariants.{Unbounded}
@@ -21,16 +18,14 @@ use Rattle.concurrent_queue.specs.declared.cells.Word.TheVariants as word
 use Rattle.concurrent_queue.specs.declared.history.rule.Counter.{Counter}
 use Rattle.concurrent_queue.specs.declared.history.rule.CountStep.{CountStep}
 use Rattle.concurrent_queue.specs.declared.history.rule.View.{View}
-use Rattle.concurrent_queue.specs.history.Keeps.{HistoryOf, KeepsHistory, Tally, opening_tally}
+use Rattle.concurrent_queue.specs.history.Keeps.{HistoryOf, KeepsHistory, Tally}
 use Rattle.concurrent_queue.specs.history.Joined.{AllStood, EachOnce, Lists}
 use Rattle.concurrent_queue.specs.history.QueueKeeps.{at_end}
-use Rattle.concurrent_queue.specs.history.Shared as shared
-use Rattle.concurrent_queue.specs.history.Shared.{AreSeated, Shown, tally_in, going_on, first_view}
-use Rattle.concurrent_queue.proofs.Guarding.{set_there}
+use Rattle.concurrent_queue.specs.history.Shared.{AreSeated, Shown, tally_in}
 use Rattle.concurrent_queue.proofs.HistorySeats as seats
 use Rattle.concurrent_queue.proofs.HistorySeats.{IsNamed}
 use Rattle.unbounded_cells.specs.Laws.{KeepsBlocks, Long}
-use Rattle.unbounded_cells.specs.Rule.{Blocks, TableState, inner, BlocksShown, IsShown, IsRoot, root_at, party, parties, slot_in, slot_of, IsFree, IsWon, KeepsSpares, Cleared, IsKept, IsRuled}
+use Rattle.unbounded_cells.specs.Rule.{Blocks, TableState, IsRoot, root_at, party, parties, slot_in, slot_of, IsFree, IsWon, KeepsSpares, Cleared, IsKept, IsRuled}
 use Rattle.unbounded_cells.specs.Told.{on_with, first_seat}
 use Rattle.unbounded_cells.specs.declared.rule.BlockView.{BlockView}
 use Rattle.unbounded_cells.proofs.Spares.{none_some}

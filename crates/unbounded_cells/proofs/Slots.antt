@@ -1,8 +1,8 @@
 -- A slot of a block is won with what is done to it, and given back, under the rule.
-use Rattle.std.proofs.Common.{◌≡◌, ◌≢◌, ℕ, zero, suc, ◌+◌, ◌<◌, ◌≤◌, ◌^◌, ◌⊎◌, inl, inr, ⊎_elim, eqb, Bool, true, false, List, [], ◌∷◌, ◌++◌, length, map, get_or, set, refl, sym, ap, ◌∙◌, subst, arith, length-set, get_or-set_other, get_or-set_same}
-use Rattle.std.proofs.lemmas.List.{map-set, set-get_or}
+use Rattle.std.proofs.Common.{◌≡◌, ◌≢◌, ℕ, zero, suc, ◌+◌, ◌<◌, ◌≤◌, ◌⊎◌, inl, inr, ⊎_elim, eqb, false, List, [], ◌∷◌, length, set, refl, sym, ap, ◌∙◌, subst, arith, length-set, get_or-set_other, get_or-set_same}
+use Rattle.std.proofs.lemmas.List.{set-get_or}
 use Rattle.std.specs.Int.{bit_at}
-use Rattle.std.specs.Prelude.{Option, None, Some, Result, Ok, Err, slice_index, slice_index_or, slice_set, slice_get}
+use Rattle.std.specs.Prelude.{Option, None, Some, Result, Ok, Err, slice_index_or, slice_get}
 use mathlib.Core.Option as home
 use mathlib.Core.Logic.{dite}
 use native.Mathlib.Decide.{ℕ_discrete}
@@ -13,7 +13,7 @@ use Rattle.atomic_table.proofs.Lists.{at_set, at_map, set_else, set_again}
 use Rattle.growing_table.specs.State as state
 use Rattle.growing_table.specs.State.{BlockState, Me, me, Act, keeps, takes, gives, own, within, block, block_of, home_of, Allows}
 use Rattle.concurrent_queue.specs.Bridge.{Event, does}
-use Rattle.concurrent_queue.specs.Contents.{Contents, BlockCells, block_in, block_at, with_block, with_slot, no_block, is_vacant, slot_at}
+use Rattle.concurrent_queue.specs.Contents.{Contents, BlockCells, block_in, block_at, with_block, with_slot, no_block, is_vacant}
 use Rattle.concurrent_queue.specs.Deeds as deed
 use Rattle.concurrent_queue.specs.Deeds.{Deed}
 use Rattle.concurrent_queue.specs.Effects.{Does}
@@ -28,7 +28,7 @@ use Rattle.concurrent_queue.specs.history.Keeps.{HistoryOf, KeepsHistory, Tally}
 use Rattle.concurrent_queue.specs.history.Shared.{tally_in}
 use Rattle.concurrent_queue.proofs.Guarding.{set_there}
 use Rattle.unbounded_cells.specs.Laws.{deed_block, KeepsBlocks}
-use Rattle.unbounded_cells.specs.Rule.{Homes, Blocks, TableState, inner, WordsShown, SlotsShown, BlocksShown, party, parties, slot_in, slot_of, IsFree, IsWon, KeepsSpares, Cleared, IsKept, IsRuled}
+use Rattle.unbounded_cells.specs.Rule.{Homes, Blocks, TableState, inner, WordsShown, SlotsShown, party, parties, slot_in, slot_of, IsFree, IsWon, KeepsSpares, IsKept, IsRuled}
 use Rattle.unbounded_cells.specs.Told.{on_with}
 use Rattle.unbounded_cells.specs.declared.rule.BlockView.{BlockView}
 use Rattle.unbounded_cells.proofs.Blocks as blocks

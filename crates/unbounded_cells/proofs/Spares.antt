@@ -1,20 +1,20 @@
 -- Each step on the list of spare blocks keeps the rule: what the owner of its lock reads and writes, and the operations that take a block off
 -- the list and put one on it.
-use Rattle.std.proofs.Common.{◌≡◌, ◌≢◌, ℕ, zero, suc, ◌+◌, ◌<◌, ◌≤◌, ◌^◌, ◌⊎◌, inl, inr, ⊎_elim, Bool, true, false, List, [], ◌∷◌, ◌++◌, length, map, get_or, set, refl, sym, ap, ◌∙◌, subst, arith, length-set, get_or-set_other, get_or-set_same}
+use Rattle.std.proofs.Common.{◌≡◌, ◌≢◌, ℕ, ◌+◌, ◌<◌, ◌≤◌, ◌^◌, inl, ⊎_elim, true, false, List, [], ◌∷◌, ◌++◌, length, set, refl, sym, ap, ◌∙◌, subst, arith, length-set, get_or-set_other, get_or-set_same}
 use Rattle.std.proofs.lemmas.Bool.{cases_lt}
-use Rattle.std.proofs.lemmas.List.{map-set, set-get_or}
+use Rattle.std.proofs.lemmas.List.{set-get_or}
 use Rattle.std.proofs.lemmas.Nat.Bits.{bit_at-zero}
 use Rattle.std.specs.Int.{bit_at}
-use Rattle.std.specs.Prelude.{Option, None, Some, Result, Ok, Err, slice_index, slice_index_or, slice_set}
+use Rattle.std.specs.Prelude.{Option, None, Some, Ok, Err, slice_index_or}
 use mathlib.Core.Option as home
 use mathlib.Core.Logic.{dite}
 use native.Mathlib.Decide.{ℕ_discrete}
 use lib.ListN.{get_elem?}
-use Rattle.atomic_table.proofs.Lists.{at_set, at_map, set_else, set_again}
+use Rattle.atomic_table.proofs.Lists.{at_set, at_map, set_again}
 use Rattle.growing_table.specs.State as state
 use Rattle.growing_table.specs.State.{Me, me, Act, keeps, takes, gives, own, within, count, block, block_of, home_of, Allows, Makes}
 use Rattle.concurrent_queue.specs.Bridge.{Event, does}
-use Rattle.concurrent_queue.specs.Contents.{Contents, BlockCells, blank, block_in, block_at, with_block, no_block, read, write, with_retired, with_spare, without_spare, spare_of, spare_in, others_of, blocks_with}
+use Rattle.concurrent_queue.specs.Contents.{Contents, BlockCells, blank, block_in, block_at, no_block, with_spare, spare_in, others_of, blocks_with}
 use Rattle.concurrent_queue.specs.Deeds as deed
 use Rattle.concurrent_queue.specs.Deeds.{Deed}
 use Rattle.concurrent_queue.specs.Effects.{Does}
@@ -29,10 +29,10 @@ use Rattle.concurrent_queue.specs.declared.history.rule.Counter.TheVariants.{Fir
 use Rattle.concurrent_queue.specs.declared.history.rule.CountStep.{CountStep}
 use Rattle.concurrent_queue.specs.declared.history.rule.View.{View}
 use Rattle.concurrent_queue.specs.history.Keeps.{HistoryOf, KeepsHistory, Tally}
-use Rattle.concurrent_queue.specs.history.Shared.{tally_in, going_on, count_at}
+use Rattle.concurrent_queue.specs.history.Shared.{tally_in, count_at}
 use Rattle.concurrent_queue.proofs.HistorySteps as steps
-use Rattle.unbounded_cells.specs.Laws.{deed_block, IsNext, KeepsBlocks, Long}
-use Rattle.unbounded_cells.specs.Rule.{Blocks, TableState, inner, WordsShown, SlotsShown, BlocksShown, Chain, IsShown, IsRoot, root_at, party, parties, slot_in, slot_of, IsFree, IsWon, KeepsSpares, Cleared, IsKept, IsRuled}
+use Rattle.unbounded_cells.specs.Laws.{KeepsBlocks}
+use Rattle.unbounded_cells.specs.Rule.{Blocks, TableState, inner, WordsShown, BlocksShown, Chain, IsRoot, root_at, party, parties, slot_in, KeepsSpares, Cleared, IsKept, IsRuled}
 use Rattle.unbounded_cells.specs.Told.{on_with}
 use Rattle.unbounded_cells.specs.declared.rule.BlockView.{BlockView}
 use Rattle.unbounded_cells.proofs.Blocks as blocks

@@ -1,8 +1,8 @@
 -- Each kind of step keeps the rule.
-use Rattle.std.proofs.Common.{◌≡◌, ◌≢◌, ℕ, zero, suc, ◌+◌, ◌<◌, ◌≤◌, ◌^◌, ◌⊎◌, inl, inr, ⊎_elim, Bool, true, false, List, [], ◌∷◌, ◌++◌, length, map, get_or, set, refl, sym, ap, ◌∙◌, subst, arith, length-set, get_or-set_other, get_or-set_same}
+use Rattle.std.proofs.Common.{◌≡◌, ◌≢◌, ℕ, ◌+◌, ◌<◌, ◌≤◌, ◌^◌, ◌⊎◌, inl, inr, ⊎_elim, Bool, true, false, List, length, set, refl, sym, ap, ◌∙◌, subst, arith, length-set}
 use Rattle.std.proofs.lemmas.Bool.{cases_lt}
-use Rattle.std.proofs.lemmas.List.{map-set, set-get_or}
-use Rattle.std.specs.Prelude.{Option, None, Some, slice_index, slice_index_or, slice_set}
+use Rattle.std.proofs.lemmas.List.{map-set}
+use Rattle.std.specs.Prelude.{Option, None, Some, slice_index, slice_index_or}
 use mathlib.Core.Option as home
 use mathlib.Core.Logic.{dite}
 use native.Mathlib.Decide.{ℕ_discrete}
@@ -11,23 +11,22 @@ use Rattle.atomic_table.proofs.Lists.{at_set, at_map, set_else}
 use Rattle.growing_table.specs.State as state
 use Rattle.growing_table.specs.State.{Me, me, Act, keeps, takes, gives, own, within, count, block, block_of, home_of, Allows}
 use Rattle.concurrent_queue.specs.Bridge.{Event, does}
-use Rattle.concurrent_queue.specs.Contents.{Contents, BlockCells, block_in, block_at, with_block, no_block, read, write}
+use Rattle.concurrent_queue.specs.Contents.{Contents, BlockCells, block_in, block_at, with_block}
 use Rattle.concurrent_queue.specs.Deeds.{Deed}
 use Rattle.concurrent_queue.specs.Effects.{Does}
 use Rattle.concurrent_queue.specs.machine.BlocksDenotes.{times}
 use Rattle.concurrent_queue.specs.declared.cells.QueueForm.{QueueForm}
 use Rattle.concurrent_queue.specs.declared.cells.QueueForm.TheVariants.{Unbounded}
-use Rattle.concurrent_queue.specs.declared.cells.Word.{Word}
 use Rattle.concurrent_queue.specs.declared.history.rule.Counter.{Counter}
 use Rattle.concurrent_queue.specs.declared.history.rule.CountStep.{CountStep}
 use Rattle.concurrent_queue.specs.declared.history.rule.View.{View}
 use Rattle.concurrent_queue.specs.history.Keeps.{HistoryOf, KeepsHistory, Tally}
-use Rattle.concurrent_queue.specs.history.Shared.{AreSeated, tally_in, going_on}
+use Rattle.concurrent_queue.specs.history.Shared.{AreSeated, tally_in}
 use Rattle.concurrent_queue.proofs.Guarding.{set_there}
 use Rattle.concurrent_queue.proofs.HistorySeats as seats
 use Rattle.concurrent_queue.proofs.HistorySeats.{IsNamed, ListsNoMore}
-use Rattle.unbounded_cells.specs.Laws.{deed_block, IsNext, KeepsBlocks, Long}
-use Rattle.unbounded_cells.specs.Rule.{Blocks, TableState, inner, WordsShown, SlotsShown, BlocksShown, Chain, IsShown, IsRoot, party, parties, slot_in, slot_of, IsFree, IsWon, KeepsSpares, Cleared, IsKept, IsRuled}
+use Rattle.unbounded_cells.specs.Laws.{deed_block, KeepsBlocks, Long}
+use Rattle.unbounded_cells.specs.Rule.{Blocks, TableState, inner, WordsShown, IsShown, party, parties, slot_of, IsFree, IsWon, KeepsSpares, Cleared, IsKept, IsRuled}
 use Rattle.unbounded_cells.specs.Told as told
 use Rattle.unbounded_cells.specs.Told.{on_with}
 use Rattle.unbounded_cells.specs.declared.rule.BlockView.{BlockView}

@@ -1,17 +1,17 @@
 -- Each operation on a word keeps the rule: one lemma for all words that are whole words of the table, whichever the operation, two for a
 -- flag, and one for operations that leave all cells as they are.
-use Rattle.std.proofs.Common.{◌≡◌, ◌≢◌, ℕ, zero, suc, ◌+◌, ◌%◌, ◌^◌, ◌<◌, ◌≤◌, ◌⊎◌, inl, inr, ⊎_elim, eqb, Bool, true, false, if◌then◌else◌, List, [], ◌∷◌, ◌++◌, length, map, get_or, set, refl, sym, ap, ◌∙◌, subst, arith, eq-eqb, ne_eqb, length-set, get_or-set_other, get_or-set_same, max}
+use Rattle.std.proofs.Common.{◌≡◌, ◌≢◌, ℕ, zero, suc, ◌+◌, ◌%◌, ◌^◌, ◌<◌, ◌≤◌, ◌⊎◌, inl, inr, ⊎_elim, eqb, Bool, false, if◌then◌else◌, List, length, set, refl, sym, ap, ◌∙◌, subst, arith, eq-eqb, ne_eqb, length-set, get_or-set_other, get_or-set_same, max}
 use Rattle.std.proofs.lemmas.Bool.{cases_lt}
-use Rattle.std.proofs.lemmas.List.{map-set, set-get_or}
+use Rattle.std.proofs.lemmas.List.{set-get_or}
 use Rattle.std.proofs.lemmas.Nat.Bits.{bit_at_or, bit_at-pow_same, bit_at-pow_other, bit_at-lt}
 use Rattle.std.specs.Int.{bit_at}
-use Rattle.std.specs.Prelude.{Option, None, Some, Result, Ok, Err, MatchResult, slice_index, slice_index_or, slice_set, bit_and, bit_or}
+use Rattle.std.specs.Prelude.{Option, None, Some, Ok, Err, MatchResult, slice_index, slice_index_or, bit_and, bit_or}
 use mathlib.Core.Option as home
 use mathlib.Core.Logic.{dite}
 use native.Mathlib.Decide.{ℕ_discrete}
 use lib.ListN.{get_elem?}
 use prog.Atomic.{either}
-use Rattle.atomic_table.proofs.Lists.{at_set, at_map, set_else, set_again}
+use Rattle.atomic_table.proofs.Lists.{at_set, at_map, set_again}
 use Rattle.growing_table.specs.State as state
 use Rattle.growing_table.specs.State.{Me, me, Act, Spot, keeps, own, within, count, block, block_of, Allows}
 use Rattle.concurrent_queue.specs.Bridge.{Event, does}
@@ -19,7 +19,6 @@ use Rattle.concurrent_queue.specs.Contents.{Contents, BlockCells, block_in, bloc
 use Rattle.concurrent_queue.specs.Deeds as deed
 use Rattle.concurrent_queue.specs.Deeds.{Deed}
 use Rattle.concurrent_queue.specs.Effects.{Does}
-use Rattle.concurrent_queue.specs.machine.BlocksDenotes.{times}
 use Rattle.concurrent_queue.specs.declared.cells.QueueForm.{QueueForm}
 use Rattle.concurrent_queue.specs.declared.cells.QueueForm.TheVariants.{Unbounded}
 use Rattle.concurrent_queue.specs.declared.cells.Word.{Word}

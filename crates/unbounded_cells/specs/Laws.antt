@@ -1,5 +1,5 @@
 -- What a machine of an unbounded queue says of blocks: a party's next operation is made on a block in use, and on one that is given back no other's is.
-use Rattle.std.specs.Prelude.{◌≡◌, ◌≢◌, ℕ, ◌<◌, ◌≤◌, ◌^◌, List, length, Option, None, Some}
+use Rattle.std.specs.Prelude.{◌≡◌, ℕ, ◌<◌, ◌≤◌, ◌^◌, List, length, Option, None, Some}
 use mathlib.Core.Option.{some}
 use lib.ListN.{get_elem?}
 use Rattle.concurrent_queue.specs.Bridge.{Event, does}

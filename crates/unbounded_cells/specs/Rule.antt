@@ -1,6 +1,6 @@
 -- The rule of an unbounded queue's table: what the words and slots of the table and of its blocks hold is what the machine's history made of
 -- them, or there was once a history as long as there are positions. The words of a spare block are nobody's concern.
-use Rattle.std.specs.Prelude.{◌≡◌, ◌≢◌, ◌⊎◌, ℕ, zero, suc, ◌+◌, ◌<◌, ◌≤◌, ◌^◌, Bool, true, false, List, [], ◌∷◌, length, map, Option, None, Some, slice_index, slice_index_or}
+use Rattle.std.specs.Prelude.{◌≡◌, ◌≢◌, ◌⊎◌, ℕ, ◌+◌, ◌<◌, ◌≤◌, ◌^◌, true, List, [], ◌∷◌, length, map, Option, None, Some, slice_index, slice_index_or}
 use Rattle.std.specs.Int.{bit_at}
 use mathlib.Core.Option as home
 use lib.ListN.{get_elem?}

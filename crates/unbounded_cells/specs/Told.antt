@@ -1,5 +1,5 @@
 -- What a step tells its seat, and the first seat.
-use Rattle.std.specs.Prelude.{◌≡◌, ℕ, true, false, Option, None, Some}
+use Rattle.std.specs.Prelude.{◌≡◌, ℕ, true, Option, None, Some}
 use Rattle.growing_table.specs.State.{Step, Me, me}
 use Rattle.concurrent_queue.specs.Bridge.{Event, does}
 use Rattle.concurrent_queue.specs.Deeds.{Deed}
