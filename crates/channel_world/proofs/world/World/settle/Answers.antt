@@ -162,7 +162,10 @@ returns-clause-ample g c = c.loop-names.invariant.ample
 
 pub returns-clause-nobody_woken : goal.returns-clause-nobody_woken
 returns-clause-nobody_woken g c =
-    let end = ended g c in
+    let names = c.loop-names.names in
+    let polls = c.loop-names.polls in
+    let end = goes_end (at_rest (world_state_of c.args.self.now)) (at_rest (world_state_of c.loop-names.self)) polls.items names.items c.loop-names.invariant.goes
+    (let a = names.ok.0 in let b = polls.ok.0 in omega (arith, a, b, c.loop-names-test.false)) in
     end.rests.0
 
 pub returns-clause-closing : goal.returns-clause-closing
