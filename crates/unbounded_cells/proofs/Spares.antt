@@ -339,7 +339,7 @@ module _ {T A : Type 0} {moves : QueueForm → A → Event T → A → Type 0} {
 
   pub makes_so : (id : ℕ) (m : Seat) → m.view.keeper ≡ true → m.view.party.spent ≡ false → m.view.top ≡ 0 → ((b : ℕ) → (a : A) × moves Unbounded m.view.party.state (does (Some (deed.spared (Ok b)))) a)
       → Makes Ruled 35 None id m (λ b m'. moves Unbounded m.view.party.state (does (Some (deed.spared (Ok b)))) m'.view.party.state × (m' ≡ seen_as m (at_top (on_with m.view m'.view.party.state) 0)))
-  makes_so id m keeper live top fits s r at few =
+  makes_so id m keeper live top fits s r at countable =
       let v = m.view in
       let n : ℕ = length s.blocks in
       let a = fits n in
