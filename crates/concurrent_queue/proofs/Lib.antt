@@ -31,13 +31,13 @@ pub mod Callers
 mod BridgeSteps
 pub mod Bridge
 mod BridgeRow
-mod Among
+pub mod Among
 mod Targets
 mod BlocksAmong
 mod BlocksTouched
 mod BlocksSlots
 mod SlotsTouched
-mod ItsOwn
+pub mod ItsOwn
 pub mod SingleSteps
 pub mod RingShape
 pub mod RingPlaces
