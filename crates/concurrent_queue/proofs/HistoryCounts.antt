@@ -56,7 +56,7 @@ which_there form slots which e =
     let e' : slots ≡ n = e in
     let z : n + o - slots ≡ o = omega arith in ap counter_at z ∙ which_at which
 
-either_if : (b : Bool) (x y : ℕ) → either b x y ≡ (if b then x else y)
+pub either_if : (b : Bool) (x y : ℕ) → either b x y ≡ (if b then x else y)
 either_if true x y = refl
 either_if false x y = refl
 
@@ -76,7 +76,7 @@ module _ {T A : Type 0} {moves : QueueForm → A → Event T → A → Type 0} {
       (λ q. apart (let n : ℕ = slots_of form in let a : ℕ = offset_of x in let b : ℕ = offset_of y in let q' : n + b ≡ n + a = q in let r : b ≡ a = omega arith in r))
 
   -- what the counts are after it
-  changed : (ws : List ℕ) (which : Counter) (z : ℕ) → count_at form which < length ws → tally_in form (set ws (count_at form which) z) ≡ with_count which z (tally_in form ws)
+  pub changed : (ws : List ℕ) (which : Counter) (z : ℕ) → count_at form which < length ws → tally_in form (set ws (count_at form which) z) ≡ with_count which z (tally_in form ws)
   changed ws First z inside = λ k. record {
     first = get_or-set_same ws (count_at form First) z 0 inside k;
     second = other_stays ws First Second z (λ e. omega arith) k;
@@ -135,7 +135,7 @@ module _ {T A : Type 0} {moves : QueueForm → A → Event T → A → Type 0} {
   guard_apart : (which : Counter) (i : ℕ) → i < slots_of form → i ≢ count_at form which
   guard_apart which i h q = let n : ℕ = slots_of form in let o : ℕ = offset_of which in let h' : i < n = h in let q' : i ≡ n + o = q in absurd (omega arith)
 
-  count_is : (ws : List ℕ) (which : Counter) → count_of which (tally_in form ws) ≡ count_in form ws which
+  pub count_is : (ws : List ℕ) (which : Counter) → count_of which (tally_in form ws) ≡ count_in form ws which
   count_is ws First = refl
   count_is ws Second = refl
   count_is ws Third = refl
