@@ -11,7 +11,7 @@ use Rattle.event_listener.specs.declared.node.State.TheVariants.{Waiting, Told}
 use Rattle.event_listener.specs.declared.list.List.TheInside as list
 use Rattle.event_listener.specs.declared.key.Key.{Key}
 use Rattle.event_listener.specs.Inside.{shown, IsSound, entries, waiting_after, waiting_before, told_after, told_before}
-use Rattle.event_listener.specs.Lists.{ListView, Lists, kind_of, told_as, waits_as, without, listened, with_task, notified, tasks_of, same_key}
+use Rattle.event_listener.specs.Lists.{ListView, Lists, kind_of, told_as, waits_as, without, listened_with, with_task, notified, tasks_of, same_key}
 use Rattle.event_listener.specs.Nodes.{found, is_told}
 use Rattle.event_listener.specs.Chain.{Beside, Chains, lists_at, entry, entry_at, Entry, Sound, Among, Distinct, Unlinks, Links_last, fresh_entry, first_or, last_or, after_of, before_of, node_after, node_before, told_piece, waiting_piece, pieces, AtEach, IsWaiting, IsStateOf}
 use Rattle.event_listener.specs.Order.{IsInOrder}
@@ -209,33 +209,33 @@ module _ {T W : Type 0} where
   pub last-present : (a : list.Inside T W) → IsSound a → IfSome (before_of a.waiting a.nodes.slab None) (λ k. ContainsKey a.nodes.slab k)
   last-present a h = live-all a.nodes.slab a.waiting.last (last-of-live (waiting_after a) (waiting_before a) (entries a) h.1 h.2.sound.chains.waiting (waits-live a h))
 
-  pub record Inserted (a b : list.Inside T W) (view : ListView T W) (key : Key) : Type 0 where
+  pub record Inserted (a b : list.Inside T W) (view : ListView T W) (task : Option W) (key : Key) : Type 0 where
     pub sound : IsSound b
-    pub lists : (shown b).lists ≡ listened key view.lists
+    pub lists : (shown b).lists ≡ listened_with task key view.lists
     pub unknown : kind_of view.lists key ≡ None
 
-  pub inserted : (a b : list.Inside T W) (h : IsSound a) (view : ListView T W) (v : shown a ≡ view) (at : ℕ) → entries a at ≡ None → Links_last (waiting_after a) (waiting_before a) (waiting_after b) (waiting_before b) at → entries b at ≡ Some (fresh_entry a.serials) → ((x : ℕ) → x ≢ at → entries b x ≡ entries a x) → slab_len b.nodes.slab ≡ slab_len a.nodes.slab + 1 → slab_len b.nodes.slab ≤ b.nodes.slab.capacity → b.nodes.slab.capacity < 2 ^ 64 → b.told ≡ a.told → b.told_count ≡ a.told_count → b.serials ≡ a.serials + 1 → Inserted a b view (record { slot = at; serial = a.serials })
-  inserted a b h view v at dead u made others len within fits ends told serials =
+  pub inserted : (a b : list.Inside T W) (h : IsSound a) (view : ListView T W) (v : shown a ≡ view) (task : Option W) (at : ℕ) → entries a at ≡ None → Links_last (waiting_after a) (waiting_before a) (waiting_after b) (waiting_before b) at → entries b at ≡ Some (fresh_entry a.serials task) → ((x : ℕ) → x ≢ at → entries b x ≡ entries a x) → slab_len b.nodes.slab ≡ slab_len a.nodes.slab + 1 → slab_len b.nodes.slab ≤ b.nodes.slab.capacity → b.nodes.slab.capacity < 2 ^ 64 → b.told ≡ a.told → b.told_count ≡ a.told_count → b.serials ≡ a.serials + 1 → Inserted a b view task (record { slot = at; serial = a.serials })
+  inserted a b h view v task at dead u made others len within fits ends told serials =
       let key : Key = record { slot = at; serial = a.serials } in
-      let s = Sound-insert h.2.sound (told_after b) (told_before b) (waiting_after b) (waiting_before b) (entries b) (slab_len b.nodes.slab) b.serials at dead u (ap (λ (x : Ends). x.first) ends) (ap (λ (x : Ends). x.last) ends) (λ x. refl) (λ x. refl) (λ x. refl) (λ x. refl) made others len serials in
-      let change : lists_at (entries b) (h.0 ++ (h.1 ++ at ∷ [])) ≡ listened key (lists_at (entries a) (h.0 ++ h.1)) =
+      let s = Sound-insert h.2.sound (told_after b) (told_before b) (waiting_after b) (waiting_before b) (entries b) (slab_len b.nodes.slab) b.serials at task dead u (ap (λ (x : Ends). x.first) ends) (ap (λ (x : Ends). x.last) ends) (λ x. refl) (λ x. refl) (λ x. refl) (λ x. refl) made others len serials in
+      let change : lists_at (entries b) (h.0 ++ (h.1 ++ at ∷ [])) ≡ listened_with task key (lists_at (entries a) (h.0 ++ h.1)) =
       ap (lists_at (entries b)) (sym (append_assoc h.0 h.1 (at ∷ [])))
-      ∙ lists-listened (entries a) (entries b) at a.serials (h.0 ++ h.1) (Apart-dead (entries a) at (h.0 ++ h.1) (all-live (entries a) h.0 h.1 h.2.sound.tolds h.2.sound.waits) dead) made others in
+      ∙ lists-listened (entries a) (entries b) at a.serials task (h.0 ++ h.1) (Apart-dead (entries a) at (h.0 ++ h.1) (all-live (entries a) h.0 h.1 h.2.sound.tolds h.2.sound.waits) dead) made others in
       let sound : IsSound b = (
         h.0,
         h.1 ++ at ∷ [],
         record {
           within = within;
           fits = fits;
-          in_order = in-order-at (in-order-listened (lists_at (entries a) (h.0 ++ h.1)) key h.2.in_order) change serials;
+          in_order = in-order-at (in-order-listened (lists_at (entries a) (h.0 ++ h.1)) task key h.2.in_order) change serials;
           sound = subst (λ x. Sound (told_after b) (told_before b) (waiting_after b) (waiting_before b) (entries b) (slab_len b.nodes.slab) x b.serials h.0 (h.1 ++ at ∷ [])) (sym told) s;
         },
       ) in
       record {
         sound = sound;
         lists = lists-are b sound ∙ change
-            ∙ ap (listened key) (sym (lists-are a h))
-            ∙ ap (λ (w : ListView T W). listened key w.lists) v;
+            ∙ ap (listened_with task key) (sym (lists-are a h))
+            ∙ ap (λ (w : ListView T W). listened_with task key w.lists) v;
         unknown = kind-inside a h view v key ∙ ap (λ o. found_entry o a.serials) dead;
       }
 

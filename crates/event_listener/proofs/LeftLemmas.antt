@@ -1,11 +1,12 @@
 -- A key whose listener has left is never listed again.
-use Rattle.std.proofs.Common.{◌≡◌, ℕ, ◌+◌, ◌<◌, nat_eq, ◌==◌, ◌&&◌, Bool, true, false, cond, List, [], ◌∷◌, ◌++◌, length, take, drop, Option, Some, None, is_some, IsSome, if◌then◌else◌, refl, sym, subst, ◌∙◌, arith, append_assoc}
+use Rattle.std.proofs.Common.{◌≡◌, ℕ, ◌+◌, ◌<◌, nat_eq, ◌==◌, ◌&&◌, Bool, true, false, cond, List, [], ◌∷◌, ◌++◌, length, take, drop, Option, Some, None, is_some, IsSome, if◌then◌else◌, refl, sym, ap, subst, ◌∙◌, arith, append_assoc}
 use Rattle.std.proofs.lemmas.Bool.Decides.{nat_tests}
 use Rattle.std.proofs.lemmas.Map.Entries.{lookup_tail}
 use Rattle.std.specs.Map.{lookup, remove_entry, set_value}
 use Rattle.event_listener.specs.declared.key.Key.{Key}
-use Rattle.event_listener.specs.Lists.{Lists, ListView, Notice, serial_of, same_key, kind_of, told_as, waits_as, without, with_task, listened, notified, told_with}
+use Rattle.event_listener.specs.Lists.{Lists, ListView, Notice, serial_of, same_key, kind_of, told_as, waits_as, without, with_task, listened, listened_with, notified, told_with, registration}
 use Rattle.event_listener.specs.Order.{AllAbove, Ascending, serials_of, IsInOrder, HasLeft}
+use Rattle.event_listener.proofs.EntryLemmas.{same_key-self}
 
 other-serial : (a b : ℕ) → a < b → nat_eq a b ≡ false
 other-serial a b h = grind (arith, nat_tests)
@@ -69,6 +70,19 @@ module _ {X : Type 0} where
       let t = tail-none test e es h in
       lookup_tail test e (es ++ ds) t.0 ∙ none-append test es ds t.1 k
 
+  -- where no key before it passes, the last value is found and set
+  found-last : (test : Key → Bool) (es : List (Key × X)) (k : Key) (v : X) → test k ≡ true → lookup test es ≡ None → lookup test (es ++ (k, v) ∷ []) ≡ Some v
+  found-last test [] k v h n = rw h refl
+  found-last test (e ∷ es) k v h n =
+      let t = tail-none test e es n in
+      lookup_tail test e (es ++ (k, v) ∷ []) t.0 ∙ found-last test es k v h t.1
+
+  set-last : (test : Key → Bool) (es : List (Key × X)) (k : Key) (v w : X) → test k ≡ true → lookup test es ≡ None → set_value test (es ++ (k, v) ∷ []) w ≡ es ++ (k, w) ∷ []
+  set-last test [] k v w h n = rw h refl
+  set-last test (e ∷ es) k v w h n =
+      let t = tail-none test e es n in
+      rw t.0 (ap (λ r. e ∷ r) (set-last test es k v w h t.1))
+
   -- a key of another serial than all of these names none of them
   above-none : (key : Key) (es : List (Key × X)) (ns : List ℕ) → AllAbove (serial_of key) (serials_of es ++ ns) → lookup (same_key key) es ≡ None
   above-none key [] ns h = refl
@@ -116,6 +130,17 @@ module _ {T W : Type 0} where
   none-parts : (lists : Lists T W) (key : Key) → told_as lists key ≡ None → waits_as lists key ≡ None → kind_of lists key ≡ None
   none-parts lists key t w = rw (t, w) refl
 
+  -- a listener that was just added is on the list, and not told
+  pub told-listened : (lists : Lists T W) (key : Key) → kind_of lists key ≡ None → told_as (listened key lists) key ≡ None
+  told-listened lists key h = (parts-none lists key h).0
+
+  -- registering at a listener that was just added gives it its task, as if it had had it from the beginning
+  pub registration-listened : (lists : Lists T W) (key : Key) (task : W) → kind_of lists key ≡ None → registration key task (listened key lists) ≡ listened_with (Some task) key lists
+  registration-listened lists key task h =
+      let n = parts-none lists key h in
+      let f : waits_as (listened key lists) key ≡ Some None = found-last (same_key key) lists.waiting key None (same_key-self key) n.1 in
+      rw (n.0, f) (ap (λ (ws : List (Key × Option W)). record lists { waiting = ws }) (set-last (same_key key) lists.waiting key None (Some task) (same_key-self key) n.1))
+
   none-without : (lists : Lists T W) (key q : Key) → kind_of lists q ≡ None → kind_of (without key lists) q ≡ None
   none-without lists key q h =
       let n = parts-none lists q h in
@@ -133,19 +158,19 @@ module _ {T W : Type 0} where
       (none-append (same_key q) lists.told (told_with additional (take (length ts) lists.waiting) ts) n.0 (none-told_with (same_key q) additional lists.waiting ts n.1))
       (none-rest (same_key q) lists.waiting ts n.1)
 
-  none-listened : (lists : Lists T W) (key q : Key) → serial_of q < serial_of key → kind_of lists q ≡ None → kind_of (listened key lists) q ≡ None
-  none-listened lists key q lt h =
+  none-listened : (lists : Lists T W) (task : Option W) (key q : Key) → serial_of q < serial_of key → kind_of lists q ≡ None → kind_of (listened_with task key lists) q ≡ None
+  none-listened lists task key q lt h =
       let n = parts-none lists q h in
-      none-parts (listened key lists) q n.0 (none-append (same_key q) lists.waiting ((key, None) ∷ []) n.1 (lookup_tail (same_key q) (key, None) [] (other-key q key lt)))
+      none-parts (listened_with task key lists) q n.0 (none-append (same_key q) lists.waiting ((key, task) ∷ []) n.1 (lookup_tail (same_key q) (key, task) [] (other-key q key lt)))
 
   module _ {old new : ListView T W} where
     pub left-kept : new.lists ≡ old.lists → new.serials ≡ old.serials → (q : Key) → HasLeft old q → HasLeft new q
     left-kept l s q h = record { given = rw s h.given; unlisted = rw l h.unlisted }
 
-    pub left-listened : (key : Key) → new.lists ≡ listened key old.lists → serial_of key ≡ old.serials → new.serials ≡ old.serials + 1 → (q : Key) → HasLeft old q → HasLeft new q
-    left-listened key l k s q h = record {
+    pub left-listened : (task : Option W) (key : Key) → new.lists ≡ listened_with task key old.lists → serial_of key ≡ old.serials → new.serials ≡ old.serials + 1 → (q : Key) → HasLeft old q → HasLeft new q
+    left-listened task key l k s q h = record {
       given = omega (arith, s, h.given);
-      unlisted = rw l (none-listened old.lists key q (rw k h.given) h.unlisted);
+      unlisted = rw l (none-listened old.lists task key q (rw k h.given) h.unlisted);
     }
 
     pub left-without : (key : Key) → new.lists ≡ without key old.lists → new.serials ≡ old.serials → (q : Key) → HasLeft old q → HasLeft new q

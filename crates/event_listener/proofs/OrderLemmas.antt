@@ -1,9 +1,9 @@
 -- The order of listening through the operations on the two lists.
-use Rattle.std.proofs.Common.{◌≡◌, ℕ, ◌+◌, Bool, true, false, cond, List, [], ◌∷◌, ◌++◌, length, take, drop, Option, Some, None, refl, sym, ap, subst, ◌∙◌, arith, append_assoc}
+use Rattle.std.proofs.Common.{◌≡◌, ℕ, ◌+◌, Bool, true, false, cond, List, [], ◌∷◌, ◌++◌, length, take, drop, Option, Some, refl, sym, ap, subst, ◌∙◌, arith, append_assoc}
 use Rattle.std.proofs.lemmas.List.{map-append}
 use Rattle.std.specs.Map.{remove_entry, set_value}
 use Rattle.event_listener.specs.declared.key.Key.{Key}
-use Rattle.event_listener.specs.Lists.{Lists, serial_of, same_key, without, with_task, listened, notified, told_with}
+use Rattle.event_listener.specs.Lists.{Lists, serial_of, same_key, without, with_task, listened_with, notified, told_with}
 use Rattle.event_listener.specs.Order.{AllAbove, Ascending, serials_of, IsInOrder}
 
 above-next : (n s : ℕ) (ns : List ℕ) → AllAbove n (ns ++ s ∷ []) → AllAbove n (ns ++ s ∷ (s + 1) ∷ [])
@@ -54,11 +54,11 @@ module _ {T W : Type 0} where
   serials-told_with additional [] (t ∷ ts) = refl
   serials-told_with additional (w ∷ ws) (t ∷ ts) = ap (λ ns. serial_of w.0 ∷ ns) (serials-told_with additional ws ts)
 
-  pub in-order-listened : (lists : Lists T W) (key : Key) → IsInOrder lists (serial_of key) → IsInOrder (listened key lists) (serial_of key + 1)
-  in-order-listened lists key h =
+  pub in-order-listened : (lists : Lists T W) (task : Option W) (key : Key) → IsInOrder lists (serial_of key) → IsInOrder (listened_with task key lists) (serial_of key + 1)
+  in-order-listened lists task key h =
       let s = serial_of key in
       let front = serials_of lists.told ++ serials_of lists.waiting in
-      let m : serials_of (lists.waiting ++ (key, None) ∷ []) ≡ serials_of lists.waiting ++ s ∷ [] = map-append (λ e. serial_of e.0) lists.waiting ((key, None) ∷ []) in
+      let m : serials_of (lists.waiting ++ (key, task) ∷ []) ≡ serials_of lists.waiting ++ s ∷ [] = map-append (λ e. serial_of e.0) lists.waiting ((key, task) ∷ []) in
       subst Ascending
       (sym (append_assoc front (s ∷ []) ((s + 1) ∷ []))
       ∙ ap (λ ns. ns ++ (s + 1) ∷ []) (append_assoc (serials_of lists.told) (serials_of lists.waiting) (s ∷ []) ∙ ap (λ ns. serials_of lists.told ++ ns) (sym m)))

@@ -47,7 +47,7 @@ module _ {T : Type 0} where
   insertion : {before after : ListView T Task} (result : Result Key ListenError) → Ordered before → Inserts before after result → Ordered after
   insertion {before} (Ok key) h d =
       let at : IsInOrder before.lists (serial_of key) = in-order-at h refl d.added.serial_is in
-      in-order-at (in-order-listened before.lists key at) d.added.lists_are (d.added.serials_are ∙ ap (λ n. n + 1) (sym d.added.serial_is))
+      in-order-at (in-order-listened before.lists None key at) d.added.lists_are (d.added.serials_are ∙ ap (λ n. n + 1) (sym d.added.serial_is))
   insertion (Err error) h d = in-order-at h d.refused.lists_are d.refused.serials_are
 
   made : (call : Call T) (before after : ListView T Task) → Ordered before → Makes call before after → Ordered after

@@ -1,14 +1,17 @@
 -- What the calls of a list do in a section.
-use Rattle.std.proofs.Common.{◌≡◌, ℕ, ◌*◌, ◌≤◌, Bool, List, [], ◌∷◌, length, Result, Ok, Err, refl, sym, ap, subst, ◌∙◌, arith}
+use Rattle.std.proofs.Common.{◌≡◌, ℕ, ◌+◌, ◌*◌, ◌≤◌, Bool, List, [], ◌∷◌, length, Some, None, Result, Ok, Err, IfOk, OnOk, IfErr, OnErr, refl, sym, ap, subst, ◌∙◌, arith}
 use Rattle.std.proofs.lemmas.List.{take_all}
+use Rattle.event_listener.specs.declared.error.ListenError.{ListenError}
 use Rattle.event_listener.specs.declared.error.NoMemory.{NoMemory}
 use Rattle.event_listener.specs.declared.error.NotifyError.{NotifyError}
+use Rattle.event_listener.specs.declared.key.Key.{Key}
 use Rattle.event_listener.specs.declared.run.ListReply.TheVariants as reply
 use Rattle.event_listener.specs.declared.waking.Task.{Task}
-use Rattle.event_listener.specs.Lists.{ListView, moved, notified, told_by}
+use Rattle.event_listener.specs.Lists.{ListView, IsListenRefusal, kind_of, listened, listened_with, moved, notified, serial_of, told_by}
 use Rattle.event_listener.specs.Notices.{IsAnswer, Woken}
 use Rattle.event_listener.specs.Runs.{tags_given, tags_answer}
-use Rattle.event_listener.specs.Sections.{Tells, Makes, tells, wakes_at_once}
+use Rattle.event_listener.specs.Sections.{OnList, Tells, Makes, WakesCell, listens, tells, wakes_at_once}
+use Rattle.event_listener.proofs.LeftLemmas.{registration-listened, told-listened}
 use Rattle.event_listener.proofs.RunLemmas.{lt-no, lt-yes}
 
 -- whoever is woken, nothing is said of the sink
@@ -43,3 +46,32 @@ module _ {T : Type 0} where
           rw given (subst (λ n. after.visits ≤ 5 * n) w.1 visits),
           woken_at_once _,
         )
+
+  -- a listener that was added with its task was added, and then registered with it; or nobody was added
+  pub added_with : (before after : ListView T Task) (task : Task) (cell : ℕ) → WakesCell cell task → (result : Result Key ListenError)
+      → IfOk result (λ key. after.lists ≡ listened_with (Some task) key before.lists) → IfOk result (λ key. serial_of key ≡ before.serials)
+      → OnOk result (after.serials ≡ before.serials + 1) → IfOk result (λ key. kind_of before.lists key ≡ None) → OnOk result (before.room ≤ after.room + 1)
+      → after.visits ≤ 5 → OnErr result (after.lists ≡ before.lists) → OnErr result (after.serials ≡ before.serials) → OnErr result (before.room ≤ after.room)
+      → IfErr result (λ e. IsListenRefusal before e) → OnList {T = T} (listens cell result) before after
+  added_with before after task cell wakes (Ok key) lists serial serials unknown room visits same same_serials kept why = (
+    record after { lists = listened key before.lists },
+    task,
+    record {
+      added = record { lists_are = refl; unknown = unknown; serial_is = serial; serials_are = serials; room_is = room };
+      refused = tt;
+      visits = visits;
+    },
+    wakes,
+    (
+      refl,
+      record {
+        lists_are = lists ∙ sym (registration-listened before.lists key task unknown);
+        serials_are = refl;
+        room_is = rw (told-listened before.lists key unknown) refl;
+      },
+      visits,
+      refl,
+    ),
+  )
+  added_with before after task cell wakes (Err error) lists serial serials unknown room visits same same_serials kept why =
+      record { added = tt; refused = record { why = why; lists_are = same; serials_are = same_serials; room_is = kept }; visits = visits }

@@ -7,7 +7,7 @@ use Rattle.std.specs.Map.{lookup, remove_entry, set_value}
 use Rattle.event_listener.specs.declared.key.Key.{Key}
 use Rattle.event_listener.specs.declared.node.State.{State}
 use Rattle.event_listener.specs.declared.node.State.TheVariants.{Waiting, Told}
-use Rattle.event_listener.specs.Lists.{Notice, same_key, without, with_task, kind_of, listened, notified, told_as, waits_as}
+use Rattle.event_listener.specs.Lists.{Notice, same_key, without, with_task, kind_of, listened_with, notified, told_as, waits_as}
 use Rattle.event_listener.specs.Nodes.{is_told}
 use Rattle.event_listener.specs.Chain.{Link, Linked, Apart, Distinct, Among, AtEach, Entry, Chains, Sound, Beside, fresh_entry, Unlinks, Links_last, walk, first_or, last_or, pieces, told_piece, waiting_piece, lists_at, IsTold, IsWaiting}
 use Rattle.event_listener.proofs.ChainLemmas.{AllApart, AllApart-turn, SameAt-apart, SameAt-shift, Linked-same, Apart-none, Distinct-parted, Distinct-joined, Distinct-more, Distinct-cross, Distinct-head, Distinct-tail, Linked-ends, Linked-split, Linked-unlink, Linked-last, walk-linked, Among-more, Among-last, Among-left, last_or-apart, first_or-apart, first_or-far, Apart-append, Apart-front, Apart-back, last_or-away}
@@ -214,13 +214,13 @@ module _ {T W : Type 0} where
   Apart-dead E at (k ∷ cs) a n =
       (λ q. let e : k ≡ at = cc in let z : is_some (E k) ≡ false = ap is_some (ap E e ∙ n) in absurd (cc), Apart-dead E at cs a.1 n)
 
-  pub lists-listened : (E E' : ℕ → Option (Entry T W)) (at serial : ℕ) (cs : List ℕ) → Apart (Some at) cs → E' at ≡ Some (fresh_entry serial) → ((x : ℕ) → x ≢ at → E' x ≡ E x) → lists_at E' (cs ++ at ∷ []) ≡ listened (record { slot = at; serial = serial }) (lists_at E cs)
-  lists-listened E E' at serial cs apart made o =
+  pub lists-listened : (E E' : ℕ → Option (Entry T W)) (at serial : ℕ) (task : Option W) (cs : List ℕ) → Apart (Some at) cs → E' at ≡ Some (fresh_entry serial task) → ((x : ℕ) → x ≢ at → E' x ≡ E x) → lists_at E' (cs ++ at ∷ []) ≡ listened_with task (record { slot = at; serial = serial }) (lists_at E cs)
+  lists-listened E E' at serial task cs apart made o =
       let ts = pieces-same (λ k. told_piece k (E k)) (λ k. told_piece k (E' k)) at cs (λ x ne. ap (told_piece x) (o x ne)) apart in
       let ws = pieces-same (λ k. waiting_piece k (E k)) (λ k. waiting_piece k (E' k)) at cs (λ x ne. ap (waiting_piece x) (o x ne)) apart in
       let t : pieces (λ k. told_piece k (E' k)) (cs ++ at ∷ []) ≡ pieces (λ k. told_piece k (E k)) cs =
       rw (pieces-append (λ k. told_piece k (E' k)) cs (at ∷ []), ts, made) (append-nil (pieces (λ k. told_piece k (E k)) cs)) in
-      let w : pieces (λ k. waiting_piece k (E' k)) (cs ++ at ∷ []) ≡ pieces (λ k. waiting_piece k (E k)) cs ++ (record { slot = at; serial = serial }, None) ∷ [] =
+      let w : pieces (λ k. waiting_piece k (E' k)) (cs ++ at ∷ []) ≡ pieces (λ k. waiting_piece k (E k)) cs ++ (record { slot = at; serial = serial }, task) ∷ [] =
       rw (pieces-append (λ k. waiting_piece k (E' k)) cs (at ∷ []), ws, made) refl in
       λ i. record { told = t i; waiting = w i }
 
@@ -440,8 +440,8 @@ module _ {T W : Type 0} where
         )
 
   -- a listener that is added
-  pub Sound-insert : {TA TB WA WB : Link} {E : ℕ → Option (Entry T W)} {count told serials : ℕ} {ks ws : List ℕ} → Sound TA TB WA WB E count told serials ks ws → (TA' TB' WA' WB' : Link) (E' : ℕ → Option (Entry T W)) (count' serials' at : ℕ) → E at ≡ None → Links_last WA WB WA' WB' at → TA' None ≡ TA None → TB' None ≡ TB None → ((x : ℕ) → WA (Some x) ≡ TA (Some x)) → ((x : ℕ) → WA' (Some x) ≡ TA' (Some x)) → ((x : ℕ) → WB (Some x) ≡ TB (Some x)) → ((x : ℕ) → WB' (Some x) ≡ TB' (Some x)) → E' at ≡ Some (fresh_entry serials) → ((x : ℕ) → x ≢ at → E' x ≡ E x) → count' ≡ count + 1 → serials' ≡ serials + 1 → Sound TA' TB' WA' WB' E' count' told serials' ks (ws ++ at ∷ [])
-  Sound-insert {TA} {TB} {WA} {WB} {E} {count} {told} {serials} {ks} {ws} s TA' TB' WA' WB' E' count' serials' at dead u ta tb fa fa' bb bb' made others counted more =
+  pub Sound-insert : {TA TB WA WB : Link} {E : ℕ → Option (Entry T W)} {count told serials : ℕ} {ks ws : List ℕ} → Sound TA TB WA WB E count told serials ks ws → (TA' TB' WA' WB' : Link) (E' : ℕ → Option (Entry T W)) (count' serials' at : ℕ) (task : Option W) → E at ≡ None → Links_last WA WB WA' WB' at → TA' None ≡ TA None → TB' None ≡ TB None → ((x : ℕ) → WA (Some x) ≡ TA (Some x)) → ((x : ℕ) → WA' (Some x) ≡ TA' (Some x)) → ((x : ℕ) → WB (Some x) ≡ TB (Some x)) → ((x : ℕ) → WB' (Some x) ≡ TB' (Some x)) → E' at ≡ Some (fresh_entry serials task) → ((x : ℕ) → x ≢ at → E' x ≡ E x) → count' ≡ count + 1 → serials' ≡ serials + 1 → Sound TA' TB' WA' WB' E' count' told serials' ks (ws ++ at ∷ [])
+  Sound-insert {TA} {TB} {WA} {WB} {E} {count} {told} {serials} {ks} {ws} s TA' TB' WA' WB' E' count' serials' at task dead u ta tb fa fa' bb bb' made others counted more =
       let assoc : (ks ++ ws) ++ at ∷ [] ≡ ks ++ (ws ++ at ∷ []) = append_assoc ks ws (at ∷ []) in
       let apart = Apart-dead E at (ks ++ ws) (all-live E ks ws s.tolds s.waits) dead in
       let ak = Apart-front (Some at) ks ws apart in
@@ -468,13 +468,13 @@ module _ {T W : Type 0} where
         count_is = omega (arith, s.count_is);
         told_is = s.told_is;
         fresh = λ x e h. elim (cases_eq x at) [
-          | inl q ↦ let f : ◌≡◌ {A = Entry T W} (fresh_entry serials) e = fresh-same e (sym made ∙ ap E' (sym q) ∙ h) in
+          | inl q ↦ let f : ◌≡◌ {A = Entry T W} (fresh_entry serials task) e = fresh-same e (sym made ∙ ap E' (sym q) ∙ h) in
               let g : serials ≡ e.serial = ap (λ (r : Entry T W). r.serial) f in omega arith
           | inr ne ↦ let g = s.fresh x e (sym (others x ne) ∙ h) in omega arith
         ];
       }
     where
-      fresh-same : (e : Entry T W) → Some (fresh_entry serials) ≡ Some e → ◌≡◌ {A = Entry T W} (fresh_entry serials) e
+      fresh-same : (e : Entry T W) → Some (fresh_entry serials task) ≡ Some e → ◌≡◌ {A = Entry T W} (fresh_entry serials task) e
       fresh-same e h = cc
 
   -- The fields while a notification tells: the first waiting nodes have their new state, and still stand in the waiting chain.

@@ -88,9 +88,9 @@ module _ {T W : Type 0} where
   entry None = None
   entry (Some node) = Some (record { serial = node.serial; state = node.state })
 
-  -- a listener that was just added
-  abbrev pub fresh_entry : ℕ → Entry T W
-  fresh_entry serial = record { serial = serial; state = Waiting None }
+  -- a listener that was just added, with a task or without
+  abbrev pub fresh_entry : ℕ → Option W → Entry T W
+  fresh_entry serial task = record { serial = serial; state = Waiting task }
 
   abbrev pub entry_at : Slab (Node T W) → ℕ → Option (Entry T W)
   entry_at slab k = entry (get slab k)

@@ -68,6 +68,10 @@ module _ {T W : Type 0} where
   abbrev pub listened : Key → Lists T W → Lists T W
   listened key lists = record lists { waiting = lists.waiting ++ (key, None) ∷ [] }
 
+  -- the same with a task from the beginning, if there is one
+  abbrev pub listened_with : Option W → Key → Lists T W → Lists T W
+  listened_with task key lists = record lists { waiting = lists.waiting ++ (key, task) ∷ [] }
+
   abbrev pub without : Key → Lists T W → Lists T W
   without key lists = record { told = remove_entry (same_key key) lists.told; waiting = remove_entry (same_key key) lists.waiting }
 

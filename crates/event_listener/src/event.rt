@@ -15,6 +15,7 @@ use crate::id::EventId;
 use crate::into_notification::IntoNotification;
 use crate::list::List;
 use crate::listener::EventListener;
+use crate::notify::{Additional, Notify};
 use crate::steps::Steps;
 use crate::waking::{Task, WakerCell};
 use std::alloc::Global;
@@ -118,21 +119,32 @@ impl<T: Drop, L: Steps<T>> Event<T, L> {
         ensures tells { (n : N.Notify) × N.becomes notice n × NotifiesEvent N.Notify.size N.Notify.additional N.Notify.gives L.did L.holds L.lacks self.now.lock n result }
     {
         // The notification is taken by value, so no clause says what became of it: only a test shows that one for nobody makes no tag.
-        self.begin().notify(rt, notice)
+        let notice = notice.into_notification();
+        match self.begin().turn() {
+            Some(turn) => turn.notify(rt, notice),
+            // Nobody has listened yet: this one look is the whole call, and a listener that comes later isn't told by it.
+            None => Ok(0),
+        }
     }
 
     /// Whether some listener was told and has not taken its tag yet; never on an event without listeners. It may wait for the list's lock.
     pub fn is_notified<R: Wait>(&self, rt: &R) -> bool
         ensures counted { CountsEvent L.did L.holds L.lacks self.now.lock counts_told (λ told. result ≡ nat_lt 0 told) }
     {
-        self.begin().is_notified(rt)
+        match self.begin().turn() {
+            Some(turn) => turn.told(rt) > 0,
+            None => false,
+        }
     }
 
     /// How many listeners there are, told and waiting. It may wait for the list's lock. As `event-listener` 5.4.2.
     pub fn total_listeners<R: Wait>(&self, rt: &R) -> usize
         ensures counted { CountsEvent L.did L.holds L.lacks self.now.lock counts_all (λ all. result ≡ all) }
     {
-        self.begin().total_listeners(rt)
+        match self.begin().turn() {
+            Some(turn) => turn.total(rt),
+            None => 0,
+        }
     }
 }
 
@@ -153,7 +165,13 @@ impl<L: Steps<()>> Event<(), L> {
         ensures at_most { result ≤ count }
         ensures told { TellsEvent L.did L.holds L.lacks self.now.lock false count result }
     {
-        self.begin().notify_relaxed(rt, count)
+        match self.begin().turn() {
+            Some(turn) => match turn.notify(rt, Notify { count }) {
+                Ok(told) => told,
+                Err(_) => unreachable!(),
+            },
+            None => 0,
+        }
     }
 
     /// A notification that tells so many more listeners, however many are told already; answers how many were told now.
@@ -163,7 +181,14 @@ impl<L: Steps<()>> Event<(), L> {
         ensures at_most { result ≤ count }
         ensures told { TellsEvent L.did L.holds L.lacks self.now.lock true count result }
     {
-        self.begin().notify_additional(rt, count)
+        let inner = Notify { count };
+        match self.begin().turn() {
+            Some(turn) => match turn.notify(rt, Additional { inner }) {
+                Ok(told) => told,
+                Err(_) => unreachable!(),
+            },
+            None => 0,
+        }
     }
 
     /// As [`notify_additional`](Event::notify_additional).

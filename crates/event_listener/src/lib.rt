@@ -21,7 +21,6 @@
 //! and serials.
 #![tactic(auto)]
 
-mod begun;
 pub mod calls;
 mod counted;
 pub mod error;

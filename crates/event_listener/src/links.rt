@@ -60,11 +60,12 @@ pub(crate) fn link_last<T: Drop, W: Drop>(
     nodes: &mut Nodes<T, W>,
     ends: &mut Ends,
     serial: u64,
+    task: Option<W>,
 ) -> Result<usize, NoMemory>
     requires live { IfSome (before_of ends.old nodes.old.slab None) (λ k. ContainsKey nodes.old.slab k) }
     ensures absent { IfOk result (λ at. entry_at nodes.old.slab at ≡ None) }
     ensures links { IfOk result (Links_last (after_of ends.old nodes.old.slab) (before_of ends.old nodes.old.slab) (after_of ends.new nodes.new.slab) (before_of ends.new nodes.new.slab)) }
-    ensures made { IfOk result (λ at. entry_at nodes.new.slab at ≡ Some (fresh_entry serial)) }
+    ensures made { IfOk result (λ at. entry_at nodes.new.slab at ≡ Some (fresh_entry serial task)) }
     ensures others { IfOk result (λ at. (k : ℕ) → k ≢ at → entry_at nodes.new.slab k ≡ entry_at nodes.old.slab k) }
     ensures len { OnOk result (slab_len nodes.new.slab ≡ slab_len nodes.old.slab + 1) }
     ensures succeeds { HasRoomFor nodes.old.slab 1 → IsOk result }
@@ -82,7 +83,7 @@ pub(crate) fn link_last<T: Drop, W: Drop>(
         serial,
         before: last,
         after: None,
-        state: State::Waiting(None),
+        state: State::Waiting(task),
     };
     // Make the node before anything is linked: if memory is refused the chain is unchanged.
     let at = nodes.insert(node)?;

@@ -11,7 +11,7 @@
 ghost use Rattle.std.specs.Prelude.{◌≡◌, ◌+◌, ◌-◌, ◌*◌, ◌^◌, ◌<◌, ◌≤◌, [], length, IsOk, IfOk, OnOk, OnErr, IfErr, Err};
 ghost use Rattle.std.specs.Prelude.{◌≢◌, if◌then◌else◌, ◌∷◌, take, Option, Some, None, true, false};
 ghost use Rattle.std.specs.Option.{option_to_list};
-ghost use Rattle.event_listener.specs.Lists.{serial_of, kind_of, told_as, waits_as, listened, without, with_task, notified, tasks_of, moved, told_by, IsListenRefusal};
+ghost use Rattle.event_listener.specs.Lists.{serial_of, kind_of, told_as, waits_as, listened, listened_with, without, with_task, notified, tasks_of, moved, told_by, IsListenRefusal};
 ghost use Rattle.event_listener.specs.Order.{IsInOrder, HasLeft};
 ghost use Rattle.event_listener.specs.Chain.{IsStateOf};
 ghost use Rattle.event_listener.specs.Notices.{Notifies};
@@ -185,13 +185,33 @@ impl<T: Drop, W: Drop> List<T, W> {
         ensures used_up { self.old.serials ≡ 2 ^ 64 - 1 → result ≡ Err ListenError.SerialsUsedUp }
         ensures left { (key : Key) → HasLeft self.old key → HasLeft self.new key }
     {
+        self.insert_with(None)
+    }
+
+    /// [`List::insert`], with a task from the beginning if there is one. A refusal drops the task.
+    #[inline(always)]
+    pub(crate) fn insert_with(&mut self, task: Option<W>) -> Result<Key, ListenError>
+        ensures lists { IfOk result (λ key. self.new.lists ≡ listened_with task key self.old.lists) }
+        ensures serial { IfOk result (λ key. serial_of key ≡ self.old.serials) }
+        ensures serials { OnOk result (self.new.serials ≡ self.old.serials + 1) }
+        ensures unknown { IfOk result (λ key. kind_of self.old.lists key ≡ None) }
+        ensures room { OnOk result (self.old.room ≤ self.new.room + 1) }
+        ensures visits { self.new.visits ≤ 5 }
+        ensures looks { self.new.looks ≤ self.old.looks + 5 }
+        ensures unchanged { OnErr result (self.new.lists ≡ self.old.lists) }
+        ensures unchanged_serials { OnErr result (self.new.serials ≡ self.old.serials) }
+        ensures kept_room { OnErr result (self.old.room ≤ self.new.room) }
+        ensures why { IfErr result (λ e. IsListenRefusal self.old e) }
+        ensures used_up { self.old.serials ≡ 2 ^ 64 - 1 → result ≡ Err ListenError.SerialsUsedUp }
+        ensures left { (key : Key) → HasLeft self.old key → HasLeft self.new key }
+    {
         // Refuse before a node is made. A serial that was given twice would let the key of a listener that has left name another one.
         if self.serials == u64::MAX {
             self.nodes.start();
             return Err(ListenError::SerialsUsedUp);
         }
         let serial = self.serials;
-        match link_last(&mut self.nodes, &mut self.waiting, serial) {
+        match link_last(&mut self.nodes, &mut self.waiting, serial, task) {
             Ok(slot) => {
                 self.serials += 1;
                 Ok(Key { slot, serial })

@@ -227,10 +227,9 @@ impl<T: Drop> Steps<T> for List<T, Task> {
 
     #[inline(always)]
     fn listen(&mut self, _step: Step<'_>, cell: Arc<WakerCell>) -> Result<Key, ListenError> {
-        let key = self.insert()?;
-        // In the critical section of the insertion: a notification between the two would tell a listener without a task, and wake nobody.
-        let _ = self.register(key, Task::Polled(cell));
-        Ok(key)
+        // With its task from the beginning: a notification between an insertion and a registration would tell a listener without a task, and
+        // wake nobody.
+        self.insert_with(Some(Task::Polled(cell)))
     }
 
     #[inline(always)]

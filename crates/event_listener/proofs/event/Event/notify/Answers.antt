@@ -1,13 +1,15 @@
-use Rattle.std.proofs.Common.{subst, ℕ}
-use Rattle.event_listener.specs.Notifying.{NotifiesEvent}
+use Rattle.std.proofs.Common.{ℕ, inl, subst}
 use Rattle.event_listener.proofs.event.Event.notify.Goals as goal
 
-pub returns : goal.returns
-returns g c =
-    let notice = g.N.Notify.Notification in
+pub returns-in-Some : goal.returns-in-Some
+returns-in-Some g c =
     let steps = g.L.Steps in
+    let told = c.notify.ensures in
+    let list = c.in-Some.turn.step.seal.now.id in
     record {
-      tells = subst (λ (lock : ℕ).
-          (n : g.row.N-Notify.Denot) × g.N.IntoNotification.becomes c.args.notice n
-          × NotifiesEvent notice.size notice.additional notice.gives steps.did steps.holds steps.lacks lock n c.notify.result) c.begin.ensures c.notify.ensures.tells;
+      tells = (
+        c.into_notification-notice.result,
+        c.into_notification-notice.ensures,
+        inl (told.0, (list, subst (λ (lock : ℕ). steps.holds lock list) c.begin.ensures c.in-Some.ensures.held, told.1)),
+      );
     }

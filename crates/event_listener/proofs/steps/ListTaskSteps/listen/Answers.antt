@@ -1,17 +1,9 @@
 use Rattle.std.proofs.Common.{refl}
 use Rattle.event_listener.specs.declared.waking.Task.TheVariants.{Polled}
+use Rattle.event_listener.proofs.SectionLemmas.{added_with}
 use Rattle.event_listener.proofs.steps.ListTaskSteps.listen.Goals as goal
 
 pub returns : goal.returns
 returns g c =
-    let key = c.in_ok-key.ensures in (
-      c.insert.new.self,
-      Polled c.args.cell,
-      record {
-        added = record { lists_are = key.lists; unknown = key.unknown; serial_is = key.serial; serials_are = key.serials; room_is = key.room };
-        refused = tt;
-        visits = c.insert.ensures.visits;
-      },
-      refl,
-      search c,
-    )
+    let e = c.insert_with.ensures in
+    added_with c.args.self.now c.insert_with.new.self (Polled c.args.cell) _ refl c.insert_with.result e.lists e.serial e.serials e.unknown e.room e.visits e.unchanged e.unchanged_serials e.kept_room e.why

@@ -4,7 +4,7 @@ use Rattle.event_listener.specs.declared.node.Nodes.{Nodes}
 use Rattle.event_listener.specs.Lists.{ListView}
 use Rattle.event_listener.proofs.InsideLemmas.{kept, inserted, last-present}
 use Rattle.event_listener.proofs.LeftLemmas.{left-kept, left-listened}
-use Rattle.event_listener.proofs.list.List.insert.Goals as goal
+use Rattle.event_listener.proofs.list.List.insert_with.Goals as goal
 
 pub invariant_of-self : goal.invariant_of-self
 invariant_of-self g c =
@@ -25,19 +25,19 @@ pub invariant_of-self-in-Ok : goal.invariant_of-self-in-Ok
 invariant_of-self-in-Ok g c =
     (inserted c.self.inside
     (record { nodes = c.link_last.new.nodes; told = c.self.inside.told; waiting = c.link_last.new.ends; told_count = c.self.inside.told_count; serials = c.self.inside.serials + 1 })
-    c.self.invariant c.args.self.now c.self.view_is c.in-Ok.slot c.in-Ok.ensures.absent c.in-Ok.ensures.links c.in-Ok.ensures.made c.in-Ok.ensures.others c.in-Ok.ensures.len c.in-Ok.ensures.within c.in-Ok.ensures.fits refl refl refl).sound
+    c.self.invariant c.args.self.now c.self.view_is c.args.task c.in-Ok.slot c.in-Ok.ensures.absent c.in-Ok.ensures.links c.in-Ok.ensures.made c.in-Ok.ensures.others c.in-Ok.ensures.len c.in-Ok.ensures.within c.in-Ok.ensures.fits refl refl refl).sound
 
 pub returns-in-Ok-clause-lists : goal.returns-in-Ok-clause-lists
 returns-in-Ok-clause-lists g c =
     (inserted c.self.inside
     (record { nodes = c.link_last.new.nodes; told = c.self.inside.told; waiting = c.link_last.new.ends; told_count = c.self.inside.told_count; serials = c.self.inside.serials + 1 })
-    c.self.invariant c.args.self.now c.self.view_is c.in-Ok.slot c.in-Ok.ensures.absent c.in-Ok.ensures.links c.in-Ok.ensures.made c.in-Ok.ensures.others c.in-Ok.ensures.len c.in-Ok.ensures.within c.in-Ok.ensures.fits refl refl refl).lists
+    c.self.invariant c.args.self.now c.self.view_is c.args.task c.in-Ok.slot c.in-Ok.ensures.absent c.in-Ok.ensures.links c.in-Ok.ensures.made c.in-Ok.ensures.others c.in-Ok.ensures.len c.in-Ok.ensures.within c.in-Ok.ensures.fits refl refl refl).lists
 
 pub returns-in-Ok-clause-unknown : goal.returns-in-Ok-clause-unknown
 returns-in-Ok-clause-unknown g c =
     (inserted c.self.inside
     (record { nodes = c.link_last.new.nodes; told = c.self.inside.told; waiting = c.link_last.new.ends; told_count = c.self.inside.told_count; serials = c.self.inside.serials + 1 })
-    c.self.invariant c.args.self.now c.self.view_is c.in-Ok.slot c.in-Ok.ensures.absent c.in-Ok.ensures.links c.in-Ok.ensures.made c.in-Ok.ensures.others c.in-Ok.ensures.len c.in-Ok.ensures.within c.in-Ok.ensures.fits refl refl refl).unknown
+    c.self.invariant c.args.self.now c.self.view_is c.args.task c.in-Ok.slot c.in-Ok.ensures.absent c.in-Ok.ensures.links c.in-Ok.ensures.made c.in-Ok.ensures.others c.in-Ok.ensures.len c.in-Ok.ensures.within c.in-Ok.ensures.fits refl refl refl).unknown
 
 pub returns-in-Err-clause-unchanged : goal.returns-in-Err-clause-unchanged
 returns-in-Err-clause-unchanged g c =
@@ -56,7 +56,7 @@ returns-then-self-clause-left g c = left-kept (returns-then-self-clause-unchange
 
 pub returns-in-Ok-clause-left : goal.returns-in-Ok-clause-left
 returns-in-Ok-clause-left g c =
-    left-listened (record { slot = c.in-Ok.slot; serial = c.self.inside.serials }) (returns-in-Ok-clause-lists g c) (ap (λ (v : ListView _ _). v.serials) c.self.view_is) (ap (λ (v : ListView _ _). v.serials + 1) c.self.view_is)
+    left-listened c.args.task (record { slot = c.in-Ok.slot; serial = c.self.inside.serials }) (returns-in-Ok-clause-lists g c) (ap (λ (v : ListView _ _). v.serials) c.self.view_is) (ap (λ (v : ListView _ _). v.serials + 1) c.self.view_is)
 
 pub returns-in-Err-clause-left : goal.returns-in-Err-clause-left
 returns-in-Err-clause-left g c = left-kept (returns-in-Err-clause-unchanged g c) (ap (λ (v : ListView _ _). v.serials) c.self.view_is)
