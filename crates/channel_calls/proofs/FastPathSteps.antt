@@ -19,11 +19,12 @@ use Rattle.channel_calls.specs.declared.stage.Purpose.TheVariants as purpose
 use Rattle.channel_calls.specs.declared.stage.Stage.{Stage}
 use Rattle.channel_calls.specs.declared.stage.Stage.TheVariants.{Trying, Finished}
 use Rattle.channel_calls.specs.declared.stage.NextStep.{NextStep}
+use Rattle.channel_calls.specs.declared.stage.NextStep.TheVariants.{Ends}
 use Rattle.channel_calls.specs.declared.stage.Returned.{Returned}
 use Rattle.channel_calls.specs.declared.stage.WaitList.TheVariants.{Sends, Receives, Streams}
 use Rattle.channel_calls.specs.declared.whole.Completed.{Completed}
 use Rattle.channel_calls.specs.Asks.{kept_by, lent}
-use Rattle.channel_calls.specs.Answered.{asked_next, forced_next, received_next, sent_next}
+use Rattle.channel_calls.specs.Answered.{asked_next, forced_next}
 use Rattle.channel_calls.specs.Replies.{FollowsTurn, FollowsStage, MayEnd, ReplyAllowed}
 use Rattle.channel_calls.specs.Turns.{nothing_kept}
 use Rattle.channel_calls.specs.Walks.{Takes}
@@ -55,18 +56,6 @@ module _ {T W : Type 0} where
   abbrev pub KeepsNothing : NextStep T W → Type 0
   KeepsNothing turn = (r : Reply T) (s : Stage (QueueCall T) T W) → Takes turn s (Some r) → s ≡ Finished nothing_kept
 
-  pub sent_keeps : (y : QueueReply T) → KeepsNothing (sent_next y)
-  sent_keeps (Push (Ok u)) r s t = let e = t.0 in cc
-  sent_keeps (Push (Err (push_error.Full m))) r s t = t.1
-  sent_keeps (Push (Err (push_error.Closed m))) r s t = t.1
-  sent_keeps (Push (Err (push_error.NoMemory m))) r s t = t.1
-  sent_keeps (Force y) r s t = t.1
-  sent_keeps (Pop y) r s t = t.1
-  sent_keeps (Close y) r s t = t.1
-  sent_keeps (Flag y) r s t = t.1
-  sent_keeps (Count y) r s t = t.1
-  sent_keeps (Cap y) r s t = t.1
-
   pub forced_keeps : (y : QueueReply T) → KeepsNothing (forced_next y)
   forced_keeps (Force (Ok u)) r s t = let e = t.0 in cc
   forced_keeps (Force (Err (force_error.Closed m))) r s t = t.1
@@ -87,17 +76,6 @@ module _ {T W : Type 0} where
   asked_keeps (Pop y) r s t = t.1
   asked_keeps (Close y) r s t = t.1
 
-  pub received_keeps : (y : QueueReply T) → KeepsNothing (received_next y)
-  received_keeps (Pop (Ok m)) r s t = let e = t.0 in cc
-  received_keeps (Pop (Err pop_error.Empty)) r s t = t.1
-  received_keeps (Pop (Err pop_error.Closed)) r s t = t.1
-  received_keeps (Push y) r s t = t.1
-  received_keeps (Force y) r s t = t.1
-  received_keeps (Close y) r s t = t.1
-  received_keeps (Flag y) r s t = t.1
-  received_keeps (Count y) r s t = t.1
-  received_keeps (Cap y) r s t = t.1
-
   pub keeps_by : (turn turn0 : NextStep T W) → turn ≡ turn0 → KeepsNothing turn0 → KeepsNothing turn
   keeps_by turn turn0 e h r s t = h r s (subst (λ (x : NextStep T W). Takes x s (Some r)) e t)
 
@@ -106,6 +84,13 @@ module _ {T W : Type 0} where
   Turned turn result =
       MatchResult result (λ r. (s : Stage (QueueCall T) T W) × Takes turn s (Some r) × ((b : QueueForm) → FollowsTurn b turn s (Some r)))
       (λ call. Takes turn call.stage None × ((b : QueueForm) → FollowsTurn b turn call.stage None))
+
+  -- an answer that comes at once, and leaves nothing
+  pub leaves_nothing : (x : Reply T) → KeepsNothing (Ends x nothing_kept)
+  leaves_nothing x r s t = t.1
+
+  pub at_once : (x : Reply T) → Turned (Ends x nothing_kept) (Ok x)
+  at_once x = (Finished nothing_kept, (refl, refl), λ b. (refl, refl))
 
   -- and what `over` says of a poll
   abbrev pub TurnedOver : NextStep T W → Result (Completed T) (ChannelCall T W) → Type 0

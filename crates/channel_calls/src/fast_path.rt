@@ -7,22 +7,27 @@ ghost use Rattle.concurrent_queue.specs.declared.cells.QueueForm.{QueueForm};
 ghost use Rattle.concurrent_queue.specs.declared.queue_call.QueueCall.{QueueCall};
 ghost use Rattle.channel_calls.specs.Deeds.{Done};
 ghost use Rattle.channel_calls.specs.Walks.{Takes, WalkedOn};
+ghost use Rattle.channel_calls.specs.Answered.{received_next, sent_next};
 ghost use Rattle.channel_calls.specs.Asks.{first};
 ghost use Rattle.channel_calls.specs.Marks.{is_up};
 ghost use Rattle.channel_calls.specs.Replies.{FollowsTurn, MayEnd, ReplyAllowed};
 ghost use Rattle.channel_calls.specs.Stands.{BeginsHere};
+ghost use Rattle.channel_calls.specs.Turns.{nothing_kept};
 ghost use Rattle.channel_calls.specs.declared.ask.ChannelAsk.TheVariants as ask;
 ghost use Rattle.channel_calls.specs.declared.reply.Reply.{Reply};
+ghost use Rattle.channel_calls.specs.declared.stage.NextStep.TheVariants.{Ends};
 ghost use Rattle.channel_calls.specs.declared.stage.Stage.{Stage};
 
-use crate::answered::{asked_next, forced_next, received_next, sent_next};
+use crate::answered::{asked_next, forced_next};
 use crate::call::ChannelCall;
 use crate::cells::ChannelCells;
+use crate::error::{Refused, TryRecvError, TrySendError};
 use crate::mark::Mark;
 use crate::reply::Reply;
 use crate::stage::{NextStep, Purpose, Stage, Telling, WaitList};
 use crate::step::{Stepped, takes};
 use concurrent_queue::call::QueueReply;
+use concurrent_queue::error::{PopError, PushError};
 use concurrent_queue::queue_call::QueueCall;
 use event_listener::wakes::Wakes;
 
@@ -56,6 +61,48 @@ pub(crate) fn popped<T: Drop>(answer: QueueReply<T>) -> Result<T, QueueReply<T>>
     match answer {
         QueueReply::Pop(Ok(message)) => Ok(message),
         other => Err(other),
+    }
+}
+
+/// Whether a push is in, or what a send that doesn't wait answers because it isn't. A call that is over needs no stage, and room for one
+/// would be cleared in each send.
+#[inline(always)]
+fn unsent<T: Drop, W: Drop>(answer: QueueReply<T>) -> Result<(), Reply<T>>
+    ensures { MatchResult result (λ _. answer ≡ queue.Push (Ok tt)) (λ reply. sent_next {W = W} answer ≡ Ends reply nothing_kept) }
+{
+    match answer {
+        QueueReply::Push(Ok(())) => Ok(()),
+        QueueReply::Push(Err(PushError::Full(message))) => {
+            let error = Refused::Plain(TrySendError::Full(message));
+            Err(Reply::TrySend(Err(error)))
+        }
+        QueueReply::Push(Err(PushError::Closed(message))) => {
+            let error = Refused::Plain(TrySendError::Closed(message));
+            Err(Reply::TrySend(Err(error)))
+        }
+        QueueReply::Push(Err(PushError::NoMemory(message))) => {
+            Err(Reply::TrySend(Err(Refused::NoMemory(message))))
+        }
+        other => {
+            drop(other);
+            Err(Reply::Unit)
+        }
+    }
+}
+
+/// What a pop took, or what a receive that doesn't wait answers because it took nothing, likewise.
+#[inline(always)]
+fn missed<T: Drop, W: Drop>(answer: QueueReply<T>) -> Result<T, Reply<T>>
+    ensures { MatchResult result (λ message. answer ≡ queue.Pop (Ok message)) (λ reply. received_next {W = W} answer ≡ Ends reply nothing_kept) }
+{
+    match answer {
+        QueueReply::Pop(Ok(message)) => Ok(message),
+        QueueReply::Pop(Err(PopError::Empty)) => Err(Reply::TryRecv(Err(TryRecvError::Empty))),
+        QueueReply::Pop(Err(PopError::Closed)) => Err(Reply::TryRecv(Err(TryRecvError::Closed))),
+        other => {
+            drop(other);
+            Err(Reply::Unit)
+        }
     }
 }
 
@@ -104,14 +151,14 @@ pub fn send_fast<T: Drop, W: Drop, C: ChannelCells<T, W>, S: Wakes<W>>(
         }),
         Some(answer) => {
             drop(call);
-            match pushed(answer) {
+            match unsent::<T, W>(answer) {
                 Ok(()) => {
                     // The message is in, so notify: one more receive, then all streams, as the machine does.
                     cells.tell(WaitList::Receives, Telling::One, sink);
                     cells.tell(WaitList::Streams, Telling::All, sink);
                     Ok(Reply::TrySend(Ok(())))
                 }
-                Err(answer) => turned(sent_next(answer), mark),
+                Err(reply) => Ok(reply),
             }
         }
     }
@@ -177,13 +224,13 @@ pub fn receive_fast<T: Drop, W: Drop, C: ChannelCells<T, W>, S: Wakes<W>>(
         }),
         Some(answer) => {
             drop(call);
-            match popped(answer) {
+            match missed::<T, W>(answer) {
                 Ok(message) => {
                     // The place is free, so notify one more send.
                     cells.tell(WaitList::Sends, Telling::One, sink);
                     Ok(Reply::TryRecv(Ok(message)))
                 }
-                Err(answer) => turned(received_next(answer), mark),
+                Err(reply) => Ok(reply),
             }
         }
     }

@@ -1,4 +1,4 @@
-use Rattle.std.proofs.Common.{◌≡◌, refl, ap, ◌∙◌, subst, Option, Some, Ok, None}
+use Rattle.std.proofs.Common.{◌≡◌, refl, sym, ap, ◌∙◌, subst, Option, Some, Ok, None}
 use Rattle.channel_calls.specs.Deeds.{stepped, Done}
 use Rattle.channel_calls.proofs.Walking as walking
 use Rattle.concurrent_queue.specs.Step.{mark_of}
@@ -11,6 +11,7 @@ use Rattle.channel_calls.specs.declared.ask.ChannelAsk.TheVariants as ask
 use Rattle.channel_calls.specs.declared.mark.Mark.TheVariants as mark
 use Rattle.channel_calls.specs.declared.reply.Reply.TheVariants as reply
 use Rattle.channel_calls.specs.declared.stage.Purpose.TheVariants as purpose
+use Rattle.channel_calls.specs.declared.stage.NextStep.TheVariants.{Ends}
 use Rattle.channel_calls.specs.declared.stage.Stage.TheVariants.{Trying, Working, Finished}
 use Rattle.channel_calls.specs.declared.stage.ListStep.TheVariants.{TellReceive, TellStreams}
 use Rattle.channel_calls.proofs.Replying as replying
@@ -27,12 +28,11 @@ returns-in-None-clause-answers g c f has r m may =
 
 pub returns-in-Err-clause-answers : goal.returns-in-Err-clause-answers
 returns-in-Err-clause-answers g c f has =
-    let is = c.in-Some.is ∙ ap (λ (z : QueueReply g.row.T.Denot). Some z) c.in-Err.ensures in
     let one = c.push-call.result in
     let two = c.step_queue-answer.new.call in
-    fast.gives_by f one purpose.TrySend (ask.TrySend c.args.message) (fast.sends g.row.W.Denot f one c.args.message c.push-call.ensures.asked) _ _ c.turned.ensures.goes
-    (fast.keeps_by _ _ c.sent_next.ensures (fast.sent_keeps c.in-Err.answer))
-    (replying.answers f one two purpose.TrySend _ c.in-Err.answer is (c.step_queue-answer.ensures.answers f has) _ c.sent_next.ensures)
+    fast.gives_by f one purpose.TrySend (ask.TrySend c.args.message) (fast.sends g.row.W.Denot f one c.args.message c.push-call.ensures.asked) (Ends c.in-Err.reply nothing_kept) (Ok c.in-Err.reply) (fast.at_once {W = g.row.W.Denot} c.in-Err.reply)
+    (fast.leaves_nothing c.in-Err.reply)
+    (replying.answers f one two purpose.TrySend _ c.in-Some.answer c.in-Some.is (c.step_queue-answer.ensures.answers f has) _ (sym c.in-Err.ensures))
 
 pub returns-in-None-clause-deeds : goal.returns-in-None-clause-deeds
 returns-in-None-clause-deeds g c =
@@ -79,10 +79,9 @@ pub returns-in-Err-clause-deeds : goal.returns-in-Err-clause-deeds
 returns-in-Err-clause-deeds g c =
     let did = Done g.C.ChannelCells.did g.S.Wakes.wakes in
     let k = c.args.sink.now in
-    let is = c.in-Some.is ∙ ap (λ (z : QueueReply g.row.T.Denot). Some z) c.in-Err.ensures in
     walking.answers did (c.args.cells.now, k) (c.step_queue-answer.new.self, k) (queue_ask.Push c.args.message) purpose.TrySend c.push-call.result c.step_queue-answer.new.call
-    c.push-call.ensures.starts c.push-call.ensures.asked _ (c.step_queue-answer.ensures.deed, refl) c.in-Err.answer is _ c.sent_next.ensures
-    (fast.keeps_by _ _ c.sent_next.ensures (fast.sent_keeps c.in-Err.answer)) _ c.turned.ensures.goes
+    c.push-call.ensures.starts c.push-call.ensures.asked _ (c.step_queue-answer.ensures.deed, refl) c.in-Some.answer c.in-Some.is _ (sym c.in-Err.ensures)
+    (fast.leaves_nothing c.in-Err.reply) (Ok c.in-Err.reply) (fast.at_once {W = g.row.W.Denot} c.in-Err.reply)
 
 pub step_queue-answer-requires : goal.step_queue-answer-requires
 step_queue-answer-requires g c = record { may = standing.begun_ready g.C.ChannelCells.stands g.C.ChannelCells.may g.met.C.ChannelCells.ready c.args.cells.now (queue_ask.Push c.args.message) purpose.TrySend c.requires.stands c.push-call.result c.push-call.ensures.starts c.push-call.ensures.asked }
