@@ -6,6 +6,8 @@ use Rattle.concurrent_queue.specs.declared.call.QueueAsk.TheVariants as ask
 use Rattle.concurrent_queue.specs.declared.call.QueueReply.{QueueReply}
 use Rattle.concurrent_queue.specs.declared.call.QueueReply.TheVariants.{Push, Force, Pop, Close, Flag, Count, Cap}
 use Rattle.concurrent_queue.specs.declared.error.ForcePushError.TheVariants as force_error
+use Rattle.concurrent_queue.specs.declared.error.PushError.TheVariants as push_error
+use Rattle.concurrent_queue.specs.declared.error.PopError.TheVariants as pop_error
 use Rattle.concurrent_queue.specs.declared.queue_call.CallState.{CallState}
 use Rattle.concurrent_queue.specs.declared.queue_call.QueueCall.{QueueCall}
 use Rattle.channel_calls.specs.declared.ask.ChannelAsk.{ChannelAsk}
