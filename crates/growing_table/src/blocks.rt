@@ -11,7 +11,7 @@ use crate::seat::{GrowingSeat, Place};
 use crate::table::GrowingTable;
 use std::alloc::Allocator;
 
-impl<T, V, K, P: GrowingRule<Option<T>, V, K>, A: Allocator> GrowingTable<T, V, K, P, A> {
+impl<T, V, K, P: GrowingRule<T, V, K>, A: Allocator> GrowingTable<T, V, K, P, A> {
     /// Reads a word of a block.
     pub fn load_in<M: Play<Option<T>, V>>(
         &self,

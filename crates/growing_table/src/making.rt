@@ -35,7 +35,7 @@ struct Entry<T> {
     ghost placed: { InBlock link.ptr } by { in_block_prop link.ptr },
 }
 
-impl<T, V, K, P: GrowingRule<Option<T>, V, K>, A: Allocator> GrowingTable<T, V, K, P, A> {
+impl<T, V, K, P: GrowingRule<T, V, K>, A: Allocator> GrowingTable<T, V, K, P, A> {
     // Block `number` is the `offset`-th from that of the power of two which is no greater.
     fn entry(&self, seat: &mut GrowingSeat<T, V, A>, number: u64) -> Entry<T>
         requires { Sits self.now seat.old × (number + 1 < length seat.old.seat.me.view.chart.places) × (number < 2 ^ 39) }

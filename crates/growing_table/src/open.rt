@@ -17,13 +17,7 @@ const WIDEST: usize = 1 << 39;
 // There are at most so many powers of two.
 const LINKS: usize = 64;
 
-impl<T: Drop, V, K: Copy, P: GrowingRule<Option<T>, V, K>, A: Allocator> GrowingTable<
-    T,
-    V,
-    K,
-    P,
-    A,
-> {
+impl<T: Drop, V, K: Copy, P: GrowingRule<T, V, K>, A: Allocator> GrowingTable<T, V, K, P, A> {
     /// A table of these words and no block, each of which will have `cells` words and slots, and its first seat, which makes the
     /// blocks. `Err` where there is no memory for it.
     pub fn new(

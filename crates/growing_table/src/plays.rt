@@ -22,7 +22,8 @@ pub(crate) struct Grows<P> {
     rule: PhantomData<P>,
 }
 
-impl<S, V, K, P: GrowingRule<S, V, K>> RowRule<S, Sight<V>, Shape<S, K>> for Grows<P> {
+impl<T, V, K, P: GrowingRule<T, V, K>> RowRule<Option<T>, Sight<V>, Shape<Option<T>, K>>
+    for Grows<P> {
     ghost use Rattle.growing_table.specs.Laid.{Grown, maker};
 
     ghost holds = { λ key. Grown key.words key.cells key.root.ptr key.top.ptr (P.holds key.about) };

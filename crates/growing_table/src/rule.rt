@@ -1,11 +1,12 @@
 //! What a user states of a growing table: its rule, and what a step tells.
 
-/// The rule that every step keeps. `S` is what a slot holds, `V` what a seat knows, and `K` what the table is told once, at the start.
-pub trait GrowingRule<S, V, K> {
+/// The rule that every step keeps. A slot holds an `Option<T>`; `V` is what a seat knows, and `K` what the table is told once, at the start.
+pub trait GrowingRule<T, V, K> {
+    ghost use Rattle.std.specs.Prelude.{Option};
     ghost use Rattle.growing_table.specs.State.{State};
 
     /// A fact of the words, the blocks and the views, by what the table was told.
-    ghost holds: { K → State S V → Type 0 };
+    ghost holds: { K → State (Option T) V → Type 0 };
 
     /// The view of the first seat.
     ghost first: { K → V };

@@ -15,7 +15,7 @@ const ROOT: u64 = 0;
 
 const TOP: u64 = 1;
 
-impl<T, V, K, P: GrowingRule<Option<T>, V, K>, A: Allocator> GrowingTable<T, V, K, P, A> {
+impl<T, V, K, P: GrowingRule<T, V, K>, A: Allocator> GrowingTable<T, V, K, P, A> {
     /// Reads a word of the table's own, and makes a new seat.
     pub fn load_new_seat<M: Play<Option<T>, V>>(&self, word: usize) -> (u64, GrowingSeat<T, V, A>)
         requires word { word < self.now.words }

@@ -21,7 +21,7 @@ const COUNT: usize = 0;
 const LINKS: usize = 64;
 
 /// Words of its own, and blocks of words and slots, under one rule.
-pub struct GrowingTable<T, V, K, P: GrowingRule<Option<T>, V, K>, A: Allocator> {
+pub struct GrowingTable<T, V, K, P: GrowingRule<T, V, K>, A: Allocator> {
     pub(crate) rows: Rows<Option<T>, Sight<V>, Shape<Option<T>, K>, Grows<P>, A>,
     pub(crate) words: usize,
     pub(crate) cells: usize,
@@ -34,8 +34,7 @@ pub struct GrowingTable<T, V, K, P: GrowingRule<Option<T>, V, K>, A: Allocator> 
     ghost small: { (words ≤ 2 ^ 39) × (0 < words) × (cells ≤ 2 ^ 39) × (0 < cells) },
 }
 
-impl<T: Drop, V, K, P: GrowingRule<Option<T>, V, K>, A: Allocator> Drop
-    for GrowingTable<T, V, K, P, A> {
+impl<T: Drop, V, K, P: GrowingRule<T, V, K>, A: Allocator> Drop for GrowingTable<T, V, K, P, A> {
     fn drop(self) {
         let Self {
             rows,

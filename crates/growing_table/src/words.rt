@@ -14,7 +14,7 @@ use std::alloc::Allocator;
 // The row of the table's own words.
 const ROOT: u64 = 0;
 
-impl<T, V, K, P: GrowingRule<Option<T>, V, K>, A: Allocator> GrowingTable<T, V, K, P, A> {
+impl<T, V, K, P: GrowingRule<T, V, K>, A: Allocator> GrowingTable<T, V, K, P, A> {
     /// Reads a word of the table's own.
     pub fn load<M: Play<Option<T>, V>>(&self, seat: &mut GrowingSeat<T, V, A>, word: usize) -> u64
         requires seat { Sits self.now seat.old × (word < self.now.words) }

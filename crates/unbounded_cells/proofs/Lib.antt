@@ -1,8 +1,15 @@
 mod Blocks
 mod Steps
 mod Room
-mod Spares
-mod Slots
-mod Words
-mod OfQueue
-mod Seats
+mod SpareList
+mod SlotSteps
+mod WordSteps
+mod SeatSteps
+mod SeatStays
+mod CallSteps
+mod Absent
+mod CountSteps
+mod SpareSteps
+mod Rounds
+mod Parties
+pub mod CallsEnd

@@ -1,4 +1,13 @@
 pub mod Laws
 pub mod Rule
 pub mod Told
+pub mod Words
+pub mod Calls
+pub mod Counts
+pub mod Slots
 pub mod Queue
+pub mod OfQueue
+pub mod RunOrLong
+pub mod Seated
+pub mod SeatTold
+pub mod SpareTold

@@ -1,6 +1,6 @@
 -- The rule of an unbounded queue's table: what the words and slots of the table and of its blocks hold is what the machine's history made of
 -- them, or there was once a history as long as there are positions. The words of a spare block are nobody's concern.
-use Rattle.std.specs.Prelude.{◌≡◌, ◌≢◌, ◌⊎◌, ℕ, ◌+◌, ◌<◌, ◌≤◌, ◌^◌, true, List, [], ◌∷◌, length, map, Option, None, Some, slice_index, slice_index_or}
+use Rattle.std.specs.Prelude.{◌≡◌, ◌≢◌, ◌⊎◌, ℕ, ◌+◌, ◌<◌, ◌≤◌, ◌^◌, true, List, [], ◌∷◌, length, map, replicate, Option, None, Some, slice_index, slice_index_or, slice_set}
 use Rattle.std.specs.Int.{bit_at}
 use mathlib.Core.Option as home
 use lib.ListN.{get_elem?}
@@ -30,6 +30,10 @@ IsRoot _ = ⊥
 
 abbrev pub root_at : Word → ℕ
 root_at w = index_of (place_of w)
+
+-- the words of a new table: all 0, but for the two counts
+abbrev pub first_words : ℕ → List ℕ
+first_words n = slice_set (slice_set (replicate 32 0) 9 n) 28 n
 
 abbrev pub Homes : Type 0 → Type 0
 Homes T = List (Option (Option T))

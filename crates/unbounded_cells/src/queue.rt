@@ -11,9 +11,17 @@ use concurrent_queue::history::party::{OfQueue, Standing};
 use concurrent_queue::laws::parties_are_among_others;
 
 impl<T> BlockMachine<T, Standing<T>> for OfQueue {
+    ghost use Rattle.concurrent_queue.specs.history.Runs.{fresh};
+    ghost use Rattle.unbounded_cells.specs.OfQueue.{queue_blocks, queue_idles};
     ghost use Rattle.unbounded_cells.specs.Queue.{sized};
 
     ghost sized = { sized };
+
+    ghost blocks = { queue_blocks };
+
+    ghost idle = { fresh };
+
+    ghost idles = { queue_idles };
 }
 
 /// In a history of the queue's own machine with fewer than 2^61 events, each operation on a block is made on a block in use, and a block that

@@ -18,14 +18,24 @@ pub struct BlockView<T, A> {
     pub cleared: u64,
 }
 
-/// A machine of an unbounded queue, whose histories have a length. What has to be known of them is `KeepsBlocks`: a fact that the table of such
-/// a machine is made with.
+/// A machine of an unbounded queue, whose histories have a length. What has to be known of them is `KeepsBlocks`.
 pub trait BlockMachine<T, A>: Machine<T, A> {
     ghost use Rattle.std.specs.Prelude.{ℕ, List};
     ghost use Rattle.concurrent_queue.specs.Contents.{Contents};
     ghost use Rattle.concurrent_queue.specs.history.Keeps.{Tally};
+    ghost use Rattle.concurrent_queue.specs.declared.cells.QueueForm.TheVariants.{Unbounded};
     ghost use Rattle.concurrent_queue.specs.declared.history.rule.View.{View};
+    ghost use Rattle.unbounded_cells.specs.Laws.{KeepsBlocks};
 
     /// There is a history of so many events.
     ghost sized: { ℕ → List (View T A) → Contents T → Tally → Type 0 };
+
+    /// In a short history each operation on a block is made on one in use, and a block that is given back has only empty slots.
+    ghost blocks: { KeepsBlocks Self.moves Self.history sized };
+
+    /// The state of a party that makes no calls: that of the seat behind the lock of the spare list.
+    ghost idle: { A };
+
+    /// A new party may be at this state.
+    ghost idles: { Self.enters Unbounded idle };
 }

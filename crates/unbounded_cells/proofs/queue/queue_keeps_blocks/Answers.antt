@@ -1,4 +1,4 @@
-use Rattle.unbounded_cells.proofs.OfQueue as queue
+use Rattle.unbounded_cells.specs.OfQueue as queue
 use Rattle.unbounded_cells.proofs.queue.queue_keeps_blocks.Goals as goal
 
 pub returns : goal.returns

@@ -1,10 +1,11 @@
--- What a queue's own machine knows of blocks, in a history that is shorter than there are positions.
-use Rattle.std.proofs.Common.{◌≡◌, ℕ, zero, suc, ◌+◌, ◌*◌, ◌/◌, ◌<◌, ◌≤◌, ◌^◌, ◌==◌, ◌&&◌, inr, Bool, true, false, not, List, [], ◌∷◌, ◌++◌, length, map, refl, sym, ap, ◌∙◌, subst, arith, length-set}
+-- What a queue's own machine knows of blocks, in a history that is shorter than there are positions. It is proved here, and not beside the
+-- other proofs, since what an impl says can cite no proof of its own crate.
+use Rattle.std.proofs.Common.{◌≡◌, ℕ, zero, suc, ◌+◌, ◌*◌, ◌/◌, ◌<◌, ◌≤◌, ◌^◌, ◌==◌, ◌&&◌, inl, inr, Bool, true, false, not, List, [], ◌∷◌, ◌++◌, length, replicate, map, refl, sym, ap, ◌∙◌, subst, arith, length-set}
 use Rattle.std.proofs.lemmas.Bool.Decides.{nat_tests}
 use Rattle.std.specs.Prelude.{Option, None, Some, Ok, Err, slice_index_or, slice_get}
 use mathlib.Core.Option as home
 use Rattle.concurrent_queue.specs.Bridge.{Event, Happening, begins, does, Changes, InOneOrder}
-use Rattle.concurrent_queue.specs.Contents.{Contents, BlockCells, blank, block_at, blocks_with, write, write_slot, slot_at}
+use Rattle.concurrent_queue.specs.Contents.{Contents, BlockCells, blank, nones, block_at, blocks_with, write, write_slot, slot_at}
 use Rattle.concurrent_queue.specs.Deeds as deed
 use Rattle.concurrent_queue.specs.Deeds.{Deed, Move, loads, stores, exchanges, adds, sets_bits, keeps_bits, puts, takes, spares, retires, rests, Makes, Notes}
 use Rattle.concurrent_queue.specs.Effects.{Does}
@@ -44,12 +45,13 @@ use Rattle.concurrent_queue.specs.declared.single.SingleAction.TheVariants as si
 use Rattle.concurrent_queue.specs.declared.unbounded.action.UnboundedAction.{UnboundedAction}
 use Rattle.concurrent_queue.specs.declared.unbounded.action.UnboundedAction.TheVariants as act
 use Rattle.concurrent_queue.specs.declared.unbounded.action.UnboundedCall.{UnboundedCall}
-use Rattle.concurrent_queue.specs.history.Runs.{moves, history, standing_in, standing_of, HistoriesTouchTheirOwn}
+use Rattle.concurrent_queue.specs.history.Runs.{fresh, moves, enters, history, standing_in, standing_of, HistoriesTouchTheirOwn}
+use Rattle.concurrent_queue.proofs.Among.{parties_are_among_others}
 use Rattle.concurrent_queue.proofs.HistoryRuns as runs
+use Rattle.concurrent_queue.proofs.ItsOwn.{each_touches_its_own}
 use Rattle.concurrent_queue.proofs.StepFacts.{part}
 use Rattle.unbounded_cells.specs.Queue.{sized}
 use Rattle.unbounded_cells.specs.Laws.{word_block, slot_block, deed_block, word_is_no_flag, flag_is_one, OnFlags, IsNext, KeepsBlocks}
-use Rattle.unbounded_cells.proofs.Blocks.{same_is, blank_slot}
 
 none_is : {X : Type 0} {x : X} → None ≡ Some x → ⊥
 none_is e = absurd cc
@@ -88,7 +90,20 @@ not_true false e = refl
 not_true true e = absurd cc
 
 one_owes : (n : ℕ) → 1 ≤ same n n
-one_owes n = subst (λ (x : ℕ). 1 ≤ x) (sym (same_is n n refl)) (omega arith)
+one_owes n = (let e : (n == n) ≡ true = grind (arith, nat_tests) in let z : same n n ≡ 1 = rw e refl in omega arith)
+
+-- all slots of a blank block are empty
+none_at : {T : Type 0} → (i : ℕ) (l : List (Option T)) → (n : ℕ) → l ≡ replicate n None → slice_index_or l i None ≡ None
+none_at i l zero e = ap (λ (z : List (Option _)). slice_index_or z i None) e
+none_at zero l (suc n) e = ap (λ (z : List (Option _)). slice_index_or z zero None) e
+none_at (suc i) l (suc n) e = ap (λ (z : List (Option _)). slice_index_or z (suc i) None) e ∙ none_at i (replicate n None) n refl
+
+are_none : (T : Type 0) → nones {T = T} ≡ replicate 31 None
+unfolding nones
+are_none T = refl
+
+blank_slot : {T : Type 0} → (i : ℕ) → slice_index_or (blank {T = T}).slots i None ≡ None
+blank_slot {T = T} i = none_at i (blank {T = T}).slots 31 (are_none T)
 
 abbrev given_back : Target → Option ℕ
 given_back (on_block b) = Some b
@@ -387,3 +402,11 @@ module _ (T : Type 0) (own_so : HistoriesTouchTheirOwn T) (among_so : PartiesAre
         emptied_among c g.0 m.0 b m.1 m.2 g.2 i near;
     flags = λ v d may. (call_of v d may).3;
   }
+
+-- the machine's facts, and that of a party that has done nothing
+module _ {T : Type 0} where
+  pub queue_blocks : KeepsBlocks {T = T} {A = Standing T} moves history sized
+  queue_blocks = queue_keeps_blocks T (runs.histories_touch_their_own T each_touches_its_own) parties_are_among_others
+
+  pub queue_idles : enters {T = T} Unbounded fresh
+  queue_idles = inl refl

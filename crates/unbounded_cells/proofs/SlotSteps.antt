@@ -29,10 +29,11 @@ use Rattle.concurrent_queue.specs.history.Shared.{tally_in}
 use Rattle.concurrent_queue.proofs.Guarding.{set_there}
 use Rattle.unbounded_cells.specs.Laws.{deed_block, KeepsBlocks}
 use Rattle.unbounded_cells.specs.Rule.{Homes, Blocks, TableState, inner, WordsShown, SlotsShown, party, parties, slot_in, slot_of, IsFree, IsWon, KeepsSpares, IsKept, IsRuled}
+use Rattle.unbounded_cells.specs.Slots.{holds, TakesAt, PutsAt}
 use Rattle.unbounded_cells.specs.Told.{on_with}
 use Rattle.unbounded_cells.specs.declared.rule.BlockView.{BlockView}
 use Rattle.unbounded_cells.proofs.Blocks as blocks
-use Rattle.unbounded_cells.proofs.Spares.{some_is, none_some}
+use Rattle.unbounded_cells.proofs.SpareList.{some_is, none_some}
 use Rattle.unbounded_cells.proofs.Steps as rule
 use Rattle.unbounded_cells.proofs.Steps.{seen_as}
 
@@ -148,10 +149,6 @@ module _ {T : Type 0} where
   pub vacant : (l : List (Option T)) (i : ℕ) (x : Option T) → i < length l → slice_index_or l i None ≡ x → is_vacant (slice_get l i) ≡ is_vacant (Some x)
   vacant l i x inside e = ap is_vacant (get_is l i None inside ∙ ap (λ (o : Option T). Some o) e)
 
-module _ {T A : Type 0} where
-  abbrev pub holds : BlockView T A → Option (ℕ × ℕ × Option T) → BlockView T A
-  holds v held = record v { held = held }
-
 module _ {T A : Type 0} {moves : QueueForm → A → Event T → A → Type 0} {enters : QueueForm → A → Type 0} {turns : QueueForm → A → A → Type 0} {counts : QueueForm → A → A → Counter → CountStep → ℕ → Type 0} {both : A → A → A} {left : A → A} {parts : QueueForm → A → A → A → Type 0} {opened : A} {counted : ℕ} {is_history : HistoryOf T A} (laws : KeepsHistory moves enters turns counts both left parts opened counted is_history)
     {sized : ℕ → List (View T A) → Contents T → Tally → Type 0} (machine : KeepsBlocks moves is_history sized) (admits : Type 0) where
   abbrev Ruled : TableState T A → Type 0
@@ -259,20 +256,6 @@ module _ {T A : Type 0} {moves : QueueForm → A → Event T → A → Type 0} {
       (subst (λ (bs : Blocks T). Ruled (state.state s.words bs (set s.views id v))) (sym (set-get_or s.blocks n state.no_block))
       (subst (λ (vs : List (BlockView T A)). Ruled (state.state s.words s.blocks vs)) (sym (set_again s.views id v at)) r))
 
-  -- what was found in the slot that was won, and what the history has there from now on
-  abbrev pub Won : ℕ → ℕ → Option T → Option T → Deed T → Seat → Seat → Type 0
-  Won n i x y d m m' = moves Unbounded m.view.party.state (does (Some d)) m'.view.party.state × (m' ≡ me (holds (on_with m.view m'.view.party.state) (Some (n, i, y))) (Some (n, i, x)))
-
-  abbrev pub Takes : ℕ → ℕ → Seat → ℕ → Seat → Type 0
-  Takes n i m found m' = (found ≡ 0 → (x : Option T) × Won n i x None (deed.did_take (In n i) x) m m') × (found ≢ 0 → m' ≡ m)
-
-  abbrev pub PutOn : ℕ → ℕ → T → Option T → Seat → Seat → Type 0
-  PutOn n i v None m m' = Won n i None (Some v) (deed.did_put (In n i) v (Ok tt)) m m'
-  PutOn n i v (Some y) m m' = Won n i (Some y) (Some y) (deed.did_put (In n i) v (Err v)) m m'
-
-  abbrev pub Puts : ℕ → ℕ → T → Seat → ℕ → Seat → Type 0
-  Puts n i v m found m' = (found ≡ 0 → (x : Option T) × PutOn n i v x m m') × (found ≢ 0 → m' ≡ m)
-
   abbrev Goes : TableState T A → ℕ → ℕ → ℕ → Seat → (Seat → Type 0) → ℕ → Type 0
   Goes s id n i m then z = state.Goes Ruled s.words (set s.blocks n (block_of (set (block s.blocks n).words i z) (block s.blocks n).homes)) s.views id m then
 
@@ -292,36 +275,36 @@ module _ {T A : Type 0} {moves : QueueForm → A → Event T → A → Type 0} {
 
   -- A MESSAGE IS TAKEN in the step that wins the guard; where another seat has the slot nothing was done
   pub takes_so : (id n i : ℕ) (m : Seat) → i < 31 → m.view.held ≡ None → m.view.party.spent ≡ false → ((o : Option T) → (a : A) × moves Unbounded m.view.party.state (does (Some (deed.did_take (In n i) o))) a)
-      → Allows Ruled id m (within n i) (λ y. either (eqb y 0) 1 y) (Takes n i m)
+      → Allows Ruled id m (within n i) (λ y. either (eqb y 0) 1 y) (TakesAt moves n i m)
   takes_so id n i m near idle live fits s r at has small =
-      lists.exchanged (inner s.blocks n i) 0 1 (Goes s id n i m (Takes n i m (inner s.blocks n i)))
+      lists.exchanged (inner s.blocks n i) 0 1 (Goes s id n i m (TakesAt moves n i m (inner s.blocks n i)))
       (λ hit.
       let f = is_free s n i hit (r.guards n i has.0 near) in
       let x : Option T = f.1.0 in
       let b = fits x in
-      won_by s id n i m b.0 (deed.did_take (In n i) x) x None (Takes n i m (inner s.blocks n i)) r at has.0 has.1 near idle live hit f.1.1 refl
+      won_by s id n i m b.0 (deed.did_take (In n i) x) x None (TakesAt moves n i m (inner s.blocks n i)) r at has.0 has.1 near idle live hit f.1.1 refl
       (λ c there long e. (sym e, refl)) b.1
       ((λ _. (x, (b.1, refl))), λ miss. absurd (miss hit)))
       (λ miss. (m.view, keeps, tt, missed s id n i m.view r at, ((λ hit. absurd (miss hit)), λ _. refl)))
 
   -- A MESSAGE IS PUT IN likewise, or handed back
   pub puts_so : (id n i : ℕ) (m : Seat) (v : T) → i < 31 → m.view.held ≡ None → m.view.party.spent ≡ false → ((o : Result Unit T) → (a : A) × moves Unbounded m.view.party.state (does (Some (deed.did_put (In n i) v o))) a)
-      → Allows Ruled id m (within n i) (λ y. either (eqb y 0) 1 y) (Puts n i v m)
+      → Allows Ruled id m (within n i) (λ y. either (eqb y 0) 1 y) (PutsAt moves n i v m)
   puts_so id n i m v near idle live fits s r at has small =
-      lists.exchanged (inner s.blocks n i) 0 1 (Goes s id n i m (Puts n i v m (inner s.blocks n i)))
+      lists.exchanged (inner s.blocks n i) 0 1 (Goes s id n i m (PutsAt moves n i v m (inner s.blocks n i)))
       (λ hit. let f = is_free s n i hit (r.guards n i has.0 near) in brought s r at has hit f.1.0 f.1.1)
       (λ miss. (m.view, keeps, tt, missed s id n i m.view r at, ((λ hit. absurd (miss hit)), λ _. refl)))
     where
       brought : (s : TableState T A) (r : Ruled s) → get_elem? s.views id ≡ home.some m.view → state.Has s.words s.blocks (within n i) → inner s.blocks n i ≡ 0 → (x : Option T) → home_of s.blocks n i ≡ Some x
-          → Goes s id n i m (Puts n i v m (inner s.blocks n i)) 1
+          → Goes s id n i m (PutsAt moves n i v m (inner s.blocks n i)) 1
       brought s r at has hit None there =
           let b = fits (Ok tt) in
-          won_by s id n i m b.0 (deed.did_put (In n i) v (Ok tt)) None (Some v) (Puts n i v m (inner s.blocks n i)) r at has.0 has.1 near idle live hit there refl
+          won_by s id n i m b.0 (deed.did_put (In n i) v (Ok tt)) None (Some v) (PutsAt moves n i v m (inner s.blocks n i)) r at has.0 has.1 near idle live hit there refl
           (λ c made long e. (vacant (block_at c n).slots i None long e, refl)) b.1
           ((λ _. (None, (b.1, refl))), λ miss. absurd (miss hit))
       brought s r at has hit (Some y) there =
           let b = fits (Err v) in
-          won_by s id n i m b.0 (deed.did_put (In n i) v (Err v)) (Some y) (Some y) (Puts n i v m (inner s.blocks n i)) r at has.0 has.1 near idle live hit there refl
+          won_by s id n i m b.0 (deed.did_put (In n i) v (Err v)) (Some y) (Some y) (PutsAt moves n i v m (inner s.blocks n i)) r at has.0 has.1 near idle live hit there refl
           (λ c made long e. (
             vacant (block_at c n).slots i (Some y) long e,
             refl,

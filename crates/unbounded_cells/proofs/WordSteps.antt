@@ -13,7 +13,7 @@ use lib.ListN.{get_elem?}
 use prog.Atomic.{either}
 use Rattle.atomic_table.proofs.Lists.{at_set, at_map, set_again}
 use Rattle.growing_table.specs.State as state
-use Rattle.growing_table.specs.State.{Me, me, Act, Spot, keeps, own, within, count, block, block_of, Allows}
+use Rattle.growing_table.specs.State.{Me, me, Act, keeps, own, within, count, block, block_of, Allows}
 use Rattle.concurrent_queue.specs.Bridge.{Event, does}
 use Rattle.concurrent_queue.specs.Contents.{Contents, BlockCells, block_in, block_at, with_block, with_next, with_reads, with_written, no_block, read, write}
 use Rattle.concurrent_queue.specs.Deeds as deed
@@ -34,28 +34,12 @@ use Rattle.unbounded_cells.specs.Laws.{deed_block, word_block, KeepsBlocks}
 use Rattle.unbounded_cells.specs.Rule.{Blocks, TableState, inner, WordsShown, SlotsShown, BlocksShown, IsShown, IsRoot, root_at, party, parties, slot_of, KeepsSpares, Cleared, IsKept, IsRuled}
 use Rattle.unbounded_cells.specs.Told as told
 use Rattle.unbounded_cells.specs.Told.{on_with}
+use Rattle.unbounded_cells.specs.Words.{IsWhole, spot_of, LeavesAll}
 use Rattle.unbounded_cells.specs.declared.rule.BlockView.{BlockView}
 use Rattle.unbounded_cells.proofs.Blocks as blocks
-use Rattle.unbounded_cells.proofs.Spares.{top_no_root}
+use Rattle.unbounded_cells.proofs.SpareList.{top_no_root}
 use Rattle.unbounded_cells.proofs.Steps as rule
 use Rattle.unbounded_cells.proofs.Steps.{seen_as}
-
--- a word that is one of the table's: not a flag, and not a stamp
-abbrev pub IsWhole : Word → Type 0
-IsWhole word.State = Unit {0}
-IsWhole word.Head = Unit {0}
-IsWhole word.Tail = Unit {0}
-IsWhole word.HeadBlock = Unit {0}
-IsWhole word.TailBlock = Unit {0}
-IsWhole (word.Next b) = Unit {0}
-IsWhole (word.Reads b) = Unit {0}
-IsWhole _ = ⊥
-
--- where it lies
-abbrev pub spot_of : Word → Spot
-spot_of (word.Next b) = within b 31
-spot_of (word.Reads b) = within b 32
-spot_of w = own (root_at w)
 
 root_low : (w : Word) → IsRoot w → (root_at w < 3) ⊎ ((16 ≤ root_at w) × (root_at w < 18))
 root_low word.State h = inl (omega arith)
@@ -373,9 +357,16 @@ module _ {T A : Type 0} {moves : QueueForm → A → Event T → A → Type 0} {
       ))
       (cases_lt n (length s.blocks))
 
-  -- an operation that leaves all cells as they are, of whatever queue without a bound
-  abbrev pub LeavesAll : Deed T → Type 0
-  LeavesAll d = (ws : List ℕ) (bs : Blocks T) (c : Contents T) → IsShown ws bs c → Does d c c
-
   pub happens_so : (id : ℕ) (m : Seat) (d : Deed T) → m.view.party.spent ≡ false → LeavesAll d → ((a : A) × moves Unbounded m.view.party.state (does (Some d)) a) → Allows Ruled id m count (λ x. x) (λ _ m'. told.Does moves d m m')
   happens_so id m d live leaves fits s r at has small = (on_with m.view fits.0, keeps, tt, happens s r id m.view d fits.0 at live fits.1 (λ q. leaves s.words s.blocks q.contents q.shown), (fits.1, refl))
+
+  -- in a load of one of the table's own words
+  pub happens_at : (id k : ℕ) (m : Seat) (d : Deed T) → m.view.party.spent ≡ false → LeavesAll d → ((a : A) × moves Unbounded m.view.party.state (does (Some d)) a) → Allows Ruled id m (own k) (λ x. x) (λ _ m'. told.Does moves d m m')
+  happens_at id k m d live leaves fits s r at has small = (
+    on_with m.view fits.0,
+    keeps,
+    tt,
+    subst (λ (ws : List ℕ). Ruled (state.state ws s.blocks (set s.views id (on_with m.view fits.0)))) (sym (set-get_or s.words k 0))
+        (happens s r id m.view d fits.0 at live fits.1 (λ q. leaves s.words s.blocks q.contents q.shown)),
+    (fits.1, refl),
+  )

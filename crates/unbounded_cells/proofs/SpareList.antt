@@ -33,6 +33,7 @@ use Rattle.concurrent_queue.specs.history.Shared.{tally_in, count_at}
 use Rattle.concurrent_queue.proofs.HistorySteps as steps
 use Rattle.unbounded_cells.specs.Laws.{KeepsBlocks}
 use Rattle.unbounded_cells.specs.Rule.{Blocks, TableState, inner, WordsShown, BlocksShown, Chain, IsRoot, root_at, party, parties, slot_in, KeepsSpares, Cleared, IsKept, IsRuled}
+use Rattle.unbounded_cells.specs.SpareTold.{at_top, by_hand}
 use Rattle.unbounded_cells.specs.Told.{on_with}
 use Rattle.unbounded_cells.specs.declared.rule.BlockView.{BlockView}
 use Rattle.unbounded_cells.proofs.Blocks as blocks
@@ -67,15 +68,6 @@ pairs p q e = (ap (λ (p : ℕ × ℕ). p.0) e, ap (λ (p : ℕ × ℕ). p.1) e)
 
 pub none_some : {X : Type 0} (x : X) → None ≢ Some x
 none_some x e = absurd (cc)
-
-module _ {T A : Type 0} where
-  -- the view of the owner of the lock, once the list begins with this
-  abbrev pub at_top : BlockView T A → ℕ → BlockView T A
-  at_top v top = record v { top = top; link = None; cleared = 0 }
-
-  -- and while it reads or clears words of the first spare block, or links another
-  abbrev pub by_hand : BlockView T A → Option (ℕ × ℕ) → ℕ → BlockView T A
-  by_hand v link cleared = record v { link = link; cleared = cleared }
 
 module _ {T : Type 0} where
   pub no_spares : (bs : Blocks T) (top : ℕ) (sp : List ℕ) → top ≡ 0 → Chain bs top sp → sp ≡ []

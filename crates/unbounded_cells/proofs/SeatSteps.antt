@@ -25,29 +25,16 @@ use Rattle.concurrent_queue.specs.history.Shared.{AreSeated, Shown, tally_in}
 use Rattle.concurrent_queue.proofs.HistorySeats as seats
 use Rattle.concurrent_queue.proofs.HistorySeats.{IsNamed}
 use Rattle.unbounded_cells.specs.Laws.{KeepsBlocks, Long}
-use Rattle.unbounded_cells.specs.Rule.{Blocks, TableState, IsRoot, root_at, party, parties, slot_in, slot_of, IsFree, IsWon, KeepsSpares, Cleared, IsKept, IsRuled}
+use Rattle.unbounded_cells.specs.Rule.{first_words, Blocks, TableState, IsRoot, root_at, party, parties, slot_in, slot_of, IsFree, IsWon, KeepsSpares, Cleared, IsKept, IsRuled}
+use Rattle.unbounded_cells.specs.SeatTold.{newcomer, lock_seat, without_lock, with_lock}
 use Rattle.unbounded_cells.specs.Told.{on_with, first_seat}
 use Rattle.unbounded_cells.specs.declared.rule.BlockView.{BlockView}
-use Rattle.unbounded_cells.proofs.Spares.{none_some}
+use Rattle.unbounded_cells.proofs.SpareList.{none_some}
 use Rattle.unbounded_cells.proofs.Steps as rule
 use Rattle.unbounded_cells.proofs.Steps.{seen_as}
 
 module _ {T A : Type 0} where
-  -- a new party, which knows its number and this is its state
-  abbrev pub newcomer : ℕ → A → BlockView T A
-  newcomer n a = record { party = record { who = n; nameless = false; form = Unbounded; state = a; held = None; foreign = false; over = []; spent = false }; held = None; keeper = false; top = 0; link = None; cleared = 0 }
-
-  -- the seat that lies with the lock, of a party that makes no calls; and what is left to one that gave the lock on
-  abbrev pub lock_seat : BlockView T A → A → BlockView T A
-  lock_seat v a = record { party = record { who = 0; nameless = true; form = Unbounded; state = a; held = None; foreign = false; over = []; spent = false }; held = None; keeper = v.keeper; top = v.top; link = None; cleared = 0 }
-
-  abbrev pub without_lock : BlockView T A → BlockView T A
-  without_lock v = record v { keeper = false; top = 0; link = None; cleared = 0 }
-
-  abbrev pub with_lock : BlockView T A → BlockView T A → BlockView T A
-  with_lock v w = record v { keeper = true; top = w.top; link = None; cleared = 0 }
-
-  more_parties : (views : List (BlockView T A)) (w : BlockView T A) → parties (views ++ w ∷ []) ≡ parties views ++ w.party ∷ []
+  pub more_parties : (views : List (BlockView T A)) (w : BlockView T A) → parties (views ++ w ∷ []) ≡ parties views ++ w.party ∷ []
   more_parties [] w = refl
   more_parties (v ∷ views) w = ap (λ (l : List (View T A)). v.party ∷ l) (more_parties views w)
 
@@ -201,7 +188,7 @@ module _ {T A : Type 0} {moves : QueueForm → A → Event T → A → Type 0} {
   -- ---- the lock of the spare list goes from seat to seat
 
   -- to a new one
-  pub splits_so : (id : ℕ) (v : BlockView T A) (a : A) → v.keeper ≡ true → v.party.spent ≡ false → enters Unbounded a → Splits Ruled id v (without_lock v) (lock_seat v a)
+  pub splits_so : (id : ℕ) (v : BlockView T A) (a : A) → v.keeper ≡ true → v.party.spent ≡ false → enters Unbounded a → Splits Ruled id v (without_lock v) (lock_seat a v)
   splits_so id v a keeper live go s r at =
       let w = without_lock v in
       let mine = r.spares id v at keeper in
@@ -210,7 +197,7 @@ module _ {T A : Type 0} {moves : QueueForm → A → Event T → A → Type 0} {
       (λ is. absurd (true_false (sym is)))
       (λ _ u g. g)
       (λ q. rule.quiet laws machine admits s.words s.words s.blocks s.blocks s.views q id v w at refl refl q.shown (away_still s id v w r at refl q) (cleared_still s id v w r at (λ is. absurd (true_false (sym is))) q)) in
-      comes (state.state s.words s.blocks (set s.views id w)) (lock_seat v a) r1 (λ named. absurd (true_false named)) refl refl refl refl go
+      comes (state.state s.words s.blocks (set s.views id w)) (lock_seat a v) r1 (λ named. absurd (true_false named)) refl refl refl refl go
       (λ _ j u e is. ⊎_elim
       (λ (t : (j ≡ id) × (w ≡ u)). true_false (sym is ∙ sym (ap (λ (o : BlockView T A). o.keeper) t.1)))
       (λ (t : (j ≢ id) × (get_elem? s.views j ≡ home.some u)). t.0 (r.single j id u v t.1 at is keeper))
@@ -259,10 +246,6 @@ module _ {T A : Type 0} {moves : QueueForm → A → Event T → A → Type 0} {
       subst (λ (vs : List (BlockView T A)). Ruled (state.state s.words s.blocks vs)) (swapped s.views other id y x two) r2
 
 -- ---- a new table
-
--- its words: all 0, but for the two counts
-abbrev pub first_words : ℕ → List ℕ
-first_words n = set (set (replicate 32 0) 9 n) 28 n
 
 only_one : {X : Type 0} → (x u : X) (j : ℕ) → get_elem? (x ∷ []) j ≡ home.some u → (j ≡ 0) × (x ≡ u)
 only_one x u zero e = (refl, some-injective x u e)

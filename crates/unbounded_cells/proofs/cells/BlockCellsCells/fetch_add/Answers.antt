@@ -1,0 +1,10 @@
+use Rattle.std.proofs.Common.{inl}
+use Rattle.unbounded_cells.proofs.cells.BlockCellsCells.fetch_add.Goals as goal
+
+pub fetch_add-requires : goal.fetch_add-requires
+fetch_add-requires g c = record { next = λ n. c.requires.may n }
+
+pub returns-clause-deed : goal.returns-clause-deed
+returns-clause-deed g c =
+    let e = c.fetch_add.ensures in
+    (inl e.made, e.same.2, (e.same.0, e.same.1, e.same.3))

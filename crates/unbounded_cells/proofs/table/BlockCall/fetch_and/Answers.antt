@@ -1,0 +1,58 @@
+use Rattle.std.proofs.Common.{refl, ap, ◌∙◌}
+use Rattle.growing_table.specs.Seats.{me_of}
+use Rattle.concurrent_queue.specs.Deeds.{bits_kept}
+use Rattle.unbounded_cells.proofs.Absent.{absent_keep}
+use Rattle.unbounded_cells.proofs.CallSteps.{keeps_here, may_there, no_keep}
+use Rattle.unbounded_cells.proofs.table.BlockCall.fetch_and.Goals as goal
+
+pub reach-requires-clause-leaves : goal.reach-requires-clause-leaves
+reach-requires-clause-leaves g c = λ none. absent_keep c.args.at none c.args.bits
+
+pub reach-requires-clause-next : goal.reach-requires-clause-next
+reach-requires-clause-next g c = c.requires.next 0
+
+pub fetch_and-requires-clause-rule : goal.fetch_and-requires-clause-rule
+fetch_and-requires-clause-rule g c =
+    let p = c.args.self.now in
+    let i = c.in-Own.ensures.reached in
+    keeps_here g.P.Machine.keeps g.met.P.BlockMachine.blocks g.P.Machine.admits _ _ _ i.3 p.formed p.live c.args.at i.0 _ i.1 c.args.bits c.requires.next
+
+pub invariant_of-self : goal.invariant_of-self
+invariant_of-self g c =
+    let p = c.reach.new.self in
+    let e = c.fetch_and.ensures in
+    record {
+      sits = (e.same.0.0 ∙ p.sits.0, e.same.0.1 ∙ p.sits.1, e.same.0.3 ∙ p.sits.2);
+      free = (ap (λ m. m.hand) e.told.1 ∙ p.free.0, ap (λ m. m.view.held) e.told.1 ∙ p.free.1);
+      unlocked = (ap (λ m. m.view.keeper) e.told.1 ∙ p.unlocked.0, e.same.1 ∙ p.unlocked.1);
+      formed = ap (λ m. m.view.party.form) e.told.1 ∙ p.formed;
+      live = ap (λ m. m.view.party.spent) e.told.1 ∙ p.live;
+      named = ap (λ m. m.view.party.nameless) e.told.1 ∙ p.named;
+      knows = λ place at. e.same.0.4 _ _ (p.knows place at);
+    }
+
+pub fetch_and_in-requires-clause-rule : goal.fetch_and_in-requires-clause-rule
+fetch_and_in-requires-clause-rule g c =
+    let p = c.args.self.now in
+    let i = c.in-Within.ensures.reached in
+    keeps_here g.P.Machine.keeps g.met.P.BlockMachine.blocks g.P.Machine.admits _ _ _ i.4 p.formed p.live c.args.at i.0 _ i.1 c.args.bits c.requires.next
+
+pub invariant_of-self-in-Within : goal.invariant_of-self-in-Within
+invariant_of-self-in-Within g c =
+    let p = c.reach.new.self in
+    let e = c.fetch_and_in.ensures in
+    record {
+      sits = (e.same.0.0 ∙ p.sits.0, e.same.0.1 ∙ p.sits.1, e.same.0.3 ∙ p.sits.2);
+      free = (ap (λ m. m.hand) e.told.1 ∙ p.free.0, ap (λ m. m.view.held) e.told.1 ∙ p.free.1);
+      unlocked = (ap (λ m. m.view.keeper) e.told.1 ∙ p.unlocked.0, e.same.1 ∙ p.unlocked.1);
+      formed = ap (λ m. m.view.party.form) e.told.1 ∙ p.formed;
+      live = ap (λ m. m.view.party.spent) e.told.1 ∙ p.live;
+      named = ap (λ m. m.view.party.nameless) e.told.1 ∙ p.named;
+      knows = λ place at. e.same.0.4 _ _ (p.knows place at);
+    }
+
+pub unreachable-requires : goal.unreachable-requires
+unreachable-requires g c =
+    let p = c.args.self.now in
+    let i = c.in-Flag.ensures.reached in
+    absurd (no_keep g.P.Machine.keeps g.met.P.BlockMachine.blocks g.P.Machine.admits 0 (me_of p.seat) (me_of p.seat) refl p.formed p.live _ _ c.args.bits (λ x. may_there g.P.Machine.moves (me_of p.seat) (me_of p.seat) refl c.args.at _ i.0 (λ w. bits_kept w c.args.bits x) (c.requires.next x)))
