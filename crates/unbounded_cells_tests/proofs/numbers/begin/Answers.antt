@@ -1,5 +1,5 @@
 use Rattle.std.proofs.Common.{inr, refl}
 use Rattle.unbounded_cells_tests.proofs.numbers.begin.Goals as goal
 
-pub enter-requires : goal.enter-requires
-enter-requires g c = record { enters = inr (c.args.ask.now, (refl, refl)) }
+pub enter-seat-requires : goal.enter-seat-requires
+enter-seat-requires g c = record { enters = inr (c.args.ask.now, (refl, refl)) }
