@@ -1,14 +1,8 @@
 -- An account goes on as the world does.
-use Rattle.std.proofs.Common.{rules, List, [], ◌≡◌, ◌++◌, sym, ap, subst, ◌∙◌}
-use Rattle.std.specs.declared.snapshot.Snapshot.{Snapshot}
-use Rattle.channel_calls.specs.declared.reply.Reply.{Reply}
-use Rattle.channel_world_runs.proofs.Interface.{leads_nowhere, leads_on}
-use Rattle.channel_world.specs.Account.{AccountView, account_of, replied_by, replied_so_far}
-use Rattle.channel_world.specs.Carried.{LeadsTo}
-use Rattle.channel_world.specs.View.{WorldView}
+use Rattle.std.specs.Prelude.{◌≡◌, ◌++◌}
+use Rattle.channel_world.proofs.Lemmas.{rules, List, [], sym, ap, subst, ◌∙◌, Snapshot, Reply, leads_nowhere, leads_on, AccountView, account_of, replied_by, replied_so_far, LeadsTo, WorldView, Past, Then, the_lemmas, world_state_of}
 use Rattle.channel_world.specs.declared.account.Deed.{Deed}
-use Rattle.channel_world.specs.declared.account.Past.{Past, Nothing, Then, the_lemmas}
-use Rattle.channel_world.proofs.Inside.{world_state_of}
+use Rattle.channel_world.specs.declared.account.Past.{Nothing}
 
 module _ {T : Type 0} where
   replied_at_first : replied_so_far {T = T} Nothing ≡ []

@@ -1,25 +1,8 @@
 -- How many messages come in while a settling goes on: no more than places are free, and than are freed by who takes a message.
-use Rattle.std.proofs.Common.{arith, ◌≡◌, ◌⊎◌, ◌≤◌, ◌+◌, ◌-◌, ◌==◌, nat_lt, ℕ, suc, min, List, [], ◌∷◌, ◌++◌, length, Bool, true, false, if◌then◌else◌, Option, None, Some, IfSome, inl, inr, refl, sym, ap, subst, ◌∙◌, length-append}
-use Rattle.std.specs.Option.{option_map_or}
-use Rattle.std.specs.Prelude.{slice_get}
-use Rattle.std.proofs.lemmas.Bool.{eqb-false, ltb-false, ltb-true}
-use Rattle.channel_calls.specs.declared.stage.WaitList.{WaitList}
-use Rattle.channel_calls.specs.declared.stage.WaitList.TheVariants.{Sends, Receives, Streams}
-use Rattle.channel_world_model.specs.Answer.{Answer, first, found_in}
-use Rattle.channel_world_model.specs.Awake.{AwakeIn, Kind}
-use Rattle.channel_calls.specs.Model.{ModelChannel, is_full}
-use Rattle.channel_world_model.specs.Laws.{is_line, line_at}
-use Rattle.channel_world_model.specs.Refused.{Answers}
-use Rattle.channel_world_model.specs.Settling.{poll_of}
-use Rattle.channel_world_model.specs.State.{State}
-use Rattle.channel_world_model.specs.declared.name.Waiter.{Waiter}
-use Rattle.channel_world_model.specs.declared.space.Space.TheVariants.{Open, Filled, Shut}
-use Rattle.channel_world_model.proofs.Settle.{count_all, first_there, one_if}
-use Rattle.channel_world_model.proofs.WaiterLemmas.{decided}
-use Rattle.channel_world_runs.specs.Positions.{came_in}
-use Rattle.channel_world.specs.Settled.{most_in, most_accepted}
+use Rattle.std.specs.Prelude.{◌≡◌, ◌⊎◌, ◌≤◌, ◌+◌, ◌-◌, ◌==◌, ◌∷◌, ◌++◌, if◌then◌else◌}
+use Rattle.channel_world.proofs.Lemmas.{arith, nat_lt, ℕ, suc, min, List, [], length, Bool, true, false, Option, None, Some, IfSome, inl, inr, refl, sym, ap, subst, ◌∙◌, length-append, option_map_or, slice_get, eqb-false, ltb-false, ltb-true, WaitList, Sends, Receives, Streams, Answer, first, found_in, AwakeIn, Kind, ModelChannel, is_full, is_line, line_at, Answers, poll_of, State, Waiter, Open, Filled, Shut, count_all, first_there, decided, came_in, most_in, most_accepted, on, count_more, count_on}
+use Rattle.channel_world_model.proofs.Settle.{one_if}
 use Rattle.channel_world.proofs.Short.{Comes, Does, Left, LeftOrStood, Stays, Takes, polled_as}
-use Rattle.channel_world.proofs.Weights.{on, count_more, count_on}
 
 -- ---- numbers
 

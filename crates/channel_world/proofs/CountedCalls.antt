@@ -1,10 +1,8 @@
 -- A walk over a list that counts those that pass.
-use Rattle.std.proofs.Common.{◌≡◌, ◌∙◌, ℕ, Bool, List, length, Bor, Iter, subst}
-use Rattle.std.specs.List.{count_by}
-use Rattle.std.specs.Slice.Iter.{iter_rest, iter_steps}
+use Rattle.std.specs.Prelude.{◌≡◌}
+use Rattle.channel_world.proofs.Words.{◌∙◌, ℕ, Bool, List, length, Bor, Iter, subst, count_by, iter_rest, iter_steps, length-filter}
 use Rattle.std.proofs.lemmas.Iterator.{YieldsList}
 use Rattle.std.proofs.lemmas.Iterator.Consumers.{count_from_yields_List, YieldsList-from_filter, YieldsList-from_shown}
-use Rattle.std.proofs.lemmas.List.Sums.{length-filter}
 use Rattle.std.specs.Fn.{CalledAt}
 use Rattle.std.specs.Iterator.{Drains}
 use Rattle.std.specs.Iterator.Adapters.{filter_steps, filter_source, filter_callee}

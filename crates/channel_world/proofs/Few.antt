@@ -1,25 +1,8 @@
 -- How many names a call wakes at most.
-use Rattle.std.proofs.Common.{arith, ◌≡◌, ◌≤◌, ◌+◌, ℕ, List, [], ◌∷◌, ◌++◌, length, take, drop, zero, suc, Bool, true, false, ◌&&◌, ◌==◌, if◌then◌else◌, not, refl, length-append}
-use Rattle.std.specs.List.{list_any}
-use Rattle.channel_calls.specs.declared.stage.WaitList.{WaitList}
-use Rattle.channel_calls.specs.declared.stage.WaitList.TheVariants.{Sends, Receives, Streams}
-use Rattle.channel_world_model.specs.Answer.{Answer, strong_handles, dropped, drop_one}
-use Rattle.channel_world_model.specs.Lines.{Waiting, told_by, after_news, told_by_rooms, gone, passed_on, told_after, is_among, is_stream, without_waiter}
-use Rattle.channel_world_model.specs.Names.{waits_in}
-use Rattle.channel_world_model.specs.Refused.{Answers}
-use Rattle.channel_world_model.specs.State.{State}
-use Rattle.channel_world_model.specs.declared.call.Call.{Call}
-use Rattle.channel_world_model.specs.declared.name.HandleId.{HandleId}
-use Rattle.channel_world_model.specs.declared.name.HandleKind.{HandleKind}
-use Rattle.channel_world_model.specs.declared.name.HandleKind.TheVariants.{Sender, Receiver}
-use Rattle.channel_world_model.specs.declared.name.Waiter.{Waiter}
-use Rattle.channel_world_model.specs.declared.name.Waiter.TheVariants.{Op, Stream}
-use Rattle.channel_world_model.specs.declared.news.News.{News}
-use Rattle.channel_world_model.specs.declared.news.News.TheVariants.{Nothing, Message, Room, Closing, NextIn}
-use Rattle.channel_world_model.proofs.Settle.{few_passed, first_one}
-use Rattle.channel_world_model.proofs.Shapes.{Shape, shape_of}
+use Rattle.std.specs.Prelude.{◌≡◌, ◌≤◌, ◌+◌, ◌∷◌, ◌++◌, ◌&&◌, ◌==◌, if◌then◌else◌}
+use Rattle.channel_world.proofs.Words.{arith, ℕ, List, [], length, take, drop, zero, suc, Bool, true, false, not, refl, length-append, list_any, WaitList, Sends, Receives, Streams, Answer, strong_handles, dropped, drop_one, Waiting, told_by, after_news, told_by_rooms, gone, passed_on, told_after, is_among, is_stream, without_waiter, waits_in, Answers, State, Call, HandleId, HandleKind, Sender, Receiver, Waiter, Op, Stream, News, Message, Room, Closing, NextIn, few_passed, first_one, Shape, shape_of, untold_count, most_woken}
+use Rattle.channel_world_model.specs.declared.news.News.TheVariants.{Nothing}
 use Rattle.channel_world_model.proofs.Shapes as shape
-use Rattle.channel_world.specs.World.{untold_count, most_woken}
 
 -- ---- lists
 

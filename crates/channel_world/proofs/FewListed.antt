@@ -1,24 +1,13 @@
 -- How many messages a reply lists at most.
-use Rattle.std.proofs.Common.{arith, ◌≡◌, ◌≤◌, ℕ, List, [], length, Ok, refl, ap}
-use Rattle.channel_calls.specs.declared.reply.Reply.{Reply}
-use Rattle.channel_calls.specs.declared.reply.Reply.TheVariants as reply
-use Rattle.channel_world_model.specs.Answer.{Answer, drop_one, dropped}
-use Rattle.channel_world_model.specs.Laws.{removed_by}
-use Rattle.channel_world_model.specs.Refused.{Answers}
-use Rattle.channel_world_model.specs.State.{State}
-use Rattle.channel_world_model.specs.declared.call.Call.{Call}
-use Rattle.channel_world_model.specs.declared.call.Call.TheVariants as call
-use Rattle.channel_world_model.specs.declared.name.HandleId.{HandleId}
-use Rattle.channel_world_model.specs.declared.name.HandleKind.{HandleKind}
-use Rattle.channel_world_model.specs.declared.name.HandleKind.TheVariants.{Sender}
-use Rattle.channel_world_model.proofs.Shapes.{Shape, shape_of}
+use Rattle.std.specs.Prelude.{◌≡◌, ◌≤◌}
+use Rattle.channel_world.proofs.Words.{arith, ℕ, List, [], length, Ok, refl, ap, Reply, Answer, drop_one, dropped, removed_by, Answers, State, Call, HandleId, HandleKind, Sender, Shape, shape_of}
 use Rattle.channel_world_model.proofs.Shapes as shape
 use Rattle.channel_world.specs.Listed.{listed, most_listed}
 
 module _ {T : Type 0} where
   -- a reply that took nothing out lists nothing
   none_listed : (r : Reply T) → removed_by r ≡ [] → length (listed r) ≡ 0
-  none_listed (reply.RecvMany (Ok ms)) e = ap (λ (xs : List T). length xs) e
+  none_listed (Reply.RecvMany (Ok ms)) e = ap (λ (xs : List T). length xs) e
   none_listed r e = refl
 
   none_dropped : (s : State T) (handle : HandleId) (kind : HandleKind) → length (listed (drop_one s handle kind).reply) ≤ 0
@@ -41,6 +30,6 @@ module _ {T : Type 0} where
   few_listed s c a e = few_shape (shape_of s c a e)
 
   -- a call that takes no several messages
-  pub lists_nothing : (c : Call T) → ((h : HandleId) (n : ℕ) → c ≡ call.RecvMany h n → ⊥) → most_listed c ≡ 0
-  lists_nothing (call.RecvMany receiver limit) many = absurd (many receiver limit refl)
+  pub lists_nothing : (c : Call T) → ((h : HandleId) (n : ℕ) → c ≡ Call.RecvMany h n → ⊥) → most_listed c ≡ 0
+  lists_nothing (Call.RecvMany receiver limit) many = absurd (many receiver limit refl)
   lists_nothing c many = refl

@@ -1,22 +1,16 @@
 -- An answer that is not ample says so in its reply.
-use Rattle.std.proofs.Common.{◌≡◌, inl, inr, ℕ, true, false, Err, refl}
-use Rattle.futures.specs.declared.task.Poll.TheVariants.{Ready}
-use Rattle.channel_calls.specs.declared.reply.Reply.TheVariants as reply
-use Rattle.channel_world_model.specs.State.{State}
-use Rattle.channel_world_model.specs.Answer.{Answer, answer}
-use Rattle.channel_world_model.specs.Refused.{Lack, memory, serials, refused, Answers}
-use Rattle.channel_world_model.specs.declared.call.Call.{Call}
+use Rattle.std.specs.Prelude.{◌≡◌}
+use Rattle.channel_world.proofs.Words.{inl, inr, ℕ, true, false, Err, refl, Ready, State, Answer, answer, Lack, memory, serials, refused, Answers, Call, wants_growth, Reply}
 use Rattle.channel_world_model.proofs.Lacking.{Lacking, lacking}
-use Rattle.channel_world_language.specs.Text.{wants_growth}
 
 abbrev Wants : Call ℕ → Answer ℕ → Type 0
 Wants c a = wants_growth a.reply ≡ true
 
-wants_send : (lack : Lack) → wants_growth (reply.SendPoll (Ready (Err (refused lack)))) ≡ true
+wants_send : (lack : Lack) → wants_growth (Reply.SendPoll (Ready (Err (refused lack)))) ≡ true
 wants_send memory = refl
 wants_send serials = refl
 
-wants_recv : (lack : Lack) → wants_growth (reply.RecvPoll (Ready (Err (refused lack)))) ≡ true
+wants_recv : (lack : Lack) → wants_growth (Reply.RecvPoll (Ready (Err (refused lack)))) ≡ true
 wants_recv memory = refl
 wants_recv serials = refl
 

@@ -1,41 +1,121 @@
 -- A run has each of the headline's sentences.
-use Rattle.std.proofs.Common.{arith, ◌≡◌, ◌+◌, List, length, Option, None, refl, sym, ap, subst}
-use Rattle.channel_calls.specs.Parts.{Parts}
-use Rattle.channel_calls.specs.declared.reply.Reply.{Reply}
-use Rattle.channel_world_model.specs.declared.call.Call.{Call}
-use Rattle.channel_world_model.specs.declared.name.Waiter.{Waiter}
-use Rattle.channel_world_model.specs.declared.run.Stopped.{Stopped}
-use Rattle.channel_steps.specs.every_run.Ends.{SaysTheEnd, Replies}
+use Rattle.std.specs.Prelude.{◌&&◌, ◌+◌, ◌≡◌, ◌≤◌, ◌<◌, ◌==◌, if◌then◌else◌, ◌∷◌, ◌++◌}
+use Rattle.channel_world.proofs.Words.{is_none, FewLeft, in_a_row, OthersQuietOf, EndInARow, eq-eqb, ne_eqb, brought_by, came_is, none_adds, both_add, brought, gone_by, came_by, none_before, All, message_brought, brought_at}
+use Rattle.channel_world_runs.proofs.Interface.{nobody_still, ran_leads}
+use Rattle.channel_world.proofs.Lemmas.{length, Parts, Call, Stopped, SaysTheEnd, Replies, Spent, does, ChannelStep, each_says, name_state_of, parties_of, parts_in, messages_in, StandsIn, Stands, StopsAt, channel_step, Holds, accepted_in, left_in, moment_of, RanTo, WorldState, PartyId, few_in, owed_at, tries_at, step_marked, MomentSays, BeginSays, WorkSays, CallSays, StepSays, view_of, WorldView, append-nil, Mark, Nothing, AddUp, end_of, ActiveCall, ChannelEntry, all_brought, all_taken, eqb-true, arith, ℕ, suc, Bool, true, false, List, [], Option, None, Some, refl, sym, ap, ◌∙◌, subst, Reply, Waiter, EachStep, Configuration, WorldInvariant, Moment, LeadsBy, Entry, Step, EndInFront}
 use Rattle.channel_steps.proofs.every_run.Interface.{stays_closed, stays_over, says_over, late_gives}
-use Rattle.channel_steps.specs.Moments.{Spent}
-use Rattle.channel_steps.specs.Configuration.{ActiveCall, Configuration, does}
-use Rattle.channel_steps.specs.declared.party.Entry.{Entry as ChannelEntry}
-use Rattle.channel_steps.specs.declared.run.Step.{Step as ChannelStep}
-use Rattle.channel_steps.proofs.Interface.{each_says}
-use Rattle.channel_world_runs.specs.WorldInvariant.{WorldInvariant}
-use Rattle.channel_world_runs.specs.WorldState.{name_state_of, parties_of, parts_in, messages_in, StandsIn, Stands}
-use Rattle.channel_world_runs.specs.Run.{StopsAt, channel_step}
-use Rattle.channel_world_runs.specs.Runs.{Moment, Holds, LeadsBy, accepted_in, left_in, moment_of, RanTo}
-use Rattle.channel_world_runs.specs.declared.world_state.WorldState.{WorldState}
-use Rattle.channel_world_runs.specs.declared.step.Entry.{Entry}
-use Rattle.channel_world_runs.specs.declared.step.PartyId.{PartyId}
-use Rattle.channel_world_runs.specs.declared.step.Step.{Step}
-use Rattle.channel_world_runs.specs.declared.step.Step.TheVariants as step
-use Rattle.channel_world_runs.proofs.Interface.{few_in, owed_at, tries_at}
 use Rattle.channel_steps.proofs.every_run.MarkFacts.{all_begin}
 use Rattle.channel_steps.proofs.every_run.EndFacts.{may_end}
-use Rattle.channel_steps.proofs.every_run.MarkedFacts.{step_marked}
-use Rattle.channel_world.proofs.MarkedFacts.{all_add}
-use Rattle.channel_world.proofs.SoonFacts.{all_in_a_row, in_front}
 use Rattle.channel_world.proofs.TheEndFacts.{ended_before, nothing_comes}
 use Rattle.channel_steps.proofs.every_run.WordsFacts.{words_say}
 use Rattle.channel_world.specs.Headline.{Headline}
-use Rattle.channel_steps.specs.every_run.Marked.{AddUp}
-use Rattle.channel_world.specs.Marked.{all_brought, all_taken}
+use Rattle.channel_world.specs.Carried.{LeadsTo}
+use Rattle.channel_world.specs.StepsLeft.{EndsInFront}
+use Rattle.channel_world.specs.TheEnd.{NothingComesAfter}
+use Rattle.channel_world_runs.specs.Reaches.{replies_in}
 use Rattle.channel_steps.specs.every_run.Words.{WordsSay}
-use Rattle.channel_world.specs.StepsLeft.{EndInFront}
-use Rattle.channel_world.specs.Sentences.{MomentSays, BeginSays, WorkSays, CallSays, StepSays}
-use Rattle.channel_world.specs.View.{view_of, WorldView}
+use Rattle.channel_calls.specs.Moves as moves
+
+-- ---- how soon a call ends where the others are quiet
+
+module _ {T : Type 0} where
+  -- there are no more in a row than are left
+  row_left : (p : ℕ) (m : Moment T) (xs : List (Step T)) (es : List (Entry T)) (ns : List (Moment T)) → WorldInvariant m.name_state m.configuration
+      → EachStep LeadsBy m xs es ns → OthersQuietOf p m.configuration → in_a_row p xs es ≤ m.left p
+  row_left p m [] [] [] k h free = omega arith
+  row_left p m (Step.Begin q c ∷ xs) (e ∷ es) (n ∷ ns) k h free = omega arith
+  row_left p m (Step.Step q ∷ xs) (e ∷ es) (n ∷ ns) k h free =
+      by (λ still. row_left p n xs es ns h.0.holds.kept h.1 still) (q.0 == p) refl e.reply refl
+    where
+      by : (OthersQuietOf p n.configuration → in_a_row p xs es ≤ n.left p) → (b : Bool) → (q.0 == p) ≡ b → (r : Option (Reply T)) → e.reply ≡ r
+          → (if b && is_none r then suc (in_a_row p xs es) else 0) ≤ m.left p
+      by more false same r goes_on = omega arith
+      by more true same (Some x) goes_on = omega arith
+      by more true same None goes_on =
+          let his : q.0 ≡ p = eqb-true q.0 p same in
+          let his_free : OthersQuietOf q.0 m.configuration = subst (λ (j : ℕ). OthersQuietOf j m.configuration) (sym his) free in
+          let less : n.left p < m.left p = subst (λ (j : ℕ). n.left j < m.left j) his (h.0.nearer goes_on his_free) in
+          let still : OthersQuietOf p n.configuration = subst (λ (j : ℕ). OthersQuietOf j n.configuration) his (nobody_still m q e n k h.0 goes_on his_free) in
+          let rest = more still in
+          omega (arith, less, rest)
+  row_left p m xs es ns k h free = absurd h
+
+  pub all_in_a_row : (m : Moment T) (xs : List (Step T)) (es : List (Entry T)) (ns : List (Moment T)) → WorldInvariant m.name_state m.configuration → FewLeft m
+      → EachStep LeadsBy m xs es ns → EndInARow m.configuration xs es ns
+  all_in_a_row m [] [] [] k few h = tt
+  all_in_a_row m (x ∷ xs) (e ∷ es) (n ∷ ns) k few h = (
+    λ p free. (let row = row_left p m (x ∷ xs) (e ∷ es) (n ∷ ns) k h free in let most = few p in omega (arith, row, most)),
+    all_in_a_row n xs es ns h.0.holds.kept h.0.holds.few h.1,
+  )
+  all_in_a_row m xs es ns k few h = absurd h
+
+  -- ---- in front of a list
+
+  none_in_a_row : (p : ℕ) (xs : List (Step T)) → in_a_row {T = T} p xs [] ≡ 0
+  none_in_a_row p [] = refl
+  none_in_a_row p (Step.Begin q c ∷ xs) = refl
+  none_in_a_row p (Step.Step q ∷ xs) = refl
+
+  -- steps that were not made do not count
+  row_in_front : (p : ℕ) (left : List (Step T)) (s : Configuration T Waiter) (xs : List (Step T)) (es : List (Entry T)) (ns : List (Moment T))
+      → EndInARow s xs es ns → in_a_row p (xs ++ left) es ≡ in_a_row p xs es
+  row_in_front p left s [] [] [] h = none_in_a_row p left
+  row_in_front p left s (Step.Begin q c ∷ xs) (e ∷ es) (n ∷ ns) h = refl
+  row_in_front p left s (Step.Step q ∷ xs) (e ∷ es) (n ∷ ns) h =
+      ap (λ k. if (q.0 == p) && is_none e.reply then suc k else 0) (row_in_front p left n.configuration xs es ns h.1)
+  row_in_front p left s xs es ns h = absurd h
+
+  first_in_front : (s : Configuration T Waiter) (xs : List (Step T)) (es : List (Entry T)) (ns : List (Moment T)) → EndInARow s xs es ns
+      → EndInFront s xs es
+  first_in_front s [] [] [] h p free = omega arith
+  first_in_front s (x ∷ xs) (e ∷ es) (n ∷ ns) h p free = h.0 p free
+  first_in_front s xs es ns h p free = absurd h
+
+  pub in_front : (steps left : List (Step T)) (s : Configuration T Waiter) (xs : List (Step T)) (es : List (Entry T)) (ns : List (Moment T))
+      → steps ≡ xs ++ left → EndInARow s xs es ns → EndInFront s steps es
+  in_front steps left s xs es ns first h p free =
+      let same : in_a_row p steps es ≡ in_a_row p xs es =
+      ap (λ (l : List (Step T)). in_a_row p l es) first ∙ row_in_front p left s xs es ns h in
+      let most = first_in_front s xs es ns h p free in
+      omega (arith, same, most)
+
+-- ---- what a run brought and took
+
+-- ---- a run
+
+module _ {T : Type 0} where
+  message_is : (p : ℕ) (us : List (ActiveCall T Waiter)) (mine : ActiveCall T Waiter) (vs : List (ActiveCall T Waiter))
+      → All (λ (u : ActiveCall T Waiter). u.party ≡ p → ⊥) us → mine.party ≡ p → message_brought p (us ++ (mine ∷ vs)) ≡ brought mine.ask
+  message_is p [] mine vs none his = rw (eq-eqb mine.party p his) refl
+  message_is p (u ∷ us) mine vs none his = rw (ne_eqb u.party p none.0) (message_is p us mine vs none.1 his)
+
+  -- the accounts of one step
+  one_adds : (m : Moment T) (x : Step T) (e : Entry T) (n : Moment T) → WorldInvariant m.name_state m.configuration → LeadsBy m x e n
+      → AddUp m.configuration (gone_by e.mark m.configuration.now.queue.items) (brought_at m.configuration x e) n.configuration
+  one_adds m (Step.Begin p c) e n k l =
+      let b = l.made.next.0 in
+      let mark : e.mark ≡ Nothing = ap (λ (g : ChannelEntry T). g.mark) b.entry in
+      subst (λ (y : Mark). AddUp m.configuration (gone_by y m.configuration.now.queue.items) [] n.configuration) (sym mark)
+      (record {
+        held = ap (λ (c : moves.Channel T Waiter). c.queue.items) b.now ∙ sym (append-nil m.configuration.now.queue.items);
+        gone = b.gone ∙ sym (append-nil m.configuration.gone);
+        came = b.came ∙ sym (append-nil m.configuration.came);
+      })
+  one_adds m (Step.Step p) e n k l =
+      let s = l.made.next in
+      let his = message_is p.0 s.before s.mine s.behind (none_before m p e n k l) s.whose in
+      let there = ap (λ (us : List (ActiveCall T Waiter)). message_brought p.0 us) s.there in
+      let same : came_by e.mark s.mine.ask ≡ brought_at m.configuration (Step.Step p) e =
+      came_is e.mark s.mine.ask ∙ ap (λ (ms : List T). brought_by e.mark ms) (sym (there ∙ his)) in
+      subst (λ (ms : List T). AddUp m.configuration (gone_by e.mark m.configuration.now.queue.items) ms n.configuration) same
+      (record { held = s.held; gone = s.gone; came = s.came })
+
+  pub all_add : (m : Moment T) (xs : List (Step T)) (es : List (Entry T)) (ns : List (Moment T)) → WorldInvariant m.name_state m.configuration
+      → EachStep LeadsBy m xs es ns → AddUp m.configuration (all_taken m.configuration es ns) (all_brought m.configuration xs es ns) (end_of m ns).configuration
+  all_add m [] [] [] k h = none_adds m.configuration
+  all_add m (x ∷ xs) (e ∷ es) (n ∷ ns) k h =
+      both_add m.configuration n.configuration (end_of n ns).configuration _ _ _ _ (one_adds m x e n k h.0) (all_add n xs es ns h.0.holds.kept h.1)
+  all_add m xs es ns k h = absurd h
 
 module _ {T : Type 0} where
   -- ---- a moment
@@ -64,7 +144,7 @@ module _ {T : Type 0} where
 
   -- ---- the call
 
-  begin_says : (m : Moment T) (p : PartyId) (c : Call T) (e : Entry T) (n : Moment T) → LeadsBy m (step.Begin p c) e n → BeginSays m p c e n
+  begin_says : (m : Moment T) (p : PartyId) (c : Call T) (e : Entry T) (n : Moment T) → LeadsBy m (Step.Begin p c) e n → BeginSays m p c e n
   begin_says m p c e n l =
       let b = l.made.next.0 in
       record {
@@ -78,7 +158,7 @@ module _ {T : Type 0} where
         name_state = l.made.name_state;
       }
 
-  work_says : (m : Moment T) (p : PartyId) (e : Entry T) (n : Moment T) → WorldInvariant m.name_state m.configuration → LeadsBy m (step.Step p) e n → WorkSays m p e n
+  work_says : (m : Moment T) (p : PartyId) (e : Entry T) (n : Moment T) → WorldInvariant m.name_state m.configuration → LeadsBy m (Step.Step p) e n → WorkSays m p e n
   work_says m p e n k l =
       let s = l.made.next in
       let after : ActiveCall T Waiter = does s.mine s.at_now e.mark m.configuration.now n.configuration.now in
@@ -110,16 +190,16 @@ module _ {T : Type 0} where
   -- ---- a step
 
   call_says : (m : Moment T) (x : Step T) (e : Entry T) (n : Moment T) → WorldInvariant m.name_state m.configuration → LeadsBy m x e n → CallSays m x e n
-  call_says m (step.Begin p c) e n k l = begin_says m p c e n l
-  call_says m (step.Step p) e n k l = work_says m p e n k l
+  call_says m (Step.Begin p c) e n k l = begin_says m p c e n l
+  call_says m (Step.Step p) e n k l = work_says m p e n k l
 
   ends_over : (m : Moment T) (x : Step T) (e : Entry T) (n : Moment T) → WorldInvariant m.name_state m.configuration → LeadsBy m x e n → Replies SaysTheEnd e.reply
       → Spent n.configuration.now
-  ends_over m (step.Begin p c) e n k l says =
+  ends_over m (Step.Begin p c) e n k l says =
       let b = l.made.next.0 in
       let silent : e.reply ≡ None = ap (λ (g : ChannelEntry T). g.reply) b.entry in
       absurd (subst (λ (r : Option (Reply T)). Replies SaysTheEnd r) silent says)
-  ends_over m (step.Step p) e n k l says =
+  ends_over m (Step.Step p) e n k l says =
       let f : ChannelEntry T = record { mark = e.mark; reply = e.reply; kept = l.made.kept } in
       says_over m.configuration p.0 f e.woken.items n.configuration l.made.next k.sound says
 

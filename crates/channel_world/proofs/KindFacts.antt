@@ -1,53 +1,15 @@
 -- Who is pending and who was woken, line by line; and who of a line doesn't sleep, in the numbers that a world tells.
-use Rattle.std.proofs.Common.{arith, ◌≡◌, ◌≤◌, ◌+◌, ℕ, suc, nat_eq, Bool, true, false, List, [], ◌∷◌, map, Option, None, Some, is_some, ◌⊎◌, inl, inr, refl, sym, ap, ◌∙◌, subst}
-use Rattle.std.specs.List.{AllByRecursion, count_by, filter}
-use Rattle.std.specs.Map.{keys_of, lookup}
+use Rattle.std.specs.Prelude.{◌≡◌, ◌≤◌, ◌+◌, ◌∷◌, ◌⊎◌}
+use Rattle.channel_world.proofs.Lemmas.{arith, ℕ, suc, nat_eq, Bool, true, false, List, [], map, Option, None, Some, is_some, inl, inr, refl, sym, ap, ◌∙◌, subst, AllByRecursion, count_by, filter, keys_of, lookup, length-filter, QueueCall, ListenerRef, WaitList, Stage, Working, Leave, Configuration, times, is_line, line_at, same_line, same_waiter, is_among, Directory, Waiter, Op, Stream, line_refl, absent_counts, front_stays, decided, or_true, same_sound, AreApart, names_of, name_state_of, observation_of, Stands, IsUnwoken, woken_on, unannounced, all_unannounced, IsAmong, NameStatus, free, waits, status_by, stream_status, operation_status, status, WokenSound, NameState, CallUnderWay, WorldState, HandleEntry, OperationEntry, NameTable, no_longer, one_if, count_first, among_is, none_twice_times, ALineIsAwake, NobodySleepsWhereClosed, NoReceiveSleeps, NoSendSleeps, NoStreamSleeps, all_names, is_pending_on, operation_stance, pending_on_line, stream_stance, takings_of, view_of}
 use Rattle.std.proofs.lemmas.Cmp.{nat_eq_equiv}
-use Rattle.std.proofs.lemmas.List.Sums.{length-filter}
 use Rattle.std.proofs.lemmas.Map.Views.{lookup-from_Contains}
 use Rattle.lru.proofs.Splits.{all_from}
-use Rattle.concurrent_queue.specs.declared.queue_call.QueueCall.{QueueCall}
-use Rattle.channel_calls.specs.declared.stage.ListenerRef.{ListenerRef}
-use Rattle.channel_calls.specs.declared.stage.WaitList.{WaitList}
-use Rattle.channel_calls.specs.declared.stage.Stage.{Stage}
-use Rattle.channel_calls.specs.declared.stage.Stage.TheVariants.{Working}
-use Rattle.channel_calls.specs.declared.stage.ListStep.TheVariants.{Leave}
-use Rattle.channel_steps.specs.Configuration.{Configuration}
-use Rattle.channel_world_model.specs.Awake.{times}
-use Rattle.channel_world_model.specs.Laws.{is_line, line_at, same_line}
-use Rattle.channel_world_model.specs.Lines.{same_waiter, is_among}
-use Rattle.channel_world_model.specs.Names.{Directory}
-use Rattle.channel_world_model.specs.declared.name.Waiter.{Waiter}
-use Rattle.channel_world_model.specs.declared.name.Waiter.TheVariants.{Op, Stream}
-use Rattle.channel_world_model.proofs.Awake.{line_refl}
-use Rattle.channel_world_model.proofs.Counting.{absent_counts}
-use Rattle.channel_world_model.proofs.Settle.{front_stays}
-use Rattle.channel_world_model.proofs.WaiterLemmas.{decided, or_true, same_sound}
-use Rattle.channel_world_runs.specs.Apart.{AreApart}
-use Rattle.channel_world_runs.specs.NameTable.{names_of}
-use Rattle.channel_world_runs.specs.WorldState.{name_state_of, observation_of, Stands}
-use Rattle.channel_world_runs.specs.Owed.{IsUnwoken, woken_on, unannounced, all_unannounced}
-use Rattle.channel_world_runs.specs.Owners.{IsAmong, NameStatus, free, waits, status_by, stream_status, operation_status, status}
-use Rattle.channel_world_runs.specs.OwnerWoken.{WokenSound}
-use Rattle.channel_world_runs.specs.Run.{NameState}
 use Rattle.channel_world_runs.specs.refinement.Refines.{of_line}
 use Rattle.channel_world_runs.specs.declared.activity.Activity.{Activity}
-use Rattle.channel_world_runs.specs.declared.calls.CallUnderWay.{CallUnderWay}
-use Rattle.channel_world_runs.specs.declared.world_state.WorldState.{WorldState}
-use Rattle.channel_world_runs.specs.declared.names.HandleEntry.{HandleEntry}
-use Rattle.channel_world_runs.specs.declared.names.OperationEntry.{OperationEntry}
-use Rattle.channel_world_runs.specs.declared.name_table.NameTable.{NameTable}
-use Rattle.channel_world_runs.proofs.NoLonger.{no_longer}
-use Rattle.channel_world_runs.proofs.OwedCounts.{one_if, count_first}
-use Rattle.channel_world_runs.proofs.OwnerOrderNames.{among_is}
 use Rattle.channel_world_runs.proofs.refinement.Names.{among_of_line}
 use Rattle.channel_world_runs.proofs.refinement.Standing.{times_of_line}
 use Rattle.channel_world_runs.proofs.rest.LoneAnswers.{behind}
 use Rattle.channel_world_runs.proofs.rest.Names.{line_is as line_of}
-use Rattle.channel_world_runs.proofs.rest.Woken.{none_twice_times}
-use Rattle.channel_world.specs.Asleep.{ALineIsAwake, NobodySleepsWhereClosed, NoReceiveSleeps, NoSendSleeps, NoStreamSleeps}
-use Rattle.channel_world.specs.Kinds.{all_names, is_pending_on, operation_stance, pending_on_line, stream_stance, takings_of}
-use Rattle.channel_world.specs.View.{view_of}
 use Rattle.channel_world.proofs.SleepFacts.{count_both, none_fits}
 
 -- ---- names and entries

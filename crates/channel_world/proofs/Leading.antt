@@ -1,12 +1,24 @@
 -- What leads on, with one more reply and with none.
-use Rattle.std.proofs.Common.{◌≡◌, List, [], ◌∷◌, ◌++◌, map, refl, sym, ap, subst, append-nil}
-use Rattle.channel_calls.specs.declared.reply.Reply.{Reply}
+use Rattle.std.specs.Prelude.{◌≡◌, ◌≤◌, ◌∷◌, ◌++◌}
+use Rattle.channel_world.proofs.Words.{ℕ, Option, None, Some, IfSome, length, refl, sym, ap, ◌∙◌, subst, capacity_of, Queue, shows, Channel, parts_in, messages_in, Stands, WorldState, Waiter, all_seats, List, [], map, append-nil, Reply, leads_on, replied_in, polls_replied, Settled}
 use Rattle.channel_world_runs.specs.WorldState.{LeadsOn}
-use Rattle.channel_world_runs.specs.declared.world_state.WorldState.{WorldState}
-use Rattle.channel_world_runs.proofs.Interface.{leads_on}
 use Rattle.channel_world_model.specs.declared.run.Done.{Done}
-use Rattle.channel_world.specs.Carried.{replied_in, polls_replied}
-use Rattle.channel_world.specs.declared.settle.Settled.{Settled}
+
+-- ---- a world holds no more than fits
+
+if_some : (P : ℕ → Type 0) (o : Option ℕ) → ((n : ℕ) → o ≡ Some n → P n) → IfSome o P
+if_some P None h = tt
+if_some P (Some n) h = h n refl
+
+module _ {T : Type 0} where
+  pub holds_what_fits : (w : WorldState T) → Stands w → IfSome (capacity_of (parts_in w).cells.form) (λ most. messages_in w ≤ most)
+  holds_what_fits w k =
+      let sh = k.stands.shown in
+      let q : Queue T = sh.shows.queue in
+      let shown = shows (parts_in w).cells q (all_seats sh.shows.witnesses) (_, sh.shows.fits) in
+      let held : messages_in w ≡ length q.items = sh.messages ∙ ap (λ (c : Channel T Waiter). length c.queue.items) sh.shows.now in
+      if_some (λ most. messages_in w ≤ most) (capacity_of (parts_in w).cells.form)
+      (λ most e. subst (λ (n : ℕ). n ≤ most) (sym held) (shown.within most (shown.limit ∙ e)))
 
 map_more : {A B : Type 0} (f : A → B) (xs : List A) (x : A) → map f (xs ++ x ∷ []) ≡ map f xs ++ f x ∷ []
 map_more f [] x = refl

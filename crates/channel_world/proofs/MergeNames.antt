@@ -1,24 +1,9 @@
 -- The run of a merge whose begins are those of calls by names, step by step.
-use Rattle.std.proofs.Common.{◌≡◌, List, [], ◌∷◌, map, ap, None, refl}
-use Rattle.concurrent_queue.specs.Capacity.{capacity_of}
-use Rattle.channel_world_model.specs.declared.name.Waiter.{Waiter}
-use Rattle.channel_steps.specs.Run.{EachStep, end_of}
-use Rattle.channel_steps.specs.declared.party.Entry.{Entry}
-use Rattle.channel_steps.specs.declared.run.Step.{Step as ChannelStep}
-use Rattle.channel_steps.specs.declared.run.Step.TheVariants as channel
+use Rattle.std.specs.Prelude.{◌≡◌, ◌∷◌}
+use Rattle.channel_world.proofs.Words.{List, [], map, ap, None, refl, capacity_of, Waiter, EachStep, end_of, ChannelEntry as Entry, ChannelStep, MergeMoment, just_opened, steps_of, IsStepOf, NamesKept, step_refusal, NameState, IsNameStateOf, name_state_begun, PartyId, Step, names_owed_at, NamedStep, NamedMoment, first_name_state, BeginByNames, SaysByNames, MergesByNamesAreRuns}
 use Rattle.channel_steps.specs.every_run.BridgeHeadline.{MergeStepSays}
-use Rattle.channel_steps.specs.every_run.Bridge.{MergeMoment, just_opened, steps_of}
-use Rattle.channel_world_runs.specs.AskedBy.{IsStepOf}
-use Rattle.channel_world_runs.specs.WorldInvariant.{NamesKept}
-use Rattle.channel_world_runs.specs.Refusal.{step_refusal}
-use Rattle.channel_world_runs.specs.Run.{NameState, IsNameStateOf, name_state_begun}
-use Rattle.channel_world_runs.specs.declared.step.PartyId.{PartyId}
-use Rattle.channel_world_runs.specs.declared.step.Step.{Step}
-use Rattle.channel_world_runs.specs.declared.step.Step.TheVariants as step
 use Rattle.channel_world_runs.proofs.WorldInvariant.{names_kept_first, names_kept_next}
 use Rattle.channel_world_runs.proofs.ByNames.{may_begin, may_step}
-use Rattle.channel_world_runs.proofs.Interface.{names_owed_at}
-use Rattle.channel_world.specs.MergesByNames.{NamedStep, NamedMoment, first_name_state, BeginByNames, SaysByNames, MergesByNamesAreRuns}
 
 module _ {T S : Type 0} (wakes : S → Waiter → S → Type 0) where
   abbrev at : NameState T → MergeMoment T Waiter S → NamedMoment T S
@@ -68,25 +53,22 @@ module _ {T S : Type 0} (wakes : S → Waiter → S → Type 0) where
   all_say : (b : NameState T) (m : MergeMoment T Waiter S) (ys : List (ChannelStep T Waiter)) (es : List (Entry T)) (ns : List (MergeMoment T Waiter S))
       → NamesKept b m.configuration → EachStep (MergeStepSays wakes) m ys es ns → BeginByNames wakes b m ys es ns → WithNames b m ys es ns
   all_say b m [] [] [] k h begins = record { steps = []; moments = []; each = tt; same_steps = refl; same_moments = refl }
-  all_say b m (channel.Begin p a ∷ ys) (e ∷ es) (n ∷ ns) k h (c, free, is, more) =
+  all_say b m (ChannelStep.Begin p a ∷ ys) (e ∷ es) (n ∷ ns) k h (c, free, is, more) =
       let q : PartyId = record { 0 = p } in
       let s = h.0 in
       let idle = s.call.idle in
-      let one = says b m (step.Begin q c) (channel.Begin p a) e (name_state_begun q c b) n k s (may_begin b m.configuration q c k idle free)
+      let one = says b m (Step.Begin q c) (ChannelStep.Begin p a) e (name_state_begun q c b) n k s (may_begin b m.configuration q c k idle free)
       (a, is, refl) refl in
-      in_front b m (step.Begin q c) (channel.Begin p a) e (name_state_begun q c b) n ys es ns one.0
+      in_front b m (Step.Begin q c) (ChannelStep.Begin p a) e (name_state_begun q c b) n ys es ns one.0
       (all_say (name_state_begun q c b) n ys es ns one.1 h.1 more)
-  all_say b m (channel.Step p ∷ ys) (e ∷ es) (n ∷ ns) k h more =
+  all_say b m (ChannelStep.Step p ∷ ys) (e ∷ es) (n ∷ ns) k h more =
       let q : PartyId = record { 0 = p } in
       let s = h.0 in
       let t = may_step b m.configuration n.configuration q e s.names k s.next in
-      let one = says b m (step.Step q) (channel.Step p) e t.after n k s t.accepted refl t.name_state in
-      in_front b m (step.Step q) (channel.Step p) e t.after n ys es ns one.0
+      let one = says b m (Step.Step q) (ChannelStep.Step p) e t.after n k s t.accepted refl t.name_state in
+      in_front b m (Step.Step q) (ChannelStep.Step p) e t.after n ys es ns one.0
       (all_say t.after n ys es ns one.1 h.1 (more s.names t.after s.next s.woken t.name_state))
-  all_say b m [] [] (n ∷ ns) k h begins = absurd h
-  all_say b m [] (e ∷ es) ns k h begins = absurd h
-  all_say b m (y ∷ ys) [] ns k h begins = absurd h
-  all_say b m (y ∷ ys) (e ∷ es) [] k h begins = absurd h
+  all_say b m ys es ns k h begins = absurd h
 
 pub merges_by_names_are_runs : (T S : Type 0) (wakes : S → Waiter → S → Type 0) → MergesByNamesAreRuns T S wakes
 merges_by_names_are_runs T S wakes form events given sink last woken k begins =

@@ -1,14 +1,7 @@
 -- Two clones of a sender, merged, by names.
-use Rattle.std.proofs.Common.{List, [], ◌∷◌, drop, inl, refl}
-use Rattle.channel_steps.specs.every_run.Bridge.{MergeMoment, just_opened, steps_of}
+use Rattle.std.specs.Prelude.{◌∷◌}
+use Rattle.channel_world.proofs.Words.{List, [], drop, inl, refl, MergeMoment, just_opened, steps_of, TryClone, Waiter, ChannelEntry as Entry, ChannelStep, NameState, name_state_begun, first_name_state, BeginByNames}
 use Rattle.channel_steps.specs.every_run.BridgeRow.{two_clones}
-use Rattle.channel_world_model.specs.declared.call.Call.TheVariants.{TryClone}
-use Rattle.channel_world_model.specs.declared.name.Waiter.{Waiter}
-use Rattle.channel_steps.specs.declared.party.Entry.{Entry}
-use Rattle.channel_steps.specs.declared.run.Step.{Step as ChannelStep}
-use Rattle.channel_steps.specs.declared.run.Step.TheVariants as channel
-use Rattle.channel_world_runs.specs.Run.{NameState, name_state_begun}
-use Rattle.channel_world.specs.MergesByNames.{first_name_state, BeginByNames}
 use Rattle.channel_world.specs.MergesByNamesRow.{TwoClonesByNames}
 
 module _ {T S : Type 0} (wakes : S → Waiter → S → Type 0) where
@@ -16,16 +9,16 @@ module _ {T S : Type 0} (wakes : S → Waiter → S → Type 0) where
 
   abbrev AreSteps : List (ChannelStep T Waiter) → Type 0
   AreSteps [] = Unit {0}
-  AreSteps (channel.Begin p a ∷ ys) = ⊥
-  AreSteps (channel.Step p ∷ ys) = AreSteps ys
+  AreSteps (ChannelStep.Begin p a ∷ ys) = ⊥
+  AreSteps (ChannelStep.Step p ∷ ys) = AreSteps ys
 
   only_steps : (ys : List (ChannelStep T Waiter)) → AreSteps ys → (b : NameState T) (m : MergeMoment T Waiter S) (es : List (Entry T)) (ns : List (MergeMoment T Waiter S))
       → BeginByNames wakes b m ys es ns
   only_steps [] h b m es ns = tt
-  only_steps (channel.Begin p a ∷ ys) h b m es ns = absurd h
-  only_steps (channel.Step p ∷ ys) h b m [] ns = tt
-  only_steps (channel.Step p ∷ ys) h b m (e ∷ es) [] = tt
-  only_steps (channel.Step p ∷ ys) h b m (e ∷ es) (n ∷ ns) = λ names after next woken name_state. only_steps ys h after n es ns
+  only_steps (ChannelStep.Begin p a ∷ ys) h b m es ns = absurd h
+  only_steps (ChannelStep.Step p ∷ ys) h b m [] ns = tt
+  only_steps (ChannelStep.Step p ∷ ys) h b m (e ∷ es) [] = tt
+  only_steps (ChannelStep.Step p ∷ ys) h b m (e ∷ es) (n ∷ ns) = λ names after next woken name_state. only_steps ys h after n es ns
 
   -- ---- the two begins
 

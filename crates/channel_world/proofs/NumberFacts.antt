@@ -1,41 +1,103 @@
 -- The numbers that a world tells, with no call under way, are those of its state.
-use Rattle.std.specs.Option.{option_map_or}
-use Rattle.std.proofs.Common.{arith, ◌≡◌, ◌⊎◌, ℕ, ◌+◌, ◌≤◌, Bool, true, false, List, [], ◌∷◌, ◌++◌, length, Option, None, Some, is_some, inl, inr, refl, sym, ap, ◌∙◌, length-append}
-use Rattle.event_listener.specs.declared.key.Key.{Key}
-use Rattle.channel_calls.specs.declared.stage.WaitList.{WaitList}
-use Rattle.channel_calls.specs.declared.stage.WaitList.TheVariants.{Sends, Receives, Streams, Closings}
-use Rattle.channel_world_model.specs.Awake.{times, times_in}
-use Rattle.channel_world_model.specs.Lines.{Waiting, is_among, same_waiter, untold}
-use Rattle.channel_world_model.specs.Names.{at}
-use Rattle.channel_world_model.specs.Settling.{pending_count}
-use Rattle.channel_world_model.specs.State.{State}
-use Rattle.channel_world_model.specs.declared.name.Waiter.{Waiter}
-use Rattle.channel_world_model.specs.declared.name.Waiter.TheVariants.{Op, Stream}
-use Rattle.channel_world_model.proofs.Counting.{among_append, among_counts, count_append}
-use Rattle.channel_world_model.proofs.WaiterLemmas.{or_true, same_sound}
-use Rattle.channel_world_runs.specs.Apart.{AreApart}
-use Rattle.channel_world_runs.specs.WorldState.{name_state_of, IsQuiet, Stands}
-use Rattle.channel_world_runs.specs.Pending.{stands_pending, how_many, operation_stands, stream_stands}
-use Rattle.channel_world_runs.specs.NameTable.{key_of, held_of}
-use Rattle.channel_world_runs.specs.WorldInvariant.{WorldInvariant}
-use Rattle.channel_world_runs.specs.Run.{NameState}
-use Rattle.channel_world_runs.specs.declared.world_state.WorldState.{WorldState}
-use Rattle.channel_world_runs.specs.declared.names.HandleEntry.{HandleEntry}
-use Rattle.channel_world_runs.specs.declared.names.OperationEntry.{OperationEntry}
-use Rattle.channel_world_runs.specs.declared.names.PollState.{PollState}
-use Rattle.channel_world_runs.specs.declared.name_table.NameTable.{NameTable}
-use Rattle.channel_world_runs.proofs.Interface.{none_under_way}
-use Rattle.channel_world_runs.proofs.OwnerOrderNames.{among_is}
-use Rattle.channel_world_runs.proofs.OwnerWoken.{waits_pending}
-use Rattle.channel_world_runs.specs.refinement.Refines.{AreUntold}
-use Rattle.channel_world_runs.specs.rest.Rest.{state_at, IsWorld, RestIsAWorld}
-use Rattle.channel_steps.specs.Configuration.{Configuration}
-use Rattle.channel_world.specs.Numbers.{MessagesAtRest, PendingAtRest, WokenAtRest}
-use Rattle.channel_world.specs.World.{at_rest}
-use Rattle.channel_world_runs.proofs.NoLonger.{no_longer}
-use Rattle.channel_world.proofs.NumberLists.{named, named_many, none_named, named_there, named_once, named_so}
-use Rattle.channel_world.proofs.Opening.{at_rest_is}
-use Rattle.channel_world.specs.View.{view_of}
+use Rattle.std.specs.Prelude.{◌⊎◌, ◌++◌, ◌≡◌, ◌+◌, ◌≤◌, ◌∷◌}
+use Rattle.channel_world.proofs.Words.{same_number}
+use Rattle.std.specs.List.{IsDistinct}
+use Rattle.channel_world.proofs.Lemmas.{option_map_or, Some, is_some, ap, length-append, Key, WaitList, Sends, Receives, Streams, Closings, times_in, Waiting, untold, pending_count, State, Op, Stream, among_append, count_append, or_true, same_sound, AreApart, name_state_of, IsQuiet, Stands, stands_pending, how_many, operation_stands, stream_stands, key_of, held_of, WorldInvariant, NameState, WorldState, HandleEntry, OperationEntry, PollState, NameTable, none_under_way, among_is, waits_pending, AreUntold, state_at, IsWorld, RestIsAWorld, Configuration, MessagesAtRest, PendingAtRest, WokenAtRest, at_rest, no_longer, view_of, at_rest_is, AllByRecursion, count_by, keys_of, arith, ℕ, nat_eq, Bool, true, false, cond, List, [], length, Option, None, inl, inr, refl, sym, ◌∙◌, subst, one_if, count_first, among_counts, decided, times, same_waiter, is_among, Directory, at, Waiter}
+
+-- ---- the names that a directory has
+
+-- ---- a directory
+
+one_more : (b : Bool) (w : Waiter) (ws : List Waiter) → length (cond b (w ∷ ws) ws) ≡ one_if b + length ws
+one_more true w ws = omega arith
+one_more false w ws = omega arith
+
+module _ {X : Type 0} (test : Option X → Bool) (name : ℕ → Waiter) where
+  -- the names of what passes
+  abbrev pub named : Directory X → List Waiter
+  named [] = []
+  named (e ∷ es) = cond (test e.1) (name e.0 ∷ named es) (named es)
+
+  pub named_many : (es : Directory X) → length (named es) ≡ count_by (λ e. test e.1) es
+  named_many [] = refl
+  named_many (e ∷ es) =
+      let rest = named_many es in
+      let first = count_first (λ (f : ℕ × Option X). test f.1) e es in
+      let mine = one_more (test e.1) (name e.0) (named es) in
+      omega (arith, rest, first, mine)
+
+  -- a name that no entry has stands nowhere among them
+  pub none_named : (w : Waiter) → ((n : ℕ) → same_waiter w (name n) ≡ false) → (es : Directory X) → times w (named es) ≡ 0
+  none_named w other [] = refl
+  none_named w other (e ∷ es) = elim (decided (test e.1)) [
+    | inl t ↦ rw t (rw (other e.0) (none_named w other es))
+    | inr f ↦ rw f (none_named w other es)
+  ]
+
+  module _ (same : (m n : ℕ) → same_waiter (name m) (name n) ≡ nat_eq m n) (nothing : test None ≡ false) where
+    -- what is looked up and passes stands there
+    pub named_there : (n : ℕ) (es : Directory X) → test (at n es) ≡ true → 1 ≤ times (name n) (named es)
+    named_there n [] h = absurd (let no : false ≡ true = sym nothing ∙ h in cc)
+    named_there n (e ∷ es) h = elim (decided (nat_eq n e.0)) [
+      | inl t ↦
+          let passes : test e.1 ≡ true = rw t at h in
+          rw passes (rw (same n e.0 ∙ t) (omega arith))
+      | inr f ↦
+          let more = named_there n es (rw f at h) in
+          elim (decided (test e.1)) [
+            | inl t ↦ rw t (rw (same n e.0 ∙ f) more)
+            | inr g ↦ rw g more
+          ]
+    ]
+
+    none_behind : (n : ℕ) (es : Directory X) → AllByRecursion (λ m. nat_eq n m ≡ false) (keys_of es) → times (name n) (named es) ≡ 0
+    none_behind n [] h = refl
+    none_behind n (e ∷ es) h = elim (decided (test e.1)) [
+      | inl t ↦ rw t (rw (same n e.0 ∙ h.0) (none_behind n es h.1))
+      | inr f ↦ rw f (none_behind n es h.1)
+    ]
+
+    -- where no name stands twice in the directory, none stands twice among them,
+    pub named_once : (n : ℕ) (es : Directory X) → IsDistinct nat_eq (keys_of es) → times (name n) (named es) ≤ 1
+    unfolding IsDistinct
+    named_once n [] d = omega arith
+    named_once n (e ∷ es) d = elim (decided (nat_eq n e.0)) [
+      | inl t ↦
+          let apart = subst (λ (m : ℕ). AllByRecursion (λ k. nat_eq m k ≡ false) (keys_of es)) (sym (same_number n e.0 t)) d.0 in
+          let none = none_behind n es apart in
+          elim (decided (test e.1)) [
+            | inl p ↦ rw p (rw (same n e.0 ∙ t) (omega (arith, none)))
+            | inr f ↦ rw f (omega (arith, none))
+          ]
+      | inr f ↦
+          let more = named_once n es d.1 in
+          elim (decided (test e.1)) [
+            | inl p ↦ rw p (rw (same n e.0 ∙ f) more)
+            | inr g ↦ rw g more
+          ]
+    ]
+
+    -- and each is looked up, and passes
+    pub named_so : (n : ℕ) (es : Directory X) → IsDistinct nat_eq (keys_of es) → is_among (name n) (named es) ≡ true
+        → test (at n es) ≡ true
+    unfolding IsDistinct
+    named_so n [] d i = absurd (let no : false ≡ true = i in cc)
+    named_so n (e ∷ es) d i = elim (decided (nat_eq n e.0)) [
+      | inl t ↦
+          let apart = subst (λ (m : ℕ). AllByRecursion (λ k. nat_eq m k ≡ false) (keys_of es)) (sym (same_number n e.0 t)) d.0 in
+          let none = none_behind n es apart in
+          elim (decided (test e.1)) [
+            | inl p ↦ rw t p
+            | inr f ↦ absurd (let there = among_counts (name n) (named es) (rw f at i) in omega (arith, none, there))
+          ]
+      | inr f ↦ rw f (named_so n es d.1 (behind f))
+    ]
+      where
+        behind : nat_eq n e.0 ≡ false → is_among (name n) (named es) ≡ true
+        behind f = elim (decided (test e.1)) [
+          | inl p ↦ let both = rw p at i in rw (same n e.0 ∙ f) at both
+          | inr g ↦ rw g at i
+        ]
 
 abbrev op_name : ℕ → Waiter
 op_name n = Op (record { 0 = n })
@@ -145,14 +207,13 @@ module _ {T : Type 0} (r : NameTable T) where
 untold_hold : (held : Waiter → Option Key) (es : List (Key × Option Waiter)) (ws : List Waiter) (w : Waiter) → AreUntold held es ws
     → is_among w ws ≡ true → is_some (held w) ≡ true
 untold_hold held [] [] w h i = absurd (let no : false ≡ true = i in cc)
-untold_hold held [] (v ∷ ws) w h i = absurd h
-untold_hold held (e ∷ es) [] w h i = absurd h
 untold_hold held (e ∷ es) (v ∷ ws) w h i =
     by (or_true (same_waiter w v) (is_among w ws) i) (λ k. untold_hold held es ws w h.1 k)
   where
     by : (same_waiter w v ≡ true) ⊎ (is_among w ws ≡ true) → (is_among w ws ≡ true → is_some (held w) ≡ true) → is_some (held w) ≡ true
     by (inl t) on = ap (λ (x : Waiter). is_some (held x)) (same_sound w v t) ∙ ap (λ (o : Option Key). is_some o) h.0.0
     by (inr k) on = on k
+untold_hold held es ws w h i = absurd h
 
 abbrev everybody : Waiting → List Waiter
 everybody l = l.sends ++ (l.receives ++ (l.streams ++ (l.closings ++ l.woken)))

@@ -1,19 +1,20 @@
 -- A world with no call under way is the state that its channel shows; one that was just opened is the start.
-use Rattle.std.proofs.Common.{◌≡◌, ℕ, List, [], ◌∷◌, map, Option, refl, sym, ap, subst, ◌∙◌}
-use Rattle.concurrent_queue.specs.Queue.{Queue}
-use Rattle.concurrent_queue.specs.Step.{FitsAt}
-use Rattle.concurrent_queue.proofs.Interface.{shows}
-use Rattle.channel_calls.specs.Moves.{Channel}
-use Rattle.channel_world_runs.specs.WorldState.{parts_in, name_state_of, Shown, IsJustOpened, IsQuiet}
-use Rattle.channel_world_runs.specs.Run.{NameState}
-use Rattle.channel_world_runs.specs.declared.calls.CallUnderWay.{CallUnderWay}
-use Rattle.channel_world_runs.specs.declared.world_state.WorldState.{WorldState}
-use Rattle.channel_world_model.specs.State.{start}
-use Rattle.channel_world_model.specs.declared.name.Waiter.{Waiter}
-use Rattle.channel_world_runs.specs.rest.Rest.{state_at}
-use Rattle.channel_steps.specs.Run.{new_configuration}
-use Rattle.channel_steps.specs.Configuration.{Configuration, ActiveCallWitness, all_seats}
-use Rattle.channel_world.specs.World.{at_rest}
+use Rattle.std.specs.Prelude.{◌≡◌, ◌∷◌}
+use Rattle.channel_world.proofs.Words.{refl, ap, WorldState, WorldView, view_of, ℕ, List, [], map, Option, sym, subst, ◌∙◌, Queue, FitsAt, shows, Channel, parts_in, name_state_of, Shown, IsJustOpened, IsQuiet, NameState, CallUnderWay, start, Waiter, state_at, new_configuration, Configuration, ActiveCallWitness, all_seats, at_rest}
+
+-- ---- what is inside a view, for the proofs of this crate alone
+
+module _ {T : Type 0} where
+  -- it is read off the equation, since no file but the view's own can name it
+  abbrev pub opened : (w : WorldView T) → (f : WorldState T) × (view_of f ≡ w)
+  opened w = (_, refl)
+
+  abbrev pub world_state_of : WorldView T → WorldState T
+  world_state_of w = (opened w).0
+
+  -- what is shown so is what is inside
+  pub inside_is : (f : WorldState T) (w : WorldView T) → view_of f ≡ w → f ≡ world_state_of w
+  inside_is f w e = ap (λ (v : WorldView T). world_state_of v) e
 
 module _ {T : Type 0} where
   -- in each configuration that it shows

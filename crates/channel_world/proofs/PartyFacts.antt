@@ -1,28 +1,49 @@
 -- Steps of one party, made one at a time, are one run.
-use Rattle.std.proofs.Common.{arith, ◌≡◌, ℕ, zero, suc, ◌==◌, ◌<◌, ◌+◌, ◌++◌, List, [], ◌∷◌, length, replicate, Bool, true, false, is_some, Option, None, Some, refl, sym, ap, ◌∙◌, subst, append-nil, append_assoc}
-use Rattle.std.specs.Prelude.{IfSome}
-use Rattle.std.proofs.lemmas.Bool.{eqb-true}
-use Rattle.std.proofs.lemmas.List.{replicate_more}
-use Rattle.channel_calls.specs.declared.reply.Reply.{Reply}
-use Rattle.channel_world_model.specs.declared.name.Waiter.{Waiter}
-use Rattle.channel_world_model.specs.declared.refusal.WorldRefusal.{WorldRefusal}
-use Rattle.channel_world_model.specs.declared.run.Stopped.{Stopped}
-use Rattle.channel_steps.specs.Run.{EachStep, IsRun, end_of}
-use Rattle.channel_steps.specs.Configuration.{Configuration}
-use Rattle.channel_steps.proofs.Interface.{run_on}
-use Rattle.channel_world_runs.specs.WorldState.{agents_of, name_state_of, Stands}
-use Rattle.channel_world_runs.specs.Refusal.{step_refusal}
-use Rattle.channel_world_runs.specs.Run.{NameState, StepIsMade, MayRefuseStep, StopsAt, name_state_ended, with_woken}
-use Rattle.channel_world_runs.specs.Runs.{Moment, LeadsBy, RanTo, accepted_in, left_in, moment_of}
-use Rattle.channel_world_runs.specs.declared.world_state.WorldState.{WorldState}
+use Rattle.std.specs.Prelude.{◌≡◌, ◌+◌, ◌∷◌, ◌==◌, ◌<◌, ◌++◌}
+use Rattle.channel_world.proofs.Words.{arith, ℕ, List, [], length, Option, None, Some, IfSome, ap, length-append, Runs, State, Call, WorldRefusal, Stopped, run_entries, Stands, NameState, StopsAt, LeadsBy, RanTo, WorldState, Entry, Step, zero, suc, replicate, Bool, true, false, is_some, refl, sym, ◌∙◌, subst, append-nil, append_assoc, eqb-true, replicate_more, Reply, Waiter, EachStep, IsRun, end_of, Configuration, run_on, agents_of, name_state_of, step_refusal, StepIsMade, MayRefuseStep, name_state_ended, with_woken, Moment, accepted_in, left_in, moment_of, PartyId, steps_asked, refused_of, AreSilent, EndsWithAnswer, StepsOnce, view_of}
+use Rattle.channel_world_model.specs.declared.run.Done.{Done}
 use Rattle.channel_world_runs.specs.Calls.{Agent}
-use Rattle.channel_world_runs.specs.declared.step.Entry.{Entry}
-use Rattle.channel_world_runs.specs.declared.step.PartyId.{PartyId}
-use Rattle.channel_world_runs.specs.declared.step.Step.{Step}
-use Rattle.channel_world_runs.specs.declared.step.Step.TheVariants as step
 use Rattle.channel_world_runs.proofs.AccountFacts.{accounts_both}
-use Rattle.channel_world.specs.PartyRun.{steps_asked, refused_of, AreSilent, EndsWithAnswer, StepsOnce}
-use Rattle.channel_world.specs.View.{view_of}
+
+-- ---- how many steps of a list were made, and where it stopped
+
+module _ {T : Type 0} where
+  -- where it did not stop the list is used up
+  pub all_used_up : (b : NameState T) (left : List (Step T)) (made : ℕ) (stopped : Option Stopped) → StopsAt b left made stopped → stopped ≡ None → left ≡ []
+  all_used_up b left made None stops e = stops
+  all_used_up b left made (Some s) stops e = cc e
+
+  -- where it did, the place says how many were made
+  pub place_is : (b : NameState T) (left : List (Step T)) (made : ℕ) (stopped : Option Stopped) → StopsAt b left made stopped
+      → IfSome stopped (λ s. s.place ≡ made)
+  place_is b left made None stops = tt
+  place_is b [] made (Some s) stops = absurd stops
+  place_is b (x ∷ left) made (Some s) stops = stops.0
+
+  -- the steps that were made and those that are left are all
+  pub all_made : (steps left : List (Step T)) (old : WorldState T) (trace : List (Entry T)) (new : WorldState T) → RanTo steps left old trace new
+      → Stands old → length trace + length left ≡ length steps
+  all_made steps left old trace new ran before =
+      let r = ran before.configuration before.stands in
+      let entries = run_entries LeadsBy _ r.made trace _ r.run in
+      let all = ap (λ (xs : List (Step T)). length xs) r.first in
+      let both = length-append r.made left in
+      omega (arith, entries, all, both)
+
+  -- a list of calls that did not stop is used up
+  pub calls_used_up : (s : State T) (calls : List (Call T)) (done : List (Done T)) (rest : List (Call T)) (t : State T) → Runs s calls done None rest t
+      → rest ≡ []
+  calls_used_up s [] [] rest t ran = ran.0
+  calls_used_up s (c ∷ calls) [] rest t ran = absurd ran.2
+  calls_used_up s [] (d ∷ done) rest t ran = absurd ran
+  calls_used_up s (c ∷ calls) (d ∷ done) rest t ran = calls_used_up ran.0 calls done rest t ran.2
+
+  -- and of each list the calls that were made and those that are left are all
+  pub calls_made : (s : State T) (calls : List (Call T)) (done : List (Done T)) (why : Option WorldRefusal) (rest : List (Call T)) (t : State T)
+      → Runs s calls done why rest t → length done + length rest ≡ length calls
+  calls_made s calls [] why rest t ran = let same = ap (λ (cs : List (Call T)). length cs) ran.0 in omega (arith, same)
+  calls_made s [] (d ∷ done) why rest t ran = absurd ran
+  calls_made s (c ∷ calls) (d ∷ done) why rest t ran = let more = calls_made ran.0 calls done why rest t ran.2 in omega (arith, more)
 
 -- a list of one in two parts, of which the second has its element
 pub first_of : {A : Type 0} (x y : A) (made ys : List A) → x ∷ [] ≡ made ++ y ∷ ys → (made ≡ []) × (y ∷ ys ≡ x ∷ [])
@@ -103,52 +124,52 @@ module _ {T : Type 0} where
 
   -- a party whose step did not answer is at work still
   still_at_work : (b : NameState T) (s : Configuration T Waiter) (p : PartyId) (e : Entry T) (c : NameState T) (t : Configuration T Waiter)
-      → StepIsMade b s (step.Step p) e c t → e.reply ≡ None → step_refusal c.name_table c.agents (step.Step p) ≡ None
+      → StepIsMade b s (Step.Step p) e c t → e.reply ≡ None → step_refusal c.name_table c.agents (Step.Step p) ≡ None
   still_at_work b s p e c t made silent =
       let k = made.name_state.0 in
       let a = made.name_state.1 in
       let is : c ≡ name_state_ended k a None made.kept (with_woken e.woken.items b) =
       subst (λ (r : Option (Reply T)). c ≡ name_state_ended k a r made.kept (with_woken e.woken.items b)) silent made.name_state.4 in
       let same : c.agents ≡ b.agents = ap (λ (d : NameState T). d.agents) is in
-      subst (λ (agents : List (Agent T)). step_refusal c.name_table agents (step.Step p) ≡ None) (sym same) made.not_refused
+      subst (λ (agents : List (Agent T)). step_refusal c.name_table agents (Step.Step p) ≡ None) (sym same) made.not_refused
 
   -- a list of one step that was used up: it was made
   pub record OneMade (p : PartyId) (old : WorldState T) (trace : List (Entry T)) (new : WorldState T) : Type 0 where
     pub entry : Entry T
     pub entries : trace ≡ entry ∷ []
-    pub ran : RanTo (step.Step p ∷ []) [] old (entry ∷ []) new
-    pub goes_on : entry.reply ≡ None → step_refusal new.name_table (agents_of new) (step.Step p) ≡ None
+    pub ran : RanTo (Step.Step p ∷ []) [] old (entry ∷ []) new
+    pub goes_on : entry.reply ≡ None → step_refusal new.name_table (agents_of new) (Step.Step p) ≡ None
 
   pub one_made : (p : PartyId) (left : List (Step T)) (old : WorldState T) (trace : List (Entry T)) (new : WorldState T) → Stands old
-      → RanTo (step.Step p ∷ []) left old trace new → left ≡ [] → OneMade p old trace new
+      → RanTo (Step.Step p ∷ []) left old trace new → left ≡ [] → OneMade p old trace new
   one_made p left old trace new before ran used =
       let s = before.configuration in
       let r = ran s before.stands in
       let m : Moment T = moment_of old s in
-      let made : r.made ≡ step.Step p ∷ [] = made_all (step.Step p) r.made left r.first used in
+      let made : r.made ≡ Step.Step p ∷ [] = made_all (Step.Step p) r.made left r.first used in
       let run = r.run in
-      let o = only m (moment_of new r.last) (step.Step p) trace run.moments
+      let o = only m (moment_of new r.last) (Step.Step p) trace run.moments
       (subst (λ (l : List (Step T)). EachStep LeadsBy m l trace run.moments) made run.each) run.ends in
-      let all : RanTo (step.Step p ∷ []) [] old trace new =
-      subst (λ (l : List (Step T)). RanTo (step.Step p ∷ []) l old trace new) used ran in
+      let all : RanTo (Step.Step p ∷ []) [] old trace new =
+      subst (λ (l : List (Step T)). RanTo (Step.Step p ∷ []) l old trace new) used ran in
       record {
         entry = o.entry;
         entries = o.entries;
-        ran = subst (λ (l : List (Entry T)). RanTo (step.Step p ∷ []) [] old l new) o.entries all;
+        ran = subst (λ (l : List (Entry T)). RanTo (Step.Step p ∷ []) [] old l new) o.entries all;
         goes_on = λ silent. still_at_work (name_state_of old) s p o.entry (name_state_of new) r.last o.by.made silent;
       }
 
   -- one that stopped: nothing was made, and it is refused
   pub record NoneMade (p : PartyId) (old : WorldState T) (trace : List (Entry T)) (why : WorldRefusal) (new : WorldState T) : Type 0 where
-    pub ran : RanTo (step.Step p ∷ []) (step.Step p ∷ []) old [] new
-    pub reason : MayRefuseStep (name_state_of new) (step.Step p) why
+    pub ran : RanTo (Step.Step p ∷ []) (Step.Step p ∷ []) old [] new
+    pub reason : MayRefuseStep (name_state_of new) (Step.Step p) why
 
   pub none_made : (p : PartyId) (left : List (Step T)) (old : WorldState T) (trace : List (Entry T)) (stopped : Stopped) (new : WorldState T)
-      → Stands old → RanTo (step.Step p ∷ []) left old trace new → StopsAt (name_state_of new) left (length trace) (Some stopped)
+      → Stands old → RanTo (Step.Step p ∷ []) left old trace new → StopsAt (name_state_of new) left (length trace) (Some stopped)
       → NoneMade p old trace stopped.why new
   none_made p [] old trace stopped new before ran stops = absurd stops
   none_made p (y ∷ ys) old trace stopped new before ran stops =
-      let x : Step T = step.Step p in
+      let x : Step T = Step.Step p in
       let r = ran before.configuration before.stands in
       let m : Moment T = moment_of old before.configuration in
       let f = first_of x y r.made ys r.first in
@@ -185,10 +206,10 @@ module _ {T : Type 0} where
 
   -- one more step of the party
   pub party_more : (p : PartyId) (n : ℕ) (f : WorldState T) (trace : List (Entry T)) (g : WorldState T) (answered : Bool) (after : List (Entry T))
-      (h : WorldState T) → RanTo (replicate n (step.Step p)) [] f trace g → StepsOnce p (view_of g) trace answered after (view_of h)
-      → RanTo (replicate (n + 1) (step.Step p)) [] f after h
+      (h : WorldState T) → RanTo (replicate n (Step.Step p)) [] f trace g → StepsOnce p (view_of g) trace answered after (view_of h)
+      → RanTo (replicate (n + 1) (Step.Step p)) [] f after h
   party_more p n f trace g answered after h so_far once =
-      let x : Step T = step.Step p in
+      let x : Step T = Step.Step p in
       let both : RanTo (replicate n x ++ x ∷ []) [] f (trace ++ once.entry ∷ []) h =
       ran_on (replicate n x) (x ∷ []) [] f g h trace (once.entry ∷ []) so_far once.ran in
       subst (λ (l : List (Step T)). RanTo l [] f after h) (replicate_more n x)
@@ -201,23 +222,23 @@ module _ {T : Type 0} where
   -- ---- the end of the run
 
   pub record Ended (p : PartyId) (f : WorldState T) (trace : List (Entry T)) (stopped : Option Stopped) (h : WorldState T) : Type 0 where
-    pub ran : RanTo (replicate (steps_asked trace stopped) (step.Step p)) (refused_of p stopped) f trace h
+    pub ran : RanTo (replicate (steps_asked trace stopped) (Step.Step p)) (refused_of p stopped) f trace h
     pub stops : StopsAt (name_state_of h) (refused_of p stopped) (length trace) stopped
 
   pub ended_well : (p : PartyId) (n : ℕ) (f : WorldState T) (trace : List (Entry T)) (h : WorldState T) → length trace ≡ n
-      → RanTo (replicate n (step.Step p)) [] f trace h → Ended p f trace None h
+      → RanTo (replicate n (Step.Step p)) [] f trace h → Ended p f trace None h
   ended_well p n f trace h count so_far = record {
-    ran = subst (λ (k : ℕ). RanTo (replicate k (step.Step p)) [] f trace h) (sym count) so_far;
+    ran = subst (λ (k : ℕ). RanTo (replicate k (Step.Step p)) [] f trace h) (sym count) so_far;
     stops = refl;
   }
 
   pub ended_refused : (p : PartyId) (n : ℕ) (f : WorldState T) (trace : List (Entry T)) (g h : WorldState T) (why : WorldRefusal)
       (made : List (Entry T)) (stopped : Option Stopped) (place : ℕ) → length trace ≡ n
-      → RanTo (replicate n (step.Step p)) [] f trace g → RanTo (step.Step p ∷ []) (step.Step p ∷ []) g [] h
-      → MayRefuseStep (name_state_of h) (step.Step p) why → made ≡ trace → stopped ≡ Some (record { place = place; why = why })
+      → RanTo (replicate n (Step.Step p)) [] f trace g → RanTo (Step.Step p ∷ []) (Step.Step p ∷ []) g [] h
+      → MayRefuseStep (name_state_of h) (Step.Step p) why → made ≡ trace → stopped ≡ Some (record { place = place; why = why })
       → place ≡ length trace → Ended p f made stopped h
   ended_refused p n f trace g h why made stopped place count so_far one reason same stop at =
-      let x : Step T = step.Step p in
+      let x : Step T = Step.Step p in
       let both : RanTo (replicate n x ++ x ∷ []) (x ∷ []) f (trace ++ []) h =
       ran_on (replicate n x) (x ∷ []) (x ∷ []) f g h trace [] so_far one in
       let steps : replicate n x ++ x ∷ [] ≡ replicate (length trace + 1) x =

@@ -1,44 +1,12 @@
 -- One poll of settling: what the channel did is an answer of the model.
-use Rattle.std.proofs.Common.{arith, ◌≡◌, ◌≤◌, ◌+◌, ◌-◌, ℕ, suc, List, [], ◌∷◌, length, Option, true, refl, sym, ap, subst, ◌∙◌}
-use Rattle.event_listener.specs.declared.key.Key.{Key}
-use Rattle.channel_calls.specs.Moves.{Channel}
-use Rattle.channel_calls.specs.Parts.{WaitLists, listeners}
-use Rattle.channel_calls.specs.declared.reply.Reply.{Reply}
-use Rattle.channel_calls.specs.declared.stage.WaitList.{WaitList}
-use Rattle.channel_calls.specs.declared.stage.WaitList.TheVariants.{Sends, Receives, Streams, Closings}
-use Rattle.channel_steps.specs.solo.Alone.{Outcome, Alone}
-use Rattle.channel_world_runs.proofs.Interface.{none_under_way, no_agents}
-use Rattle.channel_world_runs.specs.Bookkeeping.{asks}
-use Rattle.channel_world_runs.specs.WorldState.{parts_in, name_state_of, HasPositions, Shown, IsQuiet, Stands}
-use Rattle.channel_world_runs.specs.WorldInvariant.{WorldInvariant}
-use Rattle.channel_world_runs.specs.Lone.{name_state_alone, BringsWithin, WakesAtMost}
-use Rattle.channel_world_runs.specs.Positions.{accepted_by, brings}
-use Rattle.channel_world_runs.specs.NameTable.{held_of}
-use Rattle.channel_world_runs.specs.Run.{NameState}
-use Rattle.channel_world_runs.specs.Settle.{PollsAlone}
-use Rattle.channel_world_runs.specs.declared.world_state.WorldState.{WorldState}
-use Rattle.channel_world_model.specs.Answer.{Answer}
-use Rattle.channel_world_model.specs.Asked.{KeysHeld}
-use Rattle.channel_world_model.specs.Awake.{AwakeIn}
-use Rattle.channel_world_model.specs.Lines.{is_among, untold}
-use Rattle.channel_world_model.specs.Refused.{Answers}
-use Rattle.channel_world_model.specs.Settling.{poll_of}
-use Rattle.channel_world_model.specs.State.{State}
-use Rattle.channel_world_model.specs.declared.name.Waiter.{Waiter}
-use Rattle.channel_world_runs.specs.refinement.Refines.{AreUntold}
-use Rattle.channel_world_runs.specs.rest.Lone.{PollsAnswer}
-use Rattle.channel_world_runs.specs.rest.Rest.{state_at, IsWorld, RestIsAWorld}
-use Rattle.channel_steps.specs.Configuration.{Configuration}
-use Rattle.channel_world.specs.Settled.{Polls}
-use Rattle.channel_world.specs.World.{at_rest}
-use Rattle.channel_world.proofs.Opening.{at_rest_is}
+use Rattle.std.specs.Prelude.{◌≡◌, ◌≤◌, ◌+◌, ◌-◌, ◌∷◌}
+use Rattle.channel_world.proofs.Lemmas.{arith, ℕ, suc, List, [], length, Option, true, refl, sym, ap, subst, ◌∙◌, Key, Channel, WaitLists, listeners, Reply, WaitList, Sends, Receives, Streams, Closings, Outcome, Alone, none_under_way, no_agents, asks, parts_in, name_state_of, HasPositions, Shown, IsQuiet, Stands, WorldInvariant, name_state_alone, BringsWithin, WakesAtMost, accepted_by, brings, held_of, NameState, PollsAlone, WorldState, Answer, KeysHeld, AwakeIn, is_among, untold, Answers, poll_of, State, Waiter, AreUntold, PollsAnswer, state_at, IsWorld, RestIsAWorld, Configuration, Polls, at_rest, at_rest_is}
 
 -- a list shows a line of as many names as wait on it
 as_many : (held : KeysHeld) (es : List (Key × Option Waiter)) (ws : List Waiter) → AreUntold held es ws → length es ≡ length ws
 as_many held [] [] h = refl
-as_many held [] (w ∷ ws) h = absurd h
-as_many held (e ∷ es) [] h = absurd h
 as_many held (e ∷ es) (w ∷ ws) h = ap suc (as_many held es ws h.1)
+as_many held es ws h = absurd h
 
 module _ {T : Type 0} (f : WorldState T) (kept : Stands f) (quiet : IsQuiet f) where
   -- as many stand untold in a line as wait on its list, where no call is under way

@@ -1,18 +1,6 @@
 -- The positions that a settling needs: one for each message that comes in.
-use Rattle.std.proofs.Common.{arith, ◌≡◌, ◌≤◌, ◌+◌, ℕ, Bool, true, false, Some, IfSome, List, [], ◌∷◌, length, slice_get, inl, inr, subst, ◌∙◌}
-use Rattle.channel_calls.specs.declared.reply.Reply.{Reply}
-use Rattle.channel_world_runs.specs.WorldState.{HasPositions, IsQuiet, Stands}
-use Rattle.channel_world_runs.specs.Positions.{accepted_by, brings, came_in}
-use Rattle.channel_world_runs.specs.declared.world_state.WorldState.{WorldState}
-use Rattle.channel_world_model.specs.Answer.{Answer}
-use Rattle.channel_world_model.specs.Awake.{AwakeIn}
-use Rattle.channel_world_model.specs.Lines.{is_among}
-use Rattle.channel_world_model.specs.Refused.{Answers}
-use Rattle.channel_world_model.specs.Settling.{poll_of}
-use Rattle.channel_world_model.specs.declared.name.Waiter.{Waiter}
-use Rattle.channel_world.specs.Settled.{Polls}
-use Rattle.channel_world.specs.World.{at_rest}
-use Rattle.channel_world.proofs.Carried.{holds_what_fits}
+use Rattle.std.specs.Prelude.{◌≡◌, ◌≤◌, ◌+◌, ◌∷◌}
+use Rattle.channel_world.proofs.Lemmas.{arith, ℕ, Bool, true, false, Some, IfSome, List, [], length, slice_get, inl, inr, subst, ◌∙◌, Reply, HasPositions, IsQuiet, Stands, accepted_by, brings, came_in, WorldState, Answer, AwakeIn, is_among, Answers, poll_of, Waiter, Polls, at_rest, holds_what_fits}
 use Rattle.channel_world.proofs.ComingIn.{still_in, still_less, HoldsWithin}
 use Rattle.channel_world.proofs.NumberFacts.{messages_at_rest}
 

@@ -1,19 +1,7 @@
 -- Records that grow, the calls of seats, and the two laws of every record.
-use Rattle.std.proofs.Common.{arith, ◌≡◌, ◌+◌, ◌-◌, ◌*◌, ◌^◌, ◌≤◌, ℕ, zero, suc, List, [], ◌∷◌, ◌++◌, length, Option, None, refl, sym, subst, ap, ◌∙◌, add-one, append_assoc, append-nil}
-use Rattle.channel_calls.specs.declared.reply.Reply.{Reply}
-use Rattle.channel_world_model.specs.Awake.{AwakeIn}
-use Rattle.channel_world_model.specs.Laws.{removed_by, brought_by_call, sends_after, NobodyIsLeft}
-use Rattle.channel_world_model.specs.Refusal.{refusal}
-use Rattle.channel_world_model.specs.Refused.{Answers}
-use Rattle.channel_world_model.specs.State.{State, start}
-use Rattle.channel_world_model.specs.declared.call.Call.{Call}
-use Rattle.channel_world_model.specs.declared.name.Waiter.{Waiter}
-use Rattle.channel_world_model.proofs.LawSteps.{Kept, step_good, opened_kept}
+use Rattle.std.specs.Prelude.{◌≡◌, ◌+◌, ◌-◌, ◌*◌, ◌^◌, ◌≤◌, ◌∷◌, ◌++◌}
+use Rattle.channel_world.proofs.Words.{arith, ℕ, zero, suc, List, [], length, Option, None, refl, sym, subst, ap, ◌∙◌, add-one, append_assoc, append-nil, Reply, AwakeIn, removed_by, brought_by_call, sends_after, NobodyIsLeft, refusal, Answers, State, start, Call, Waiter, Kept, step_good, opened_kept, MadeAsSaid, Replays, IsHistory, SeatView, amount_of, call_weight, calls_of, numbers_of, sum_below, RecordingView, IsRecording, Receipt}
 use Rattle.channel_world.specs.RecordLaws.{removed_in_record, accepted_in_record, accepted_after}
-use Rattle.channel_world.specs.RecordReplay.{MadeAsSaid, Replays, IsHistory}
-use Rattle.channel_world.specs.RecordSeat.{SeatView, amount_of, call_weight, calls_of, numbers_of, sum_below}
-use Rattle.channel_world.specs.Recording.{RecordingView, IsRecording}
-use Rattle.channel_world.specs.declared.recorded.receipt.Receipt.{Receipt}
 
 -- ---- seats
 

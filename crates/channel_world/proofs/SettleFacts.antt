@@ -1,21 +1,7 @@
 -- The loop of settling: its polls so far, who is woken, and how many polls are still to come.
-use Rattle.std.proofs.Common.{arith, ◌≡◌, ◌≤◌, ◌+◌, ◌*◌, ℕ, suc, Bool, true, false, ◌||◌, List, [], ◌∷◌, ◌++◌, map, length, drop, Some, slice_get, refl, sym, ap, subst, ◌∙◌, append_assoc, length-append}
-use Rattle.std.proofs.lemmas.List.{length-map, map-append}
-use Rattle.std.specs.List.{list_any}
+use Rattle.std.specs.Prelude.{◌≡◌, ◌≤◌, ◌+◌, ◌*◌, ◌||◌, ◌∷◌, ◌++◌}
+use Rattle.channel_world.proofs.Lemmas.{arith, ℕ, suc, Bool, true, false, List, [], map, length, drop, Some, slice_get, refl, sym, ap, subst, ◌∙◌, append_assoc, length-append, length-map, map-append, list_any, Reply, Sends, Receives, Streams, Answer, AwakeIn, is_among, Answers, poll_of, SettlesTo, Settles, NobodyGoesOn, pending_count, State, Waiter, poll_awake, first_there, settle_more, settle_ends, settling_ends, settled_rest as at_rest, woken_next, Polls, polls_in, most_polls, pending_on, NoneLackedMemory, Settled}
 use Rattle.channel_steps.specs.solo.Ample.{lacks_memory}
-use Rattle.channel_calls.specs.declared.reply.Reply.{Reply}
-use Rattle.channel_calls.specs.declared.stage.WaitList.TheVariants.{Sends, Receives, Streams}
-use Rattle.channel_world_model.specs.Answer.{Answer}
-use Rattle.channel_world_model.specs.Awake.{AwakeIn}
-use Rattle.channel_world_model.specs.Lines.{is_among}
-use Rattle.channel_world_model.specs.Refused.{Answers}
-use Rattle.channel_world_model.specs.Settling.{poll_of, SettlesTo, Settles, NobodyGoesOn, pending_count}
-use Rattle.channel_world_model.specs.State.{State}
-use Rattle.channel_world_model.specs.declared.name.Waiter.{Waiter}
-use Rattle.channel_world_model.proofs.LawSteps.{poll_awake}
-use Rattle.channel_world_model.proofs.Settle.{first_there, settle_more, settle_ends, settling_ends, at_rest, woken_next}
-use Rattle.channel_world.specs.Settled.{Polls, polls_in, most_polls, pending_on, NoneLackedMemory}
-use Rattle.channel_world.specs.declared.settle.Settled.{Settled}
 use Rattle.channel_world.proofs.Short.{weight_of, shorter, within, woken_within}
 
 -- ---- lists

@@ -1,21 +1,6 @@
 -- The text of a settling; and that where no growth was refused, settling is what the definitions compute.
-use Rattle.std.proofs.Common.{arith, ◌≡◌, ◌≤◌, ◌+◌, ◌*◌, ◌/◌, ◌||◌, ℕ, zero, suc, List, [], ◌∷◌, ◌++◌, length, Bool, true, false, slice_get, codes, refl, sym, ap, subst, ◌∙◌}
-use Rattle.std.proofs.lemmas.List.{length-map}
-use Rattle.std.specs.Fmt.{decimal}
-use Rattle.std.specs.Option.{option_map_or}
-use Rattle.std.specs.List.{list_any}
-use Rattle.channel_calls.specs.declared.reply.Reply.{Reply}
-use Rattle.channel_world_model.specs.Answer.{Answer, answer}
-use Rattle.channel_world_model.specs.Settling.{poll_of, Settles, pending_count}
-use Rattle.channel_world_model.specs.State.{State}
-use Rattle.channel_world_model.specs.declared.name.Waiter.{Waiter}
-use Rattle.channel_world.specs.Script.{ScriptScene, Obeyed, settled, settles, waiting_count}
-use Rattle.channel_world.specs.Settled.{polls_in}
-use Rattle.channel_world_language.specs.Table.{Table}
-use Rattle.channel_world_language.specs.Text.{parted, settle_text, wants_growth}
-use Rattle.channel_world.specs.Settled.{AreAmple}
-use Rattle.channel_world.specs.declared.settle.Settled.{Settled}
-use Rattle.channel_world.proofs.GrowthLemmas.{is_ample}
+use Rattle.std.specs.Prelude.{◌≡◌, ◌≤◌, ◌+◌, ◌*◌, ◌/◌, ◌||◌, ◌∷◌, ◌++◌}
+use Rattle.channel_world.proofs.Lemmas.{arith, ℕ, zero, suc, List, [], length, Bool, true, false, slice_get, codes, refl, sym, ap, subst, ◌∙◌, length-map, decimal, option_map_or, list_any, Reply, Answer, answer, poll_of, Settles, pending_count, State, Waiter, ScriptScene, Obeyed, settled, settles, waiting_count, polls_in, Table, parted, settle_text, wants_growth, AreAmple, Settled, is_ample}
 
 -- ---- lists
 

@@ -1,40 +1,11 @@
 -- How few polls a settling makes: each brings the end nearer by one, where each that is pending counts for those that it wakes as it
 -- leaves. Only a send whose message is accepted wakes streams.
-use Rattle.std.proofs.Common.{arith, ◌≡◌, ◌⊎◌, ◌≤◌, ◌+◌, ℕ, suc, nat_eq, List, [], ◌∷◌, length, take, drop, Bool, true, false, Option, None, Some, Ok, inl, inr, refl, sym, ap, subst, ◌∙◌, length-append}
-use Rattle.std.specs.Prelude.{slice_get}
-use Rattle.channel_calls.specs.declared.reply.Reply.{Reply}
-use Rattle.channel_calls.specs.declared.reply.Reply.TheVariants as reply
-use Rattle.channel_calls.specs.declared.stage.WaitList.{WaitList}
-use Rattle.channel_calls.specs.declared.stage.WaitList.TheVariants.{Sends, Receives, Streams, Closings}
-use Rattle.channel_world_model.specs.Answer.{Answer, space_of, first, found}
-use Rattle.channel_world_model.specs.Awake.{AwakeIn, Kind, Placed}
-use Rattle.channel_calls.specs.Model.{appended, with_messages}
-use Rattle.channel_world_model.specs.Laws.{is_line, line_at, line_of_operation}
-use Rattle.channel_world_model.specs.Lines.{Waiting, is_among, untold, told_by, after_news, gone, passed_on, left_after, told_after, standing}
-use Rattle.channel_world_model.specs.Names.{Names, at, with_operation_changed}
-use Rattle.channel_world_model.specs.Refused.{Answers}
-use Rattle.channel_world_model.specs.Settling.{poll_of, SettlesTo}
-use Rattle.channel_world_model.specs.State.{State}
-use Rattle.channel_world_model.specs.declared.call.Call.{Call}
-use Rattle.channel_world_model.specs.declared.call.Call.TheVariants as call
-use Rattle.channel_world_model.specs.declared.name.HandleId.{HandleId}
-use Rattle.channel_world_model.specs.declared.name.OpId.{OpId}
-use Rattle.channel_world_model.specs.declared.name.Operation.{Operation}
-use Rattle.channel_world_model.specs.declared.name.Operation.TheVariants as live
-use Rattle.channel_world_model.specs.declared.name.Waiter.{Waiter}
-use Rattle.channel_world_model.specs.declared.name.Waiter.TheVariants.{Op, Stream}
-use Rattle.channel_world_model.specs.declared.news.News.{News}
-use Rattle.channel_world_model.specs.declared.news.News.TheVariants.{Nothing, Message, Room}
-use Rattle.channel_world_model.specs.declared.space.Space.TheVariants.{Open}
-use Rattle.channel_world_model.proofs.LawSteps.{found_name, no_line, poll_awake, set_elsewhere, set_here}
-use Rattle.channel_world_model.proofs.Shapes.{Shape, brings, shape_of}
+use Rattle.std.specs.Prelude.{◌≡◌, ◌⊎◌, ◌≤◌, ◌+◌, ◌∷◌}
+use Rattle.channel_world.proofs.Lemmas.{arith, ℕ, suc, nat_eq, List, [], length, take, drop, Bool, true, false, Option, None, Some, Ok, inl, inr, refl, sym, ap, subst, ◌∙◌, length-append, slice_get, Reply, WaitList, Sends, Receives, Streams, Closings, Answer, space_of, first, found, AwakeIn, Kind, Placed, appended, with_messages, is_line, line_at, line_of_operation, Waiting, is_among, untold, told_by, after_news, gone, passed_on, left_after, told_after, standing, Names, at, with_operation_changed, Answers, poll_of, SettlesTo, State, Call, HandleId, OpId, Operation, Waiter, Op, Stream, News, Message, Room, Open, found_name, no_line, poll_awake, set_elsewhere, set_here, Shape, shape_of, count_all, count_news, count_gone, count_gone_one, count_end, few_passed, first_one, first_there, front_stays, not_untold, woken_next, decided, none_left, came_in, Ready, SettlingIsShort, most_polls, pending_on, on, weight, no_more, by_one, by_send, by_receive, by_stream, count_on, all_streams, fewer_kinds}
+use Rattle.channel_world_model.specs.declared.news.News.TheVariants.{Nothing}
+use Rattle.channel_world_model.proofs.Shapes.{brings}
 use Rattle.channel_world_model.proofs.Shapes as shape
-use Rattle.channel_world_model.proofs.Settle.{count_all, count_news, count_gone, count_gone_one, count_end, few_passed, first_one, first_there, front_stays, not_untold, one_if, woken_next}
-use Rattle.channel_world_model.proofs.WaiterLemmas.{decided, none_left}
-use Rattle.channel_world_runs.specs.Positions.{came_in}
-use Rattle.futures.specs.declared.task.Poll.TheVariants.{Ready}
-use Rattle.channel_world.specs.Settled.{SettlingIsShort, most_polls, pending_on}
-use Rattle.channel_world.proofs.Weights.{on, weight, no_more, by_one, by_send, by_receive, by_stream, count_on, all_streams, fewer_kinds}
+use Rattle.channel_world_model.proofs.Settle.{one_if}
 
 -- ---- one poll
 
@@ -208,18 +179,18 @@ module _ {T : Type 0} where
     kept line v e = e
 
     finishes : (op : OpId) (handle : HandleId) (x : Operation T) → at op.0 s.names.operations ≡ Some x
-        → KeepsLines (with_operation_changed op (live.Send handle None) s.names)
+        → KeepsLines (with_operation_changed op (Operation.Send handle None) s.names)
     finishes op handle x there line (Stream r) e = e
     finishes op handle x there line (Op other) e =
         let named = found_name op.0 s.names.operations x there in
         elim (decided (nat_eq op.0 other.0)) [
           | inl t ↦
               let here = ap (λ (o : Option (Operation T)). is_line line (line_of_operation o))
-              (set_here op.0 other.0 (Some (live.Send handle None)) s.names.operations named t) in
+              (set_here op.0 other.0 (Some (Operation.Send handle None)) s.names.operations named t) in
               absurd (let no : false ≡ true = sym here ∙ e in cc)
           | inr t ↦
               sym (ap (λ (o : Option (Operation T)). is_line line (line_of_operation o))
-              (set_elsewhere op.0 other.0 (Some (live.Send handle None)) s.names.operations named t)) ∙ e
+              (set_elsewhere op.0 other.0 (Some (Operation.Send handle None)) s.names.operations named t)) ∙ e
         ]
 
     -- one of a line was polled
@@ -230,14 +201,14 @@ module _ {T : Type 0} where
 
     -- a reply that says nothing of it brought nothing in
     none_came : (r : Reply T) → brings r ≡ false → came_in r ≡ 0
-    none_came (reply.TrySend (Ok u)) e = cc e
-    none_came (reply.ForceSend (Ok d)) e = cc e
-    none_came (reply.SendPoll (Ready (Ok u))) e = cc e
+    none_came (Reply.TrySend (Ok u)) e = cc e
+    none_came (Reply.ForceSend (Ok d)) e = cc e
+    none_came (Reply.SendPoll (Ready (Ok u))) e = cc e
     none_came r e = refl
 
     abbrev AsPolled : Call T → Answer T → Type 0
-    AsPolled (call.Poll op) a = is_among (Op op) s.waiting.woken ≡ true → PolledAs (Op op) a
-    AsPolled (call.PollNext receiver) a = is_among (Stream receiver) s.waiting.woken ≡ true → PolledAs (Stream receiver) a
+    AsPolled (Call.Poll op) a = is_among (Op op) s.waiting.woken ≡ true → PolledAs (Op op) a
+    AsPolled (Call.PollNext receiver) a = is_among (Stream receiver) s.waiting.woken ≡ true → PolledAs (Stream receiver) a
     AsPolled c a = Unit {0}
 
     module _ (awake : AwakeIn s) where
@@ -245,8 +216,8 @@ module _ {T : Type 0} where
       k = line_at s.names
 
       as_polled : {c : Call T} {a : Answer T} → Shape s c a → AsPolled c a
-      as_polled (shape.says (call.Poll op) r rests h) = λ e. no_line (k (Op op)) (awake.placed.wakes (Op op) e) rests
-      as_polled (shape.says (call.PollNext receiver) r rests h) =
+      as_polled (shape.says (Call.Poll op) r rests h) = λ e. no_line (k (Op op)) (awake.placed.wakes (Op op) e) rests
+      as_polled (shape.says (Call.PollNext receiver) r rests h) =
           λ e. let off = not_untold k Streams (Stream receiver) s.waiting awake.placed e in cc (rests, off)
       as_polled (shape.sends op handle m there fits) = λ e.
           let left = accepted k (Op op) s.waiting awake.placed e in
@@ -299,16 +270,16 @@ module _ {T : Type 0} where
         own = own;
         so = (is_gone k (Stream receiver) s.waiting awake.placed e line, kept, stays line (Stream receiver) _ (none_came r h.2) refl);
       }
-      as_polled (shape.makes (call.Poll op) new kind mint h) = absurd mint
-      as_polled (shape.makes (call.PollNext receiver) new kind mint h) = absurd mint
-      as_polled (shape.spends (call.Poll op) new r mint h) = absurd mint
-      as_polled (shape.spends (call.PollNext receiver) new r mint h) = absurd mint
+      as_polled (shape.makes (Call.Poll op) new kind mint h) = absurd mint
+      as_polled (shape.makes (Call.PollNext receiver) new kind mint h) = absurd mint
+      as_polled (shape.spends (Call.Poll op) new r mint h) = absurd mint
+      as_polled (shape.spends (Call.PollNext receiver) new r mint h) = absurd mint
       as_polled x = tt
 
       -- however the poll of one that is woken is answered
       pub polled_as : (w : Waiter) (a : Answer T) → is_among w s.waiting.woken ≡ true → Answers s (poll_of w) a → PolledAs w a
-      polled_as (Op op) a e answers = as_polled (shape_of s (call.Poll op) a answers) e
-      polled_as (Stream receiver) a e answers = as_polled (shape_of s (call.PollNext receiver) a answers) e
+      polled_as (Op op) a e answers = as_polled (shape_of s (Call.Poll op) a answers) e
+      polled_as (Stream receiver) a e answers = as_polled (shape_of s (Call.PollNext receiver) a answers) e
 
   -- ---- settling
 

@@ -1,37 +1,13 @@
 -- What all replies have in common that were given on the way from a configuration: of each step, and so of all.
-use Rattle.std.proofs.Common.{arith, ◌≡◌, ℕ, ◌+◌, ◌≤◌, Bool, true, false, ◌||◌, cond, List, [], ◌∷◌, ◌++◌, map, Option, None, Some, refl, sym, ap, ◌∙◌, subst}
-use Rattle.std.specs.Option.{option_to_list}
-use Rattle.channel_calls.specs.Moves.{Channel}
-use Rattle.channel_calls.specs.declared.mark.Mark.{Mark}
-use Rattle.channel_calls.specs.declared.mark.Mark.TheVariants.{Nothing, Close}
-use Rattle.channel_calls.specs.declared.reply.Reply.{Reply}
-use Rattle.channel_calls.specs.declared.reply.Reply.TheVariants as reply
-use Rattle.channel_calls.specs.declared.stage.Returned.{Returned}
+use Rattle.std.specs.Prelude.{◌≡◌, ◌+◌, ◌≤◌, ◌||◌, ◌∷◌, ◌++◌}
+use Rattle.channel_world.proofs.Lemmas.{arith, ℕ, Bool, true, false, cond, List, [], map, Option, None, Some, refl, sym, ap, ◌∙◌, subst, option_to_list, Channel, Mark, Nothing, Close, Reply, Returned, Each, Replies, Waiter, MarkedMoment, with_marked, ClosedIt, Next, NextConfiguration, IsRun, new_configuration, call_begun, ActiveCall, Configuration, Steps, MayFinish, sees, does, unless_ended, ChannelEntry, ChannelStep, run_so, led_further, none_under_way, tally, IsQuiet, Stands, WorldState, State, at_rest, view_of, at_rest_is, world_state_of}
 use Rattle.channel_steps.specs.every_run.Bounds.{SaysFull, NoneFull, AllOf, BoundSound, one_if_closed}
-use Rattle.channel_steps.specs.every_run.Ends.{Each, Replies}
 use Rattle.channel_steps.proofs.every_run.BoundMoves.{SaysOf, FlagOf}
 use Rattle.channel_steps.proofs.every_run.Bounds.{step_bounded, never_full}
 use Rattle.channel_steps.proofs.every_run.Closers.{row_closed}
-use Rattle.channel_world_model.specs.declared.name.Waiter.{Waiter}
-use Rattle.channel_steps.specs.Moments.{MarkedMoment, with_marked, ClosedIt}
-use Rattle.channel_steps.specs.Run.{Next, NextConfiguration, IsRun, new_configuration, call_begun}
-use Rattle.channel_steps.specs.Configuration.{ActiveCall, Configuration, Steps, MayFinish, sees, does, unless_ended}
-use Rattle.channel_steps.specs.declared.party.Entry.{Entry as ChannelEntry}
-use Rattle.channel_steps.specs.declared.run.Step.{Step as ChannelStep}
-use Rattle.channel_steps.specs.declared.run.Step.TheVariants as step
-use Rattle.channel_steps.proofs.Interface.{run_so}
-use Rattle.channel_world_runs.proofs.Interface.{led_further, none_under_way}
-use Rattle.channel_world_runs.specs.Counted.{tally}
 use Rattle.channel_world_runs.specs.Activity.{any_close, is_close}
-use Rattle.channel_world_runs.specs.WorldState.{IsQuiet, Stands}
 use Rattle.channel_world_runs.specs.Reaches.{replies_of}
-use Rattle.channel_world_runs.specs.declared.world_state.WorldState.{WorldState}
-use Rattle.channel_world_model.specs.State.{State}
 use Rattle.channel_world.specs.Since.{closings_among, closers_in, closings_left, NoneSaysFull, HasNoBound, ClosesOnce, ClosesOnceToHere, ClosesWhatIsLeft, ClosesOnceFromRest, NoneClosesAgain, IsNeverFull, IsNeverFullToHere, IsNeverFullSince, IsNeverFullFromRest}
-use Rattle.channel_world.specs.World.{at_rest}
-use Rattle.channel_world.proofs.Opening.{at_rest_is}
-use Rattle.channel_world.specs.View.{view_of}
-use Rattle.channel_world.proofs.Inside.{world_state_of}
 
 -- ---- how often it is closed
 
@@ -81,7 +57,7 @@ module _ {T : Type 0} where
   ended : (u : ActiveCall T Waiter) (r : Option (Reply T)) (left : Option (Returned T)) → MayFinish u r left
       → one_if_closed r + tally has_closed (unless_ended u r) ≤ one_if (any_close u.marks)
   ended u None left h = omega arith
-  ended u (Some (reply.Closed true)) left h =
+  ended u (Some (Reply.Closed true)) left h =
       let met = h.met in
       let one : one_if (any_close u.marks) ≡ 1 = ap one_if (closed_deeds u.marks (row_closed u.ask u.marks met.1 met.3)) in
       omega (arith, one)
@@ -117,13 +93,13 @@ module _ {T : Type 0} where
 
   next_closes : (s : Configuration T Waiter) (x : ChannelStep T Waiter) (e : ChannelEntry T) (names : List Waiter) (t : Configuration T Waiter)
       → Next s x e names t → one_if_closed e.reply + closings_left t ≤ closings_left s
-  next_closes s (step.Begin p a) e names t n =
+  next_closes s (ChannelStep.Begin p a) e names t n =
       let none : one_if_closed e.reply ≡ 0 = ap (λ (f : ChannelEntry T). one_if_closed f.reply) n.0.entry in
       let flag : while_open t.now.queue.closed ≡ while_open s.now.queue.closed = ap (λ (c : Channel T Waiter). while_open c.queue.closed) n.0.now in
       let after : tally has_closed t.under_way ≡ tally has_closed (s.under_way ++ call_begun p a n.0.at s.now ∷ []) = ap (tally has_closed) n.0.under_way in
       let joined = closers_join s.under_way (call_begun p a n.0.at s.now ∷ []) in
       omega (arith, none, flag, after, joined)
-  next_closes s (step.Step p) e names t n = step_closes s t p e names n
+  next_closes s (ChannelStep.Step p) e names t n = step_closes s t p e names n
 
   given_first : (r : Option (Reply T)) (rs : List (Reply T)) → closings_among (option_to_list r ++ rs) ≡ one_if_closed r + closings_among rs
   given_first None rs = omega arith

@@ -1,37 +1,83 @@
 -- What is responsible for those that sleep, in the numbers that a world tells, calls under way or not.
-use Rattle.std.proofs.Common.{arith, ◌≡◌, ◌≤◌, ◌+◌, ℕ, suc, Bool, true, List, [], ◌∷◌, ◌++◌, length, Option, None, Some, ◌⊎◌, inl, inr, refl, ap, ◌∙◌}
-use Rattle.std.specs.List.{count_by}
-use Rattle.std.proofs.lemmas.List.Sums.{count_by-le-length}
-use Rattle.channel_calls.specs.declared.stage.ListenerRef.{ListenerRef}
-use Rattle.channel_calls.specs.declared.stage.WaitList.{WaitList}
-use Rattle.channel_calls.specs.declared.stage.WaitList.TheVariants.{Sends, Receives}
-use Rattle.channel_steps.specs.Configuration.{Configuration}
+use Rattle.std.specs.Prelude.{◌≡◌, ◌⊎◌, ◌<◌, ◌==◌, ◌∷◌, ◌≤◌, ◌+◌, ◌++◌}
+use Rattle.channel_world.proofs.Lemmas.{arith, ℕ, Bool, List, [], length, Option, None, Some, inl, inr, refl, sym, ap, subst, vec_len, nat_tests, AwakeIn, free_places, NobodyGoesOn, State, settled_rest, messages_in, name_state_of, IsQuiet, Stands, TellsQuiet, WorldState, CallUnderWay, none_under_way, RestIsAWorld, NobodyIsLeftAtRest, NoReceiveIsLeft, NoStreamIsLeft, NoSendIsLeft, NobodyIsLeftOnAClosed, HasAPlace, NoReceivePendsBesideAMessage, NoSendPendsBesideAPlace, NoStreamPendsBesideAMessage, woken_among, CallsAtRest, at_rest, view_of, at_rest_is, suc, true, ◌∙◌, count_by, count_by-le-length, ListenerRef, WaitList, Sends, Receives, Configuration, times, is_line, line_at, same_waiter, is_among, Waiter, or_true, same_sound, names_of, Owed, IsUnwoken, is_sending, is_receiving, woken_on, all_unannounced, waits, status, WokenSound, stands_pending, how_many, NameState, calls_in, observation_of, NameTable, no_longer, one_if, count_first, among_is, waits_pending, none_twice_times, ReceivesAreAnswered, SendsAreAnswered, StreamsAreAnswered, ClosingIsAnswered, NoReceiveSleepsBesideAMessage, NoStreamSleepsBesideAMessage, NoSendSleepsBesideAPlace, NobodySleepsOnAClosed, AllAreAwake}
+use Rattle.channel_world.proofs.NumberFacts.{messages_at_rest, all_so, so_many, so_there, pending_holds}
 use Rattle.channel_steps.specs.every_run.Sends.{HasPlaces}
-use Rattle.channel_world_model.specs.Awake.{times}
-use Rattle.channel_world_model.specs.Laws.{is_line, line_at}
-use Rattle.channel_world_model.specs.Lines.{same_waiter, is_among}
-use Rattle.channel_world_model.specs.declared.name.Waiter.{Waiter}
-use Rattle.channel_world_model.proofs.WaiterLemmas.{or_true, same_sound}
-use Rattle.channel_world_runs.specs.NameTable.{names_of}
-use Rattle.channel_world_runs.specs.Owed.{Owed, IsUnwoken, is_sending, is_receiving, woken_on, all_unannounced}
-use Rattle.channel_world_runs.specs.Owners.{waits, status}
-use Rattle.channel_world_runs.specs.OwnerWoken.{WokenSound}
-use Rattle.channel_world_runs.specs.Pending.{stands_pending, how_many}
-use Rattle.channel_world_runs.specs.Run.{NameState}
-use Rattle.channel_world_runs.specs.WorldState.{calls_in, messages_in, name_state_of, observation_of, Stands}
-use Rattle.channel_world_runs.specs.declared.calls.CallUnderWay.{CallUnderWay}
 use Rattle.channel_world_runs.specs.declared.activity.Role.{Role}
 use Rattle.channel_world_runs.specs.declared.activity.Role.TheVariants.{Sending, Receiving, Other}
-use Rattle.channel_world_runs.specs.declared.world_state.WorldState.{WorldState}
-use Rattle.channel_world_runs.specs.declared.name_table.NameTable.{NameTable}
-use Rattle.channel_world_runs.proofs.NoLonger.{no_longer}
-use Rattle.channel_world_runs.proofs.OwedCounts.{one_if, count_first}
-use Rattle.channel_world_runs.proofs.OwnerOrderNames.{among_is}
-use Rattle.channel_world_runs.proofs.OwnerWoken.{waits_pending}
-use Rattle.channel_world_runs.proofs.rest.Woken.{none_twice_times}
-use Rattle.channel_world.specs.Asleep.{ReceivesAreAnswered, SendsAreAnswered, StreamsAreAnswered, ClosingIsAnswered, NoReceiveSleepsBesideAMessage, NoStreamSleepsBesideAMessage, NoSendSleepsBesideAPlace, NobodySleepsOnAClosed, AllAreAwake, HasAPlace}
-use Rattle.channel_world.specs.View.{view_of}
-use Rattle.channel_world.proofs.NumberFacts.{all_so, so_many, so_there, pending_holds}
+
+-- ---- what is responsible for those that sleep, in the numbers that a world tells
+
+none_of : {A : Type 0} (xs : List A) → length xs ≡ 0 → xs ≡ []
+none_of [] e = refl
+none_of (x ∷ xs) e = absurd (omega (arith, e))
+
+module _ {T : Type 0} (w : WorldState T) where
+  pub calls_at_rest : CallsAtRest (view_of w)
+  calls_at_rest = record { none = none_of w.calls.items; quiet = λ q. ap (λ (cs : List (CallUnderWay T)). length cs) q }
+
+  pub tells_quiet : (quiet : Bool) → quiet ≡ (vec_len w.calls == 0) → TellsQuiet w quiet
+  tells_quiet quiet is =
+      let size : vec_len w.calls ≡ length w.calls.items = w.calls.ok.0 in
+      record {
+        told = λ yes. none_of w.calls.items (grind (arith, nat_tests));
+        busy = λ no none. let empty : length w.calls.items ≡ 0 = ap (λ (cs : List (CallUnderWay T)). length cs) none in absurd (grind (arith, nat_tests));
+      }
+
+-- ---- at rest
+
+none_beside : {A : Type 0} (xs : List A) (n : ℕ) → (xs ≡ []) ⊎ (n ≡ 0) → 0 < n → xs ≡ []
+none_beside xs n (inl e) some = e
+none_beside xs n (inr z) some = absurd (omega (arith, z, some))
+
+module _ {T : Type 0} (w : WorldState T) (held : messages_in w ≡ length (at_rest w).channel.messages) (rest : NobodyGoesOn (at_rest w)) where
+  pub no_receive_goes_on : NoReceivePendsBesideAMessage (view_of w)
+  no_receive_goes_on some = let r = rest in none_beside _ _ r.receives (omega (arith, held, some))
+
+  pub no_stream_goes_on : NoStreamPendsBesideAMessage (view_of w)
+  no_stream_goes_on some = let r = rest in none_beside _ _ r.streams (omega (arith, held, some))
+
+  pub no_send_goes_on : NoSendPendsBesideAPlace (view_of w)
+  no_send_goes_on is_open place = by (at_rest w).channel.capacity refl place
+    where
+      by : (cap : Option ℕ) → (at_rest w).channel.capacity ≡ cap → HasAPlace cap (messages_in w) → (at_rest w).waiting.sends ≡ []
+      by None e p = let r = rest in r.unbounded e
+      by (Some c) e p =
+          let r = rest in
+          none_beside _ _
+          (subst (λ (o : Option ℕ). ((at_rest w).waiting.sends ≡ []) ⊎ (free_places o (length (at_rest w).channel.messages) ≡ 0)) e (r.sends is_open))
+          (omega (arith, held, p))
+
+module _ {T : Type 0} (w : WorldState T) (k : Stands w) (rests : RestIsAWorld T) where
+  awake : IsQuiet w → AwakeIn (at_rest w)
+  awake quiet =
+      let world = rests (name_state_of w) k.configuration k.stands.kept (none_under_way w k.configuration quiet k.stands.shown) in
+      subst (λ (x : State T). AwakeIn x) (sym (at_rest_is w k.configuration k.stands.shown quiet)) world.awake
+
+  pub left_at_rest : NobodyIsLeftAtRest (view_of w)
+  left_at_rest quiet =
+      let a = awake quiet in
+      record { receives = a.receives; sends = a.sends; unbounded = a.unbounded; streams = a.streams; opened = a.opened }
+
+  pub no_stream_left : NoStreamIsLeft (view_of w)
+  no_stream_left quiet some =
+      let a = awake quiet in
+      let held = messages_at_rest w k quiet in
+      none_beside _ _ a.streams (omega (arith, held, some))
+
+  pub left_on_a_closed : NobodyIsLeftOnAClosed (view_of w)
+  left_on_a_closed quiet shut line = let a = awake quiet in a.opened shut line
+
+  none_goes_on : IsQuiet w → woken_among (view_of w) ≡ 0 → NobodyGoesOn (at_rest w)
+  none_goes_on quiet none =
+      let nobody = none_of (at_rest w).waiting.woken none in
+      (settled_rest (at_rest w) (at_rest w) [] (awake quiet) (nobody, refl)).1
+
+  pub no_receive_left : NoReceiveIsLeft (view_of w)
+  no_receive_left quiet none = no_receive_goes_on w (messages_at_rest w k quiet) (none_goes_on quiet none)
+
+  pub no_send_left : NoSendIsLeft (view_of w)
+  no_send_left quiet none = no_send_goes_on w (messages_at_rest w k quiet) (none_goes_on quiet none)
 
 -- ---- counts
 

@@ -1,21 +1,7 @@
 -- Nothing comes after the end: of a run whose steps say so much, no call that begins later gives a message.
-use Rattle.std.proofs.Common.{◌≡◌, ℕ, List, [], ◌∷◌, ◌++◌, map, Option, None, Some, inl, inr, sym, subst}
-use Rattle.channel_calls.specs.Moves.{Channel}
-use Rattle.channel_calls.specs.declared.reply.Reply.{Reply}
+use Rattle.std.specs.Prelude.{◌≡◌, ◌∷◌, ◌++◌}
+use Rattle.channel_world.proofs.Words.{ℕ, List, [], map, Option, None, Some, inl, inr, sym, subst, Channel, Reply, Waiter, Spent, EachStep, call_begun, ActiveCall, sees, unless_ended, none_of, asks, WorldInvariant, All, IsAmong, Moment, LeadsBy, Entry, Step, StepSays}
 use Rattle.channel_steps.specs.every_run.Over.{AllSpent}
-use Rattle.channel_world_model.specs.declared.name.Waiter.{Waiter}
-use Rattle.channel_steps.specs.Moments.{Spent}
-use Rattle.channel_steps.specs.Run.{EachStep, call_begun}
-use Rattle.channel_steps.specs.Configuration.{ActiveCall, sees, unless_ended}
-use Rattle.channel_world_runs.proofs.Interface.{none_of}
-use Rattle.channel_world_runs.specs.Bookkeeping.{asks}
-use Rattle.channel_world_runs.specs.WorldInvariant.{WorldInvariant}
-use Rattle.channel_world_runs.specs.Owners.{All, IsAmong}
-use Rattle.channel_world_runs.specs.Runs.{Moment, LeadsBy}
-use Rattle.channel_world_runs.specs.declared.step.Entry.{Entry}
-use Rattle.channel_world_runs.specs.declared.step.Step.{Step}
-use Rattle.channel_world_runs.specs.declared.step.Step.TheVariants as step
-use Rattle.channel_world.specs.Sentences.{StepSays}
 use Rattle.channel_world.specs.TheEnd.{GiveNothing, NothingComesAfter}
 
 module _ {T : Type 0} where
@@ -64,7 +50,7 @@ module _ {T : Type 0} where
       → WorldInvariant m.name_state m.configuration → EachStep LeadsBy m xs es ns → EachStep StepSays m xs es ns → Spent m.configuration.now
       → All (IsLate parties) m.configuration.under_way → GiveNothing parties xs es
   give_nothing parties m [] [] [] k h says over late = tt
-  give_nothing parties m (step.Begin p c ∷ xs) (e ∷ es) (n ∷ ns) k h says over late =
+  give_nothing parties m (Step.Begin p c ∷ xs) (e ∷ es) (n ∷ ns) k h says over late =
       let b = says.0.call in
       let first = says.0.over over in
       let none = none_of m.name_state m.configuration p c k says.0.accepted in
@@ -72,7 +58,7 @@ module _ {T : Type 0} where
       let all = late_join (p.0 ∷ parties) m.configuration.under_way (now ∷ []) (late_more p.0 parties m.configuration.under_way none late) (λ i. (over, tt), tt) in
       give_nothing (p.0 ∷ parties) n xs es ns h.0.holds.kept h.1 says.1 first.0
       (subst (λ (us : List (ActiveCall T Waiter)). All (IsLate (p.0 ∷ parties)) us) (sym b.under_way) all)
-  give_nothing parties m (step.Step p ∷ xs) (e ∷ es) (n ∷ ns) k h says over late =
+  give_nothing parties m (Step.Step p ∷ xs) (e ∷ es) (n ∷ ns) k h says over late =
       let s = says.0.call in
       let first = says.0.over over in
       let there = subst (λ (us : List (ActiveCall T Waiter)). All (IsLate parties) us) s.under_way late in
@@ -87,27 +73,21 @@ module _ {T : Type 0} where
         give_nothing parties n xs es ns h.0.holds.kept h.1 says.1 first.0
             (subst (λ (us : List (ActiveCall T Waiter)). All (IsLate parties) us) (sym s.goes_on) all),
       )
-  give_nothing parties m [] [] (n ∷ ns) k h says over late = absurd h
-  give_nothing parties m [] (e ∷ es) ns k h says over late = absurd h
-  give_nothing parties m (x ∷ xs) [] ns k h says over late = absurd h
-  give_nothing parties m (x ∷ xs) (e ∷ es) [] k h says over late = absurd h
+  give_nothing parties m xs es ns k h says over late = absurd h
 
   -- ---- steps that were not made say nothing
 
   none_made : (parties : List ℕ) (xs : List (Step T)) → GiveNothing parties xs []
   none_made parties [] = tt
-  none_made parties (step.Begin p c ∷ xs) = tt
-  none_made parties (step.Step p ∷ xs) = tt
+  none_made parties (Step.Begin p c ∷ xs) = tt
+  none_made parties (Step.Step p ∷ xs) = tt
 
   in_front : (left : List (Step T)) (parties : List ℕ) (m : Moment T) (xs : List (Step T)) (es : List (Entry T)) (ns : List (Moment T))
       → EachStep LeadsBy m xs es ns → GiveNothing parties xs es → GiveNothing parties (xs ++ left) es
   in_front left parties m [] [] [] h g = none_made parties left
-  in_front left parties m (step.Begin p c ∷ xs) (e ∷ es) (n ∷ ns) h g = in_front left (p.0 ∷ parties) n xs es ns h.1 g
-  in_front left parties m (step.Step p ∷ xs) (e ∷ es) (n ∷ ns) h g = (g.0, in_front left parties n xs es ns h.1 g.1)
-  in_front left parties m [] [] (n ∷ ns) h g = absurd h
-  in_front left parties m [] (e ∷ es) ns h g = absurd h
-  in_front left parties m (x ∷ xs) [] ns h g = absurd h
-  in_front left parties m (x ∷ xs) (e ∷ es) [] h g = absurd h
+  in_front left parties m (Step.Begin p c ∷ xs) (e ∷ es) (n ∷ ns) h g = in_front left (p.0 ∷ parties) n xs es ns h.1 g
+  in_front left parties m (Step.Step p ∷ xs) (e ∷ es) (n ∷ ns) h g = (g.0, in_front left parties n xs es ns h.1 g.1)
+  in_front left parties m xs es ns h g = absurd h
 
   nothing_made : (xs : List (Step T)) → NothingComesAfter xs []
   nothing_made [] = tt

@@ -1,30 +1,9 @@
 -- What leaves and what comes in a run, step by step; and with no call under way the state that the configuration at its end is.
-use Rattle.std.proofs.Common.{arith, ◌≡◌, ℕ, zero, suc, ◌+◌, ◌<◌, List, [], ◌∷◌, ◌++◌, map, length, slice_get, Option, None, Some, Err, refl, sym, ap, ◌∙◌, subst, append-nil, append_assoc}
-use Rattle.std.proofs.Math.Nat.{zero-add, suc-add}
-use Rattle.std.proofs.lemmas.List.{map-append}
-use Rattle.futures.specs.declared.task.Poll.TheVariants.{Ready, Pending}
-use Rattle.channel_calls.specs.Moves.{Channel}
-use Rattle.channel_calls.specs.declared.ask.ChannelAsk.{ChannelAsk}
-use Rattle.channel_calls.specs.declared.ask.ChannelAsk.TheVariants as ask
-use Rattle.channel_calls.specs.declared.error.Refused.TheVariants as refused
-use Rattle.channel_calls.specs.declared.error.TrySendError.TheVariants as try_send
-use Rattle.channel_calls.specs.declared.reply.Reply.{Reply}
-use Rattle.channel_calls.specs.declared.reply.Reply.TheVariants as reply
-use Rattle.channel_calls.specs.declared.stage.Returned.{Returned}
-use Rattle.channel_world_model.specs.State.{State}
-use Rattle.channel_world_model.specs.declared.name.Waiter.{Waiter}
-use Rattle.channel_steps.specs.Answers.{Row, Keeps}
-use Rattle.channel_steps.specs.Moments.{MarkedMoment}
-use Rattle.channel_steps.specs.Run.{EachStep, IsRun, Next, NextConfiguration, end_of}
-use Rattle.channel_steps.specs.Configuration.{ActiveCall, Configuration, MayFinish}
-use Rattle.channel_steps.specs.declared.party.Entry.{Entry as ChannelEntry}
-use Rattle.channel_steps.specs.declared.run.Step.{Step as ChannelStep}
-use Rattle.channel_steps.specs.declared.run.Step.TheVariants as step
-use Rattle.channel_world_runs.specs.declared.world_state.WorldState.{WorldState}
-use Rattle.channel_world_runs.proofs.Interface.{none_under_way}
+use Rattle.std.specs.Prelude.{◌≡◌, ◌+◌, ◌<◌, ◌∷◌, ◌++◌}
+use Rattle.channel_world.proofs.Lemmas.{arith, ℕ, zero, suc, List, [], map, length, slice_get, Option, None, Some, Err, refl, sym, ap, ◌∙◌, subst, append-nil, append_assoc, zero-add, suc-add, map-append, Ready, Pending, Channel, ChannelAsk, Reply, Returned, State, Waiter, Row, Keeps, MarkedMoment, EachStep, IsRun, Next, NextConfiguration, end_of, ActiveCall, Configuration, MayFinish, ChannelEntry, ChannelStep, WorldState, none_under_way, view_of, at_rest_is}
 use Rattle.channel_world.specs.InTurn.{KeepsItOut, EndsWithItOut, StandsAsItsState, HasItsAccounts, LeaveInTurn, LaterLeavesLater, OfOnePartyInTurn, RefusedIsKeptOut, let_in, let_out, all_let_in, all_let_out, AllKeptOut, left_on, brought_on, accepted_on}
-use Rattle.channel_world.proofs.Opening.{at_rest_is}
-use Rattle.channel_world.specs.View.{view_of}
+use Rattle.channel_calls.specs.declared.error.Refused.{Refused}
+use Rattle.channel_calls.specs.declared.error.TrySendError.{TrySendError}
 
 -- ---- lists
 
@@ -56,9 +35,9 @@ module _ {T : Type 0} where
   step_accounts : (s : Configuration T Waiter) (x : ChannelStep T Waiter) (e : ChannelEntry T) (names : List Waiter) (t : Configuration T Waiter)
       (n : Next s x e names t)
       → let_out s x e names t n ++ t.now.queue.items ≡ s.now.queue.items ++ messages_of (let_in s x e names t n)
-  step_accounts s (step.Begin p a) e names t n =
+  step_accounts s (ChannelStep.Begin p a) e names t n =
       ap (λ (c : Channel T Waiter). c.queue.items) n.0.now ∙ sym (append-nil s.now.queue.items)
-  step_accounts s (step.Step p) e names t n = n.held ∙ ap (λ (ms : List T). s.now.queue.items ++ ms) (sym (unnamed p _))
+  step_accounts s (ChannelStep.Step p) e names t n = n.held ∙ ap (λ (ms : List T). s.now.queue.items ++ ms) (sym (unnamed p _))
 
   each_accounts : (s : Configuration T Waiter) (xs : List (ChannelStep T Waiter)) (es : List (ChannelEntry T)) (ns : List (Configuration T Waiter))
       (h : EachStep NextConfiguration s xs es ns)
@@ -75,10 +54,7 @@ module _ {T : Type 0} where
       ∙ (ap (λ (ms : List T). ms ++ messages_of ins) (step_accounts s x e h.0.0 n h.0.1)
       ∙ (append_assoc s.now.queue.items (messages_of into) (messages_of ins)
       ∙ ap (λ (ms : List T). s.now.queue.items ++ ms) (sym (map-append (λ (m : ℕ × T). m.1) into ins))))))
-  each_accounts s [] [] (n ∷ ns) h = absurd h
-  each_accounts s [] (e ∷ es) ns h = absurd h
-  each_accounts s (x ∷ xs) [] ns h = absurd h
-  each_accounts s (x ∷ xs) (e ∷ es) [] h = absurd h
+  each_accounts s xs es ns h = absurd h
 
   pub run_accounts : {s t : Configuration T Waiter} {xs : List (ChannelStep T Waiter)} {es : List (ChannelEntry T)} (run : IsRun NextConfiguration s xs es t)
       → left_on run ++ t.now.queue.items ≡ accepted_on run
@@ -89,20 +65,20 @@ module _ {T : Type 0} where
 
   out_of : (a : ChannelAsk T Waiter) (ds : List (MarkedMoment T Waiter)) (seen : List (Channel T Waiter)) (r : Reply T) (k : Returned T)
       → Row a ds seen r → Keeps a r k → KeepsItOut a ds r k
-  out_of (ask.TrySend m) ds seen (reply.TrySend (Err (refused.Plain (try_send.Full v)))) k h keeps = (h.1, h.0)
-  out_of (ask.TrySend m) ds seen (reply.TrySend (Err (refused.Plain (try_send.Closed v)))) k h keeps = (h.1, h.0)
-  out_of (ask.TrySend m) ds seen (reply.TrySend (Err (refused.NoMemory v))) k h keeps = (h.1, h.0)
-  out_of (ask.TrySend m) ds seen (reply.TrySend (Err (refused.SerialsUsedUp v))) k h keeps = absurd h
-  out_of (ask.ForceSend m) ds seen (reply.ForceSend (Err (refused.Plain e))) k h keeps = (h.1, h.0)
-  out_of (ask.ForceSend m) ds seen (reply.ForceSend (Err (refused.NoMemory v))) k h keeps = (h.1, h.0)
-  out_of (ask.ForceSend m) ds seen (reply.ForceSend (Err (refused.SerialsUsedUp v))) k h keeps = absurd h
-  out_of (ask.PollSend m key task) ds seen (reply.SendPoll (Ready (Err (refused.Plain e)))) k h keeps = (h.1, h.0)
-  out_of (ask.PollSend m key task) ds seen (reply.SendPoll (Ready (Err (refused.NoMemory u)))) k h keeps =
+  out_of (ChannelAsk.TrySend m) ds seen (Reply.TrySend (Err (Refused.Plain (TrySendError.Full v)))) k h keeps = (h.1, h.0)
+  out_of (ChannelAsk.TrySend m) ds seen (Reply.TrySend (Err (Refused.Plain (TrySendError.Closed v)))) k h keeps = (h.1, h.0)
+  out_of (ChannelAsk.TrySend m) ds seen (Reply.TrySend (Err (Refused.NoMemory v))) k h keeps = (h.1, h.0)
+  out_of (ChannelAsk.TrySend m) ds seen (Reply.TrySend (Err (Refused.SerialsUsedUp v))) k h keeps = absurd h
+  out_of (ChannelAsk.ForceSend m) ds seen (Reply.ForceSend (Err (Refused.Plain e))) k h keeps = (h.1, h.0)
+  out_of (ChannelAsk.ForceSend m) ds seen (Reply.ForceSend (Err (Refused.NoMemory v))) k h keeps = (h.1, h.0)
+  out_of (ChannelAsk.ForceSend m) ds seen (Reply.ForceSend (Err (Refused.SerialsUsedUp v))) k h keeps = absurd h
+  out_of (ChannelAsk.PollSend m key task) ds seen (Reply.SendPoll (Ready (Err (Refused.Plain e)))) k h keeps = (h.1, h.0)
+  out_of (ChannelAsk.PollSend m key task) ds seen (Reply.SendPoll (Ready (Err (Refused.NoMemory u)))) k h keeps =
       (h.0, ap (λ (x : Returned T). x.message) keeps)
-  out_of (ask.PollSend m key task) ds seen (reply.SendPoll (Ready (Err (refused.SerialsUsedUp u)))) k h keeps =
+  out_of (ChannelAsk.PollSend m key task) ds seen (Reply.SendPoll (Ready (Err (Refused.SerialsUsedUp u)))) k h keeps =
       (h.0, ap (λ (x : Returned T). x.message) keeps)
-  out_of (ask.PollSend m key task) ds seen (reply.SendPoll Pending) k h keeps = (h.0, keeps.1)
-  out_of (ask.RefusePoll line message key) ds seen r k h keeps = (h.0, ap (λ (x : Returned T). x.message) keeps)
+  out_of (ChannelAsk.PollSend m key task) ds seen (Reply.SendPoll Pending) k h keeps = (h.0, keeps.1)
+  out_of (ChannelAsk.RefusePoll line message key) ds seen r k h keeps = (h.0, ap (λ (x : Returned T). x.message) keeps)
   out_of a ds seen r k h keeps = tt
 
   ends_out : (u : ActiveCall T Waiter) (o : Option (Reply T)) (left : Option (Returned T)) → MayFinish u o left
@@ -114,17 +90,14 @@ module _ {T : Type 0} where
 
   step_out : (s : Configuration T Waiter) (x : ChannelStep T Waiter) (e : ChannelEntry T) (names : List Waiter) (t : Configuration T Waiter)
       (n : Next s x e names t) → EndsWithItOut s x e names t n
-  step_out s (step.Begin p a) e names t n = tt
-  step_out s (step.Step p) e names t n = ends_out _ e.reply e.kept n.finishes
+  step_out s (ChannelStep.Begin p a) e names t n = tt
+  step_out s (ChannelStep.Step p) e names t n = ends_out _ e.reply e.kept n.finishes
 
   each_out : (s : Configuration T Waiter) (xs : List (ChannelStep T Waiter)) (es : List (ChannelEntry T)) (ns : List (Configuration T Waiter))
       (h : EachStep NextConfiguration s xs es ns) → AllKeptOut s xs es ns h
   each_out s [] [] [] h = tt
   each_out s (x ∷ xs) (e ∷ es) (n ∷ ns) h = (step_out s x e h.0.0 n h.0.1, each_out n xs es ns h.1)
-  each_out s [] [] (n ∷ ns) h = absurd h
-  each_out s [] (e ∷ es) ns h = absurd h
-  each_out s (x ∷ xs) [] ns h = absurd h
-  each_out s (x ∷ xs) (e ∷ es) [] h = absurd h
+  each_out s xs es ns h = absurd h
 
   -- ---- at rest
 

@@ -1,18 +1,6 @@
 -- How many polls of a settling are to come at most, where so many of each sort are pending.
-use Rattle.std.proofs.Common.{arith, ◌≡◌, ◌≤◌, ◌+◌, ◌*◌, ℕ, suc, List, [], ◌∷◌, length, Bool, true, false, Option, Some, inl, inr, refl, ap, ◌∙◌}
-use Rattle.std.proofs.Math.Nat.{suc-mul, mul-le-mul}
-use Rattle.std.specs.List.{filter}
-use Rattle.std.proofs.lemmas.List.Sums.{count_by-le-length, length-filter}
-use Rattle.channel_calls.specs.declared.stage.WaitList.{WaitList}
-use Rattle.channel_calls.specs.declared.stage.WaitList.TheVariants.{Sends, Receives, Streams, Closings}
-use Rattle.channel_world_model.specs.Awake.{Kind, Placed}
-use Rattle.channel_world_model.specs.Laws.{count_of, is_line}
-use Rattle.channel_world_model.specs.Lines.{Waiting, same_waiter, is_among, untold}
-use Rattle.channel_world_model.specs.declared.name.Waiter.{Waiter}
-use Rattle.channel_world_model.proofs.Awake.{line_refl}
-use Rattle.channel_world_model.proofs.Counting.{among_self, or_right}
-use Rattle.channel_world_model.proofs.Settle.{count_all}
-use Rattle.channel_world_model.proofs.WaiterLemmas.{decided}
+use Rattle.std.specs.Prelude.{◌≡◌, ◌≤◌, ◌+◌, ◌*◌, ◌∷◌}
+use Rattle.channel_world.proofs.Words.{arith, ℕ, suc, List, [], length, Bool, true, false, Option, Some, inl, inr, refl, ap, ◌∙◌, suc-mul, mul-le-mul, filter, count_by-le-length, length-filter, WaitList, Sends, Receives, Streams, Closings, Kind, Placed, count_of, is_line, Waiting, same_waiter, is_among, untold, Waiter, line_refl, among_self, or_right, count_all, decided}
 
 -- whether a name belongs to the line
 abbrev pub on : Kind → WaitList → Waiter → Bool

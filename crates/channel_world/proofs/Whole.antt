@@ -1,27 +1,8 @@
 -- One whole call: what the channel did alone is the answer of the model.
-use Rattle.std.proofs.Common.{arith, ◌≡◌, ◌≤◌, ℕ, List, [], None, Result, Ok, Err, IfOk, refl, sym, ap, subst, ◌∙◌}
-use Rattle.channel_calls.specs.declared.reply.Reply.{Reply}
-use Rattle.channel_steps.specs.solo.Alone.{Outcome, Alone}
-use Rattle.channel_world_runs.proofs.Interface.{none_under_way, no_agents}
-use Rattle.channel_world_runs.specs.Bookkeeping.{asks}
-use Rattle.channel_world_runs.specs.WorldState.{name_state_of, Shown, agents_of, IsQuiet, Stands}
-use Rattle.channel_world_runs.specs.WorldInvariant.{WorldInvariant}
-use Rattle.channel_world_runs.specs.Lone.{name_state_alone, CallsAlone, WakesAtMost}
+use Rattle.std.specs.Prelude.{◌≡◌, ◌≤◌}
+use Rattle.channel_world.proofs.Lemmas.{arith, ℕ, List, [], None, Result, Ok, Err, IfOk, refl, sym, ap, subst, ◌∙◌, Reply, Outcome, Alone, none_under_way, no_agents, asks, name_state_of, Shown, agents_of, IsQuiet, Stands, WorldInvariant, name_state_alone, CallsAlone, WakesAtMost, NameState, WorldState, refusal, Answers, State, Call, Waiter, RefusalsAgree, LoneCallsAnswer, state_at, Configuration, at_rest, most_woken, few_woken, at_rest_is}
 use Rattle.channel_world_runs.specs.Refusal as names
-use Rattle.channel_world_runs.specs.Run.{NameState}
-use Rattle.channel_world_runs.specs.declared.world_state.WorldState.{WorldState}
-use Rattle.channel_world_model.specs.Refusal.{refusal}
-use Rattle.channel_world_model.specs.Refused.{Answers}
-use Rattle.channel_world_model.specs.State.{State}
-use Rattle.channel_world_model.specs.declared.call.Call.{Call}
-use Rattle.channel_world_model.specs.declared.name.Waiter.{Waiter}
 use Rattle.channel_world_model.specs.declared.run.Done.{Done}
-use Rattle.channel_world_runs.specs.rest.Lone.{RefusalsAgree, LoneCallsAnswer}
-use Rattle.channel_world_runs.specs.rest.Rest.{state_at}
-use Rattle.channel_steps.specs.Configuration.{Configuration}
-use Rattle.channel_world.specs.World.{at_rest, most_woken}
-use Rattle.channel_world.proofs.Few.{few_woken}
-use Rattle.channel_world.proofs.Opening.{at_rest_is}
 
 module _ {T : Type 0} where
   module _ (agree : RefusalsAgree T) (f : WorldState T) (kept : Stands f) (quiet : IsQuiet f) (c : Call T) where

@@ -1,13 +1,11 @@
 -- What an account shows: the world at its beginning, the world at the last that was noted, and the replies that were given between
 -- them, in order.
-use Rattle.std.specs.Prelude.{List, [], ◌++◌, refl}
-use Rattle.std.specs.Coded.{Coded, code_by, coded_list, coded×}
-use Rattle.channel_calls.specs.declared.reply.Reply.{Reply}
+use Rattle.std.specs.Prelude.{◌++◌}
+use Rattle.channel_world.specs.Words.{List, [], refl, Coded, code_by, coded_list, coded×, Reply}
 use Rattle.channel_world_runs.specs.Reaches.{replies_in}
 use Rattle.channel_world.specs.Carried.{replied_in, polls_replied}
 use Rattle.channel_world.specs.View.{WorldView}
 use Rattle.channel_world.specs.declared.account.Deed.{Deed}
-use Rattle.channel_world.specs.declared.account.Deed.TheVariants as deed
 use Rattle.channel_world.specs.declared.account.Past.{Past, Past-F, fold-Past}
 use Rattle.channel_world.specs.declared.account.Past.TheOpen as past
 
@@ -28,9 +26,9 @@ module _ {T : Type 0} where
 
   -- what was replied in one thing that was done
   abbrev pub replied_by : Deed T → List (Reply T)
-  replied_by (deed.Steps run) = replies_in run.value.trace.items
-  replied_by (deed.Calls run) = replied_in run.value.done.items
-  replied_by (deed.Polls polls) = polls_replied polls.value.items
+  replied_by (Deed.Steps run) = replies_in run.value.trace.items
+  replied_by (Deed.Calls run) = replied_in run.value.done.items
+  replied_by (Deed.Polls polls) = polls_replied polls.value.items
 
   -- and in all of them
   abbrev and_then : Past-F T (List (Reply T)) → List (Reply T)

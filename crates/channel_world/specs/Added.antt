@@ -1,9 +1,8 @@
 -- What a script, or the rest of one, adds to the output.
-use Rattle.std.specs.Prelude.{◌≡◌, ℕ, List, ◌++◌, take}
+use Rattle.std.specs.Prelude.{◌≡◌, ◌++◌}
+use Rattle.channel_world.specs.Words.{ℕ, List, take, ScriptEnd, Memory, Fault}
 use Rattle.channel_world.specs.Script.{Script}
 use Rattle.channel_world.specs.Output.{text_of_lines, text_of_script}
-use Rattle.channel_world.specs.declared.script.end.ScriptEnd.{ScriptEnd}
-use Rattle.channel_world.specs.declared.script.end.ScriptEnd.TheVariants.{Memory, Fault}
 
 -- its text; if memory was refused, some of its reply lines
 abbrev pub Adds : Script → ScriptEnd → List ℕ → Type 0

@@ -1,13 +1,7 @@
 -- Which names sleep in a world, pending and not woken since the last poll, and what is responsible for them: calls under way or not.
-use Rattle.std.specs.Prelude.{◌≡◌, ℕ, ◌+◌, ◌<◌, ◌≤◌, true, false, [], length, Option, None, Some}
-use Rattle.channel_calls.specs.declared.stage.WaitList.{WaitList}
-use Rattle.channel_calls.specs.declared.stage.WaitList.TheVariants.{Sends, Receives, Streams}
+use Rattle.std.specs.Prelude.{◌≡◌, ◌+◌, ◌<◌, ◌≤◌}
+use Rattle.channel_world.specs.Words.{ℕ, true, false, [], length, Option, None, Some, WaitList, Sends, Receives, Streams, NobodyIsLeft, untold, Waiter, IsUnwoken, woken_on, stands_pending, how_many}
 use Rattle.channel_steps.specs.every_run.Sends.{HasPlaces}
-use Rattle.channel_world_model.specs.Laws.{NobodyIsLeft}
-use Rattle.channel_world_model.specs.Lines.{untold}
-use Rattle.channel_world_model.specs.declared.name.Waiter.{Waiter}
-use Rattle.channel_world_runs.specs.Owed.{IsUnwoken, woken_on}
-use Rattle.channel_world_runs.specs.Pending.{stands_pending, how_many}
 use Rattle.channel_world.specs.Kinds.{pending_on_line}
 use Rattle.channel_world.specs.View.{names_in, woken_in, messages_in, capacity_in, is_closed, calls_in, taken_in, at_rest, observation_of, IsQuiet, WorldView}
 

@@ -1,28 +1,23 @@
 -- The polls that a call makes which blocks, as those of an operation by name. Their task is the name.
-use Rattle.std.specs.Prelude.{◌≡◌, Some}
+use Rattle.std.specs.Prelude.{◌≡◌}
+use Rattle.channel_world.specs.Words.{Some, Op, IsOrListens, asks, NameTable}
 use Rattle.event_listener.specs.declared.key.Key.{Key}
 use Rattle.channel_calls.specs.Blocks.{poll_woken}
 use Rattle.channel_calls.specs.declared.blocked.Blocked.{Blocked}
-use Rattle.channel_calls.specs.declared.blocked.Blocked.TheVariants as blocked
 use Rattle.channel_steps.specs.every_run.BridgeBlocks.{first_poll, poll_refused}
 use Rattle.channel_world_model.specs.Names.{at}
 use Rattle.channel_world_model.specs.declared.call.Call.TheVariants.{Poll, PollRefused}
 use Rattle.channel_world_model.specs.declared.name.HandleId.{HandleId}
 use Rattle.channel_world_model.specs.declared.name.OpId.{OpId}
 use Rattle.channel_world_model.specs.declared.name.Operation.{Operation}
-use Rattle.channel_world_model.specs.declared.name.Operation.TheVariants as live
-use Rattle.channel_world_model.specs.declared.name.Waiter.TheVariants.{Op}
-use Rattle.channel_world_runs.specs.AskedBy.{IsOrListens}
-use Rattle.channel_world_runs.specs.Bookkeeping.{asks}
 use Rattle.channel_world_runs.specs.declared.names.PollState.{PollState}
 use Rattle.channel_world_runs.specs.declared.names.PollState.TheVariants.{Rests, Waits}
-use Rattle.channel_world_runs.specs.declared.name_table.NameTable.{NameTable}
 
 module _ {T : Type 0} where
   -- the operation of a call that blocks
   abbrev pub operation_for : Blocked T → HandleId → Operation T
-  operation_for (blocked.Send m) handle = live.Send handle (Some m)
-  operation_for blocked.Receive handle = live.Receive handle
+  operation_for (Blocked.Send m) handle = Operation.Send handle (Some m)
+  operation_for Blocked.Receive handle = Operation.Receive handle
 
   -- it lives under this name, and stands so
   pub record StandsFor (b : Blocked T) (poll_state : PollState) (op : OpId) (r : NameTable T) : Type 0 where

@@ -1,11 +1,8 @@
 -- What is carried through all that is done to a world, one thing after another; and how many messages a world holds at most.
-use Rattle.std.specs.Prelude.{◌≤◌, List, [], ◌++◌, map, Option, None, Some, IfSome}
-use Rattle.channel_calls.specs.declared.reply.Reply.{Reply}
-use Rattle.channel_world_model.specs.declared.name.Waiter.{Waiter}
+use Rattle.std.specs.Prelude.{◌≤◌, ◌++◌}
+use Rattle.channel_world.specs.Words.{List, [], map, Option, None, Some, IfSome, Reply, Waiter, Configuration, Settled}
 use Rattle.channel_world_model.specs.declared.run.CallRun.{CallRun}
 use Rattle.channel_world_model.specs.declared.run.Done.{Done}
-use Rattle.channel_steps.specs.Configuration.{Configuration}
-use Rattle.channel_world.specs.declared.settle.Settled.{Settled}
 use Rattle.channel_world.specs.View.{messages_in, capacity_in, Stands, Led, LeadsOn, WorldView}
 
 -- what the calls of a list replied, in order

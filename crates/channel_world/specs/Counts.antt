@@ -1,18 +1,9 @@
 -- What the counts of a world count, calls under way or not.
-use Rattle.std.specs.Prelude.{◌≡◌, ◌⊎◌, ℕ, ◌+◌, ◌≤◌, true, false, []}
-use Rattle.channel_calls.specs.declared.ask.ChannelAsk.{ChannelAsk}
-use Rattle.channel_calls.specs.declared.ask.ChannelAsk.TheVariants.{DropSender, DropReceiver}
-use Rattle.channel_calls.specs.declared.stage.Side.{Side}
-use Rattle.channel_calls.specs.declared.stage.Side.TheVariants.{Senders, Receivers}
+use Rattle.std.specs.Prelude.{◌≡◌, ◌⊎◌, ◌+◌, ◌≤◌}
+use Rattle.channel_world.specs.Words.{ℕ, true, false, [], ChannelAsk, DropSender, DropReceiver, Side, Senders, Receivers, Waiter, LeftLast, ActiveCall, Configuration, is_lowering, is_closing, All, names_of}
 use Rattle.channel_world_model.specs.Handles.{live_of, HandlesAreCounted}
 use Rattle.channel_world_model.specs.declared.name.HandleKind.{HandleKind}
 use Rattle.channel_world_model.specs.declared.name.HandleKind.TheVariants.{Sender, Receiver}
-use Rattle.channel_world_model.specs.declared.name.Waiter.{Waiter}
-use Rattle.channel_steps.specs.Moments.{LeftLast}
-use Rattle.channel_steps.specs.Configuration.{ActiveCall, Configuration}
-use Rattle.channel_world_runs.specs.Counted.{is_lowering, is_closing}
-use Rattle.channel_world_runs.specs.Owners.{All}
-use Rattle.channel_world_runs.specs.NameTable.{names_of}
 use Rattle.channel_world.specs.View.{names_in, is_closed, count_in, to_lower, to_close, at_rest, IsQuiet, StandsIn, WorldView}
 
 -- the strong handles of a side

@@ -1,14 +1,6 @@
 -- The headline: what every run of steps promises, of every list of steps, from any world, wherever the list ends.
-use Rattle.std.specs.Prelude.{◌≡◌, List, [], ◌++◌, length, Option}
-use Rattle.channel_world_runs.specs.Run.{StopsAt}
-use Rattle.channel_world_runs.specs.declared.step.Entry.{Entry}
-use Rattle.channel_world_runs.specs.declared.step.Step.{Step}
-use Rattle.channel_world_model.specs.declared.name.Waiter.{Waiter}
-use Rattle.channel_world_model.specs.declared.run.Stopped.{Stopped}
-use Rattle.channel_steps.specs.Moments.{Spent}
-use Rattle.channel_steps.specs.Run.{IsRun}
-use Rattle.channel_steps.specs.Configuration.{Configuration}
-use Rattle.channel_steps.specs.every_run.Marked.{AddUp}
+use Rattle.std.specs.Prelude.{◌≡◌, ◌++◌}
+use Rattle.channel_world.specs.Words.{List, [], length, Option, StopsAt, Entry, Step, Waiter, Stopped, Spent, IsRun, Configuration, AddUp}
 use Rattle.channel_world.specs.Marked.{all_taken, all_brought}
 use Rattle.channel_world.specs.Sentences.{MomentSays, StepSays}
 use Rattle.channel_world.specs.StepsLeft.{EndInARow}

@@ -1,23 +1,11 @@
 -- What leaves and what comes in any run from one configuration to another, by lists of steps, lists of calls and settlings in turn: message
 -- by message, each with the party whose call brought it; in which order they leave, and what becomes of a refused one.
-use Rattle.std.specs.Prelude.{◌≡◌, ℕ, ◌+◌, ◌<◌, List, [], ◌∷◌, ◌++◌, map, length, slice_get, Some, Err}
+use Rattle.std.specs.Prelude.{◌≡◌, ◌+◌, ◌<◌, ◌∷◌, ◌++◌}
+use Rattle.channel_world.specs.Words.{ℕ, List, [], map, length, slice_get, Some, Err, ChannelAsk, Reply, Returned, State, Waiter, MarkedMoment, with_marked, EachStep, IsRun, Next, NextConfiguration, Configuration, came_by, gone_by, ChannelEntry, ChannelStep}
 use Rattle.futures.specs.declared.task.Poll.TheVariants.{Ready, Pending}
 use Rattle.channel_calls.specs.Errors.{unsent, handed_back, try_handed_back}
-use Rattle.channel_calls.specs.declared.ask.ChannelAsk.{ChannelAsk}
-use Rattle.channel_calls.specs.declared.ask.ChannelAsk.TheVariants as ask
-use Rattle.channel_calls.specs.declared.error.Refused.TheVariants as refused
-use Rattle.channel_calls.specs.declared.reply.Reply.{Reply}
-use Rattle.channel_calls.specs.declared.reply.Reply.TheVariants as reply
-use Rattle.channel_calls.specs.declared.stage.Returned.{Returned}
-use Rattle.channel_world_model.specs.State.{State}
-use Rattle.channel_world_model.specs.declared.name.Waiter.{Waiter}
-use Rattle.channel_steps.specs.Moments.{MarkedMoment, with_marked}
-use Rattle.channel_steps.specs.Run.{EachStep, IsRun, Next, NextConfiguration}
-use Rattle.channel_steps.specs.Configuration.{Configuration, came_by, gone_by}
-use Rattle.channel_steps.specs.declared.party.Entry.{Entry as ChannelEntry}
-use Rattle.channel_steps.specs.declared.run.Step.{Step as ChannelStep}
-use Rattle.channel_steps.specs.declared.run.Step.TheVariants as step
 use Rattle.channel_world.specs.View.{at_rest, IsQuiet, StandsIn, Led, WorldView}
+use Rattle.channel_calls.specs.declared.error.Refused.{Refused}
 
 module _ {T : Type 0} where
   -- ---- one step
@@ -25,32 +13,32 @@ module _ {T : Type 0} where
   -- what it lets in, with the party whose call brought it
   abbrev pub let_in : (s : Configuration T Waiter) (x : ChannelStep T Waiter) (e : ChannelEntry T) (names : List Waiter) (t : Configuration T Waiter)
       → Next s x e names t → List (ℕ × T)
-  let_in s (step.Begin p a) e names t n = []
-  let_in s (step.Step p) e names t n = map (λ m. (p, m)) (came_by e.mark n.mine.ask)
+  let_in s (ChannelStep.Begin p a) e names t n = []
+  let_in s (ChannelStep.Step p) e names t n = map (λ m. (p, m)) (came_by e.mark n.mine.ask)
 
   -- what it takes out
   abbrev pub let_out : (s : Configuration T Waiter) (x : ChannelStep T Waiter) (e : ChannelEntry T) (names : List Waiter) (t : Configuration T Waiter)
       → Next s x e names t → List T
-  let_out s (step.Begin p a) e names t n = []
-  let_out s (step.Step p) e names t n = gone_by e.mark s.now.queue.items
+  let_out s (ChannelStep.Begin p a) e names t n = []
+  let_out s (ChannelStep.Step p) e names t n = gone_by e.mark s.now.queue.items
 
   -- A call that asks this and refuses its message with this reply, or goes on waiting with it, has made no mark, so it let nothing
   -- in; and the message is returned, or left to its operation.
   abbrev pub KeepsItOut : ChannelAsk T Waiter → List (MarkedMoment T Waiter) → Reply T → Returned T → Type 0
-  KeepsItOut (ask.TrySend m) ds (reply.TrySend (Err e)) k = (ds ≡ []) × (try_handed_back e ≡ m)
-  KeepsItOut (ask.ForceSend m) ds (reply.ForceSend (Err e)) k = (ds ≡ []) × (handed_back e ≡ m)
-  KeepsItOut (ask.PollSend m key task) ds (reply.SendPoll (Ready (Err (refused.Plain e)))) k = (ds ≡ []) × (unsent e ≡ m)
-  KeepsItOut (ask.PollSend m key task) ds (reply.SendPoll (Ready (Err (refused.NoMemory u)))) k = (ds ≡ []) × (k.message ≡ Some m)
-  KeepsItOut (ask.PollSend m key task) ds (reply.SendPoll (Ready (Err (refused.SerialsUsedUp u)))) k = (ds ≡ []) × (k.message ≡ Some m)
-  KeepsItOut (ask.PollSend m key task) ds (reply.SendPoll Pending) k = (ds ≡ []) × (k.message ≡ Some m)
-  KeepsItOut (ask.RefusePoll line message key) ds r k = (ds ≡ []) × (k.message ≡ message)
+  KeepsItOut (ChannelAsk.TrySend m) ds (Reply.TrySend (Err e)) k = (ds ≡ []) × (try_handed_back e ≡ m)
+  KeepsItOut (ChannelAsk.ForceSend m) ds (Reply.ForceSend (Err e)) k = (ds ≡ []) × (handed_back e ≡ m)
+  KeepsItOut (ChannelAsk.PollSend m key task) ds (Reply.SendPoll (Ready (Err (Refused.Plain e)))) k = (ds ≡ []) × (unsent e ≡ m)
+  KeepsItOut (ChannelAsk.PollSend m key task) ds (Reply.SendPoll (Ready (Err (Refused.NoMemory u)))) k = (ds ≡ []) × (k.message ≡ Some m)
+  KeepsItOut (ChannelAsk.PollSend m key task) ds (Reply.SendPoll (Ready (Err (Refused.SerialsUsedUp u)))) k = (ds ≡ []) × (k.message ≡ Some m)
+  KeepsItOut (ChannelAsk.PollSend m key task) ds (Reply.SendPoll Pending) k = (ds ≡ []) × (k.message ≡ Some m)
+  KeepsItOut (ChannelAsk.RefusePoll line message key) ds r k = (ds ≡ []) × (k.message ≡ message)
   KeepsItOut a ds r k = Unit {0}
 
   -- so it is of a step that ends its call
   abbrev pub EndsWithItOut : (s : Configuration T Waiter) (x : ChannelStep T Waiter) (e : ChannelEntry T) (names : List Waiter) (t : Configuration T Waiter)
       → Next s x e names t → Type 0
-  EndsWithItOut s (step.Begin p a) e names t n = Unit {0}
-  EndsWithItOut s (step.Step p) e names t n =
+  EndsWithItOut s (ChannelStep.Begin p a) e names t n = Unit {0}
+  EndsWithItOut s (ChannelStep.Step p) e names t n =
       (r : Reply T) → e.reply ≡ Some r
       → (k : Returned T) × (e.kept ≡ Some k) × KeepsItOut n.mine.ask (with_marked n.mine.marks e.mark s.now n.mine.seen) r k
 

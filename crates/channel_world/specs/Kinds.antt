@@ -1,16 +1,10 @@
 -- How many are pending on which line, and how many messages calls under way have taken: numbers that a world tells.
-use Rattle.std.specs.Prelude.{ℕ, ◌+◌, Bool, false, List, [], ◌∷◌, ◌++◌, map, Option, Some}
-use Rattle.std.specs.List.{count_by}
+use Rattle.std.specs.Prelude.{◌+◌, ◌∷◌, ◌++◌}
+use Rattle.channel_world.specs.Words.{ℕ, Bool, false, List, [], map, Option, Some, count_by, WaitList, same_line, Waiter, Op, Stream, NameStatus, waits, status_by, operation_status, stream_status, status, NameTable}
 use Rattle.std.specs.Map.{keys_of}
-use Rattle.channel_calls.specs.declared.stage.WaitList.{WaitList}
-use Rattle.channel_world_model.specs.Laws.{same_line}
-use Rattle.channel_world_model.specs.declared.name.Waiter.{Waiter}
-use Rattle.channel_world_model.specs.declared.name.Waiter.TheVariants.{Op, Stream}
-use Rattle.channel_world_runs.specs.Owners.{NameStatus, waits, status_by, operation_status, stream_status, status}
 use Rattle.channel_world_runs.specs.declared.calls.CallUnderWay.{CallUnderWay}
 use Rattle.channel_world_runs.specs.declared.names.HandleEntry.{HandleEntry}
 use Rattle.channel_world_runs.specs.declared.names.OperationEntry.{OperationEntry}
-use Rattle.channel_world_runs.specs.declared.name_table.NameTable.{NameTable}
 
 -- whether one that stands so is pending on this line
 abbrev pub is_pending_on : WaitList → NameStatus → Bool

@@ -1,7 +1,7 @@
 -- More worked scripts, computed.
-use Rattle.std.specs.Prelude.{◌≡◌, [], ◌∷◌, codes, refl}
+use Rattle.std.specs.Prelude.{◌≡◌, ◌∷◌}
+use Rattle.channel_world.specs.Words.{[], codes, refl, today}
 use Rattle.std.specs.Fmt.{digits}
-use Rattle.channel_world_language.specs.Language.{today}
 use Rattle.channel_world.specs.ScriptRows.{ran}
 
 pub settling_polls_a_borrowed_stream : ran today (codes "unbounded" ∷ codes "next r" ∷ codes "recv a r" ∷ codes "try_send s 1" ∷ codes "next r" ∷ codes "settle" ∷ codes "next r" ∷ [])

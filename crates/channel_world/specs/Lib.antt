@@ -1,3 +1,4 @@
+pub mod Words
 pub mod World
 pub mod Kinds
 pub mod View

@@ -1,12 +1,6 @@
 -- What a run brought into a channel and took out of it.
-use Rattle.std.specs.Prelude.{ℕ, ◌==◌, if◌then◌else◌, List, [], ◌∷◌, ◌++◌}
-use Rattle.channel_steps.specs.every_run.Marked.{brought_by}
-use Rattle.channel_world_model.specs.declared.name.Waiter.{Waiter}
-use Rattle.channel_steps.specs.Configuration.{ActiveCall, Configuration, brought, gone_by}
-use Rattle.channel_world_runs.specs.Runs.{Moment}
-use Rattle.channel_world_runs.specs.declared.step.Entry.{Entry}
-use Rattle.channel_world_runs.specs.declared.step.Step.{Step}
-use Rattle.channel_world_runs.specs.declared.step.Step.TheVariants as step
+use Rattle.std.specs.Prelude.{◌==◌, if◌then◌else◌, ◌∷◌, ◌++◌}
+use Rattle.channel_world.specs.Words.{ℕ, List, [], brought_by, Waiter, ActiveCall, Configuration, brought, gone_by, Moment, Entry, Step}
 
 module _ {T : Type 0} where
   -- the message that the call of this party brings, if it is one that brings one
@@ -15,8 +9,8 @@ module _ {T : Type 0} where
   message_brought party (u ∷ us) = if u.party == party then brought u.ask else message_brought party us
 
   abbrev pub brought_at : Configuration T Waiter → Step T → Entry T → List T
-  brought_at s (step.Begin p c) e = []
-  brought_at s (step.Step p) e = brought_by e.mark (message_brought p.0 s.under_way)
+  brought_at s (Step.Begin p c) e = []
+  brought_at s (Step.Step p) e = brought_by e.mark (message_brought p.0 s.under_way)
 
   -- all that came in by the steps made, in order
   abbrev pub all_brought : Configuration T Waiter → List (Step T) → List (Entry T) → List (Moment T) → List T

@@ -1,29 +1,9 @@
 -- A merge whose calls are calls by names. What the headline says of names holds of it too: no step is refused, the name state and
 -- the order of waking are as the bookkeeping has them, and nobody is left asleep under its name.
-use Rattle.std.specs.Prelude.{◌≡◌, ℕ, List, [], ◌∷◌, map, None}
-use Rattle.concurrent_queue.specs.Capacity.{capacity_of}
-use Rattle.concurrent_queue.specs.declared.cells.QueueForm.{QueueForm}
+use Rattle.std.specs.Prelude.{◌≡◌, ◌∷◌}
+use Rattle.channel_world.specs.Words.{ℕ, List, [], map, None, capacity_of, QueueForm, Parts, Call, Waiter, IsRun, Next, new_configuration, ChannelEntry as Entry, ChannelStep, Completed, MergeMoment, just_opened, Happening, steps_of, KeepsTheHeadline, IsOrListens, IsStepOf, asks, Owed, begin_refusal, step_refusal, first_name_table, NameState, IsNameStateOf, name_state_begun, observation_at, Step}
 use Rattle.event_listener.specs.Notices.{Woken}
-use Rattle.channel_calls.specs.Parts.{Parts}
-use Rattle.channel_world_model.specs.declared.call.Call.{Call}
-use Rattle.channel_world_model.specs.declared.name.Waiter.{Waiter}
-use Rattle.channel_steps.specs.Run.{IsRun, Next, new_configuration}
-use Rattle.channel_steps.specs.declared.party.Entry.{Entry}
-use Rattle.channel_steps.specs.declared.run.Step.{Step as ChannelStep}
-use Rattle.channel_steps.specs.declared.run.Step.TheVariants as channel
-use Rattle.channel_calls.specs.declared.whole.Completed.{Completed}
-use Rattle.channel_steps.specs.every_run.Bridge.{MergeMoment, just_opened, Happening, steps_of}
-use Rattle.channel_steps.specs.every_run.BridgeHeadline.{KeepsTheHeadline}
-use Rattle.channel_world_runs.specs.AskedBy.{IsOrListens, IsStepOf}
-use Rattle.channel_world_runs.specs.Bookkeeping.{asks}
-use Rattle.channel_world_runs.specs.Owed.{Owed}
 use Rattle.channel_world_runs.specs.Order.{no_places}
-use Rattle.channel_world_runs.specs.Refusal.{begin_refusal, step_refusal}
-use Rattle.channel_world_runs.specs.NameTable.{first_name_table}
-use Rattle.channel_world_runs.specs.Run.{NameState, IsNameStateOf, name_state_begun}
-use Rattle.channel_world_runs.specs.ObservationAt.{observation_at}
-use Rattle.channel_world_runs.specs.declared.step.Step.{Step}
-use Rattle.channel_world_runs.specs.declared.step.Step.TheVariants as step
 
 -- a step by names, beside the step of the channel that it is
 pub record NamedStep (T : Type 0) : Type 0 where
@@ -47,11 +27,11 @@ module _ {T S : Type 0} (wakes : S → Waiter → S → Type 0) where
   -- this call asks, but that a poll may ask its listener first. Its name state is what the steps before it, with their entries, have made
   -- of this one: whatever name state that is, and whomever they woke.
   abbrev pub BeginByNames : NameState T → MergeMoment T Waiter S → List (ChannelStep T Waiter) → List (Entry T) → List (MergeMoment T Waiter S) → Type 0
-  BeginByNames b m (channel.Begin p a ∷ ys) (e ∷ es) (n ∷ ns) =
+  BeginByNames b m (ChannelStep.Begin p a ∷ ys) (e ∷ es) (n ∷ ns) =
       (c : Call T) × (begin_refusal b.name_table c ≡ None) × IsOrListens (asks b.name_table c) a × BeginByNames (name_state_begun (record { 0 = p }) c b) n ys es ns
-  BeginByNames b m (channel.Step p ∷ ys) (e ∷ es) (n ∷ ns) =
-      (names : List Waiter) (after : NameState T) → Next m.configuration (channel.Step p) e names n.configuration → Woken wakes m.sink names n.sink
-      → IsNameStateOf (step.Step (record { 0 = p })) e.reply e.kept names b after → BeginByNames after n ys es ns
+  BeginByNames b m (ChannelStep.Step p ∷ ys) (e ∷ es) (n ∷ ns) =
+      (names : List Waiter) (after : NameState T) → Next m.configuration (ChannelStep.Step p) e names n.configuration → Woken wakes m.sink names n.sink
+      → IsNameStateOf (Step.Step (record { 0 = p })) e.reply e.kept names b after → BeginByNames after n ys es ns
   BeginByNames b m ys es ns = Unit {0}
 
   -- ---- what is said

@@ -1,12 +1,5 @@
 -- A merge by names: the first sender, which is handle 0, is cloned twice at once, as handle 2 and as handle 3.
-use Rattle.std.specs.Prelude.{ℕ, List}
-use Rattle.concurrent_queue.specs.declared.cells.QueueForm.{QueueForm}
-use Rattle.channel_calls.specs.Parts.{Parts}
-use Rattle.channel_calls.specs.declared.whole.Completed.{Completed}
-use Rattle.channel_steps.specs.every_run.Bridge.{just_opened, steps_of}
-use Rattle.channel_steps.specs.every_run.BridgeHeadline.{KeepsTheHeadline}
-use Rattle.channel_steps.specs.every_run.BridgeRow.{two_clones}
-use Rattle.channel_world_model.specs.declared.name.Waiter.{Waiter}
+use Rattle.channel_world.specs.Words.{ℕ, List, QueueForm, Parts, Completed, just_opened, steps_of, KeepsTheHeadline, two_clones, Waiter}
 use Rattle.channel_world.specs.MergesByNames.{first_name_state, BeginByNames}
 
 -- its begins are what `MergesByNamesAreRuns` asks

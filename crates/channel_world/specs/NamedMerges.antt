@@ -1,17 +1,9 @@
 -- A merge whose tasks are of any kind, as the wakers of threads. Each of its calls is given a name beside its task. If with these names
 -- its begins are those of calls by names, then it is a run by names.
-use Rattle.std.specs.Prelude.{ℕ, List, [], ◌∷◌, map}
-use Rattle.concurrent_queue.specs.declared.cells.QueueForm.{QueueForm}
-use Rattle.channel_calls.specs.Parts.{Parts}
-use Rattle.channel_calls.specs.declared.ask.ChannelAsk.{ChannelAsk}
-use Rattle.channel_calls.specs.declared.ask.ChannelAsk.TheVariants.{CloneHandle}
-use Rattle.channel_calls.specs.declared.stage.Side.TheVariants.{Senders}
-use Rattle.channel_calls.specs.declared.whole.Completed.{Completed}
-use Rattle.channel_steps.specs.every_run.Bridge.{just_opened, Happening}
-use Rattle.channel_steps.specs.every_run.BridgeRow.{two_clones}
+use Rattle.std.specs.Prelude.{◌∷◌}
+use Rattle.channel_world.specs.Words.{ℕ, List, [], map, QueueForm, Parts, ChannelAsk, CloneHandle, Senders, Completed, just_opened, Happening, two_clones, Waiter}
 use Rattle.channel_steps.specs.every_run.Named.{KeepsItByNames, WakesNamed, name_of, steps_asking}
 use Rattle.channel_steps.specs.every_run.Tasks.{ask_by}
-use Rattle.channel_world_model.specs.declared.name.Waiter.{Waiter}
 use Rattle.channel_world.specs.MergesByNames.{first_name_state, BeginByNames, IsByNames}
 
 -- what the begins of a merge have to be, where the calls ask this, with their names

@@ -1,7 +1,6 @@
 -- The numbers that a world tells, with no call under way: those of its state.
-use Rattle.std.specs.Prelude.{◌≡◌, length}
-use Rattle.channel_world_model.specs.Settling.{pending_count}
-use Rattle.channel_world_runs.specs.Pending.{stands_pending, how_many}
+use Rattle.std.specs.Prelude.{◌≡◌}
+use Rattle.channel_world.specs.Words.{length, pending_count, stands_pending, how_many}
 use Rattle.channel_world.specs.View.{names_in, woken_in, messages_in, calls_in, at_rest, IsQuiet, WorldView}
 
 module _ {T : Type 0} where

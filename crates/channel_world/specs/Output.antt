@@ -1,10 +1,9 @@
 -- What a script may write.
-use Rattle.std.specs.Prelude.{◌≡◌, ◌⊎◌, ℕ, List, [], ◌∷◌, ◌++◌, take, codes, Option}
+use Rattle.std.specs.Prelude.{◌≡◌, ◌⊎◌, ◌∷◌, ◌++◌}
+use Rattle.channel_world.specs.Words.{ℕ, List, [], take, codes, Option, ScriptEnd, Done, Unreadable, Capacity, Memory, Fault}
 use Rattle.std.specs.Fmt.{decimal}
 use Rattle.std.specs.Io.KnownBytes.{Appends}
 use Rattle.channel_world.specs.Script.{Script, script}
-use Rattle.channel_world.specs.declared.script.end.ScriptEnd.{ScriptEnd}
-use Rattle.channel_world.specs.declared.script.end.ScriptEnd.TheVariants.{Done, Unreadable, Capacity, Memory, Fault}
 
 -- every line ends with a line feed
 abbrev pub text_of_lines : List (List ℕ) → List ℕ

@@ -1,13 +1,6 @@
 -- What steps of one party promise: they are a run of so many of its steps, which ends with the one that answers.
-use Rattle.std.specs.Prelude.{◌≡◌, ℕ, ◌+◌, Bool, List, [], ◌∷◌, ◌++◌, length, Option, None, Some, is_some, IfSome}
-use Rattle.channel_world_runs.specs.Refusal.{step_refusal}
-use Rattle.channel_world_runs.specs.Run.{MayRefuseStep}
-use Rattle.channel_world_runs.specs.declared.step.Entry.{Entry}
-use Rattle.channel_world_runs.specs.declared.step.PartyId.{PartyId}
-use Rattle.channel_world_runs.specs.declared.step.Step.{Step}
-use Rattle.channel_world_runs.specs.declared.step.Step.TheVariants as step
-use Rattle.channel_world_model.specs.declared.refusal.WorldRefusal.{WorldRefusal}
-use Rattle.channel_world_model.specs.declared.run.Stopped.{Stopped}
+use Rattle.std.specs.Prelude.{◌≡◌, ◌+◌, ◌∷◌, ◌++◌}
+use Rattle.channel_world.specs.Words.{ℕ, Bool, List, [], length, Option, None, Some, is_some, IfSome, step_refusal, MayRefuseStep, Entry, PartyId, Step, WorldRefusal, Stopped}
 use Rattle.channel_world.specs.View.{name_state_of, RanTo, WorldView}
 
 module _ {T : Type 0} where
@@ -19,7 +12,7 @@ module _ {T : Type 0} where
   -- the one that was refused stays in front, and it is the last that was asked for
   abbrev pub refused_of : PartyId → Option Stopped → List (Step T)
   refused_of p None = []
-  refused_of p (Some stopped) = step.Step p ∷ []
+  refused_of p (Some stopped) = Step.Step p ∷ []
 
   -- none of them answers
   abbrev pub AreSilent : List (Entry T) → Type 0
@@ -39,12 +32,12 @@ module _ {T : Type 0} where
     pub entry : Entry T
     pub written : after ≡ before ++ entry ∷ []
     pub told : answered ≡ is_some entry.reply
-    pub ran : RanTo (step.Step p ∷ []) [] old (entry ∷ []) new
-    pub goes_on : entry.reply ≡ None → step_refusal (name_state_of new).name_table (name_state_of new).agents (step.Step p) ≡ None
+    pub ran : RanTo (Step.Step p ∷ []) [] old (entry ∷ []) new
+    pub goes_on : entry.reply ≡ None → step_refusal (name_state_of new).name_table (name_state_of new).agents (Step.Step p) ≡ None
 
   -- it is refused, for the first reason that there is, and nothing is written
   pub record IsRefused (p : PartyId) (old : WorldView T) (before : List (Entry T)) (why : WorldRefusal) (after : List (Entry T))
       (new : WorldView T) : Type 0 where
     pub unwritten : after ≡ before
-    pub ran : RanTo (step.Step p ∷ []) (step.Step p ∷ []) old [] new
-    pub reason : MayRefuseStep (name_state_of new) (step.Step p) why
+    pub ran : RanTo (Step.Step p ∷ []) (Step.Step p ∷ []) old [] new
+    pub reason : MayRefuseStep (name_state_of new) (Step.Step p) why

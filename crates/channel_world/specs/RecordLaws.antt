@@ -1,8 +1,7 @@
 -- Two laws of every record of calls.
-use Rattle.std.specs.Prelude.{◌≡◌, ℕ, List, [], ◌∷◌, ◌++◌, Option}
-use Rattle.channel_world_model.specs.Laws.{removed_by, brought_by_call, sends_after, NobodyIsLeft}
+use Rattle.std.specs.Prelude.{◌≡◌, ◌∷◌, ◌++◌}
+use Rattle.channel_world.specs.Words.{ℕ, List, [], Option, removed_by, brought_by_call, sends_after, NobodyIsLeft, Receipt}
 use Rattle.channel_world.specs.RecordReplay.{IsHistory}
-use Rattle.channel_world.specs.declared.recorded.receipt.Receipt.{Receipt}
 
 module _ {T : Type 0} where
   -- what the calls took out of the channel, received or displaced, in order

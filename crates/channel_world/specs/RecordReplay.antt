@@ -1,10 +1,6 @@
 -- A record of calls, replayed one call at a time from a channel that was just opened.
-use Rattle.std.specs.Prelude.{◌≡◌, ◌+◌, ℕ, List, [], ◌∷◌, length, Bool, false, Option, None, slice_get}
-use Rattle.std.specs.Option.{option_map_or}
-use Rattle.channel_world_model.specs.Refusal.{refusal}
-use Rattle.channel_world_model.specs.Refused.{Answers}
-use Rattle.channel_world_model.specs.State.{State, start}
-use Rattle.channel_world.specs.declared.recorded.receipt.Receipt.{Receipt}
+use Rattle.std.specs.Prelude.{◌≡◌, ◌+◌, ◌∷◌}
+use Rattle.channel_world.specs.Words.{ℕ, List, [], length, Bool, false, Option, None, slice_get, option_map_or, refusal, Answers, State, start, Receipt}
 
 -- a record: the capacity with which its channel was opened, and its calls
 pub record RecordView (T : Type 0) : Type 0 where

@@ -1,6 +1,7 @@
 -- What is seen of a seat: its number, and how many of its calls were accepted; and how its share of the ledger counts both. And what is
 -- seen of a channel that comes back because a seat was missing.
-use Rattle.std.specs.Prelude.{ℕ, zero, suc, ◌+◌, ◌-◌, ◌*◌, ◌/◌, ◌^◌, List, [], ◌∷◌}
+use Rattle.std.specs.Prelude.{◌+◌, ◌-◌, ◌*◌, ◌/◌, ◌^◌, ◌∷◌}
+use Rattle.channel_world.specs.Words.{ℕ, zero, suc, List, []}
 
 pub record SeatView : Type 0 where
   pub number : ℕ

@@ -1,13 +1,11 @@
 -- What a lock keeps: a world with its record, and the parts of the ledger that no seat has.
-use Rattle.std.specs.Prelude.{◌≡◌, ◌+◌, ◌-◌, ◌^◌, ◌<◌, ◌≤◌, ℕ, List, Option, Some}
+use Rattle.std.specs.Prelude.{◌≡◌, ◌+◌, ◌-◌, ◌^◌, ◌<◌, ◌≤◌}
+use Rattle.channel_world.specs.Words.{ℕ, List, Option, Some, State, start, Call, Receipt}
 use Rattle.channel_world_model.specs.Run.{MayStop}
-use Rattle.channel_world_model.specs.State.{State, start}
-use Rattle.channel_world_model.specs.declared.call.Call.{Call}
 use Rattle.channel_world.specs.RecordReplay.{Replays}
 use Rattle.channel_world.specs.RecordSeat.{amount_of, sum_below}
 use Rattle.channel_world.specs.declared.recorded.error.RecordError.{RecordError}
 use Rattle.channel_world.specs.declared.recorded.error.RecordError.TheVariants.{World, NoRoom}
-use Rattle.channel_world.specs.declared.recorded.receipt.Receipt.{Receipt}
 
 pub record RecordingView (T : Type 0) : Type 0 where
   -- the capacity with which the channel was opened, and the channel as it stands

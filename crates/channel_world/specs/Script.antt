@@ -1,27 +1,12 @@
 -- What a script answers: a reply line for each line, up to the first one that ends it.
-use Rattle.std.specs.Prelude.{ℕ, ◌+◌, ◌*◌, ◌/◌, ◌^◌, ◌==◌, nat_lt, List, [], ◌∷◌, ◌++◌, length, false, not, Option, None, Some, Result, Ok, Err, codes, slice_get, if◌then◌else◌, zero, suc}
-use Rattle.std.specs.List.{list_all}
-use Rattle.std.specs.Option.{option_map_or, option_or}
-use Rattle.channel_world_model.specs.State.{State, start}
-use Rattle.channel_world_model.specs.Refusal.{refusal}
-use Rattle.channel_world_model.specs.Answer.{answer}
-use Rattle.channel_world_model.specs.Settling.{poll_of}
-use Rattle.channel_world_model.specs.declared.call.Call.{Call}
-use Rattle.channel_calls.specs.declared.reply.Reply.{Reply}
+use Rattle.std.specs.Prelude.{◌+◌, ◌*◌, ◌/◌, ◌^◌, ◌==◌, ◌∷◌, ◌++◌, if◌then◌else◌}
+use Rattle.channel_world.specs.Words.{ℕ, nat_lt, List, [], length, false, not, Option, None, Some, Result, Ok, Err, codes, slice_get, zero, suc, list_all, option_map_or, option_or, State, start, refusal, answer, poll_of, Call, Reply, Language, today, reply_text, wakes_text, refused_text, settle_text, ScriptEnd, Done, Unreadable, Capacity, Memory, Fault, Waiter, WorldRefusal}
 use Rattle.channel_world_language.specs.Words.{lines_of}
 use Rattle.channel_world_language.specs.Command.{Command, settle, parse, openings}
 use Rattle.channel_world_language.specs.declared.command.Opening.{Opening}
-use Rattle.channel_world_language.specs.declared.command.Opening.TheVariants as opening
-use Rattle.channel_world_language.specs.Language.{Language, today}
 use Rattle.channel_world_language.specs.Table.{Table}
 use Rattle.channel_world_language.specs.Asked.{used, is_known, is_given_before, with_given, call_of}
-use Rattle.channel_world_language.specs.Text.{reply_text, wakes_text, refused_text, settle_text}
-use Rattle.channel_world_language.specs.declared.table.Sort.TheVariants as sort
-use Rattle.channel_world.specs.declared.script.end.ScriptEnd.{ScriptEnd}
-use Rattle.channel_world.specs.declared.script.end.ScriptEnd.TheVariants.{Done, Unreadable, Capacity, Memory, Fault}
-use Rattle.channel_world_model.specs.declared.name.Waiter.{Waiter}
-use Rattle.channel_world_model.specs.declared.refusal.WorldRefusal.{WorldRefusal}
-use Rattle.channel_world_model.specs.declared.refusal.WorldRefusal.TheVariants as why
+use Rattle.channel_world_language.specs.declared.table.Sort.{Sort}
 
 -- ---- one command
 
@@ -38,7 +23,7 @@ pub record Obeyed : Type 0 where
 -- why this call of a command is refused whose names live and are of the right sort
 abbrev pub why_refused : ScriptScene → Command → Call ℕ → Option WorldRefusal
 why_refused scene command c =
-    option_or (refusal scene.state c) (if is_given_before scene.table command then Some why.NameTaken else None)
+    option_or (refusal scene.state c) (if is_given_before scene.table command then Some WorldRefusal.NameTaken else None)
 
 abbrev pub answered : ScriptScene → Command → Call ℕ → Obeyed
 answered scene command c =
@@ -73,8 +58,8 @@ settles scene =
 -- one of the wrong sort; what the world refuses; a new name that was given before.
 abbrev pub checked : ScriptScene → Command → Result (Call ℕ) WorldRefusal
 checked scene command =
-    if not (list_all (is_known scene.state.names scene.table) (used command)) then Err why.UnknownName
-    else option_map_or (λ c. option_map_or (λ w. Err w) (why_refused scene command c) (Ok c)) (call_of scene.table command) (Err why.WrongKind)
+    if not (list_all (is_known scene.state.names scene.table) (used command)) then Err WorldRefusal.UnknownName
+    else option_map_or (λ c. option_map_or (λ w. Err w) (why_refused scene command c) (Ok c)) (call_of scene.table command) (Err WorldRefusal.WrongKind)
 
 -- a refused command changes nothing, and gives no name
 abbrev pub obeyed_as : ScriptScene → Command → Result (Call ℕ) WorldRefusal → Obeyed
@@ -109,7 +94,7 @@ followed language scene n (line ∷ lines) =
 
 -- `s` is the first sender, `r` the first receiver
 abbrev pub first_names : Table
-first_names = (codes "s", sort.Handle) ∷ (codes "r", sort.Handle) ∷ []
+first_names = (codes "s", Sort.Handle) ∷ (codes "r", Sort.Handle) ∷ []
 
 -- a channel of this capacity, or of any number of messages, as a script begins
 abbrev pub first_scene : Option ℕ → ScriptScene
@@ -121,8 +106,8 @@ opened language size lines =
     if option_map_or (nat_lt (2 ^ 58)) size false then ending Memory else replying_first (codes "ok") (followed language (first_scene size) 2 lines)
 
 abbrev pub opened_by : Language → Opening → List (List ℕ) → Script
-opened_by language opening.Unbounded lines = opened language None lines
-opened_by language (opening.Bounded capacity) lines = if capacity == 0 then ending Capacity else opened language (Some capacity) lines
+opened_by language Opening.Unbounded lines = opened language None lines
+opened_by language (Opening.Bounded capacity) lines = if capacity == 0 then ending Capacity else opened language (Some capacity) lines
 
 abbrev pub script_of_lines : Language → List (List ℕ) → Script
 script_of_lines language [] = ending Done

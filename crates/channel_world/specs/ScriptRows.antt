@@ -1,8 +1,7 @@
 -- Worked scripts of what can be read today, computed.
-use Rattle.std.specs.Prelude.{◌≡◌, ℕ, List, [], ◌∷◌, ◌++◌, codes, refl}
+use Rattle.std.specs.Prelude.{◌≡◌, ◌∷◌, ◌++◌}
+use Rattle.channel_world.specs.Words.{ℕ, List, [], codes, refl, repeat, Language, today}
 use Rattle.std.specs.Fmt.{digits}
-use Rattle.std.specs.List.{repeat}
-use Rattle.channel_world_language.specs.Language.{Language, today}
 use Rattle.channel_world.specs.Script.{script_in, script}
 use Rattle.channel_world.specs.Output.{text_of_lines, last_lines, status_of, text_of_script}
 

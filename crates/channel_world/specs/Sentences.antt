@@ -1,35 +1,16 @@
 -- The sentences of the headline: what is said of each moment of a run, and of each step, from the moment m before it to the
 -- moment n after it.
-use Rattle.std.specs.Prelude.{◌≡◌, ℕ, ◌<◌, ◌≤◌, false, List, [], ◌∷◌, ◌++◌, map, Option, None, IfSome}
+use Rattle.std.specs.Prelude.{◌≡◌, ◌<◌, ◌≤◌, ◌∷◌, ◌++◌}
+use Rattle.channel_world.specs.Words.{ℕ, false, List, [], map, Option, None, IfSome, Returned, Each, IsStill, SaysTheEnd, GivesMessage, Replies, Call, Waiter, most_left, Shut, Spent, call_begun, ActiveCall, blocks_after, EndsInTime, brought, does, sees, unless_ended, asks, wanted_of, Owed, step_refusal, IsNameStateAfter, Moment, observation_at, Entry, PartyId, Step, plain, marked}
 use Rattle.concurrent_queue.specs.Queue.{Phase}
 use Rattle.channel_calls.specs.Moves.{OnePlace}
 use Rattle.channel_calls.specs.declared.mark.Mark.TheVariants.{Nothing}
-use Rattle.channel_calls.specs.declared.stage.Returned.{Returned}
 use Rattle.channel_calls.specs.declared.stage.Stage.{Stage}
-use Rattle.channel_steps.specs.every_run.Ends.{Each, IsStill, SaysTheEnd, GivesMessage, Replies}
 use Rattle.channel_steps.specs.every_run.Over.{AllSpent}
-use Rattle.channel_world_model.specs.declared.call.Call.{Call}
-use Rattle.channel_world_model.specs.declared.name.Waiter.{Waiter}
 use Rattle.channel_steps.specs.Answers.{asks_first}
 use Rattle.channel_steps.specs.Known.{IsQuick}
-use Rattle.channel_steps.specs.Left.{most_left}
-use Rattle.channel_steps.specs.Moments.{Shut, Spent}
-use Rattle.channel_steps.specs.Run.{call_begun}
-use Rattle.channel_steps.specs.Configuration.{ActiveCall, blocks_after, EndsInTime, brought, does, sees, unless_ended}
 use Rattle.channel_steps.specs.Tellings.{telling, dropping, WokenBy}
-use Rattle.channel_world_runs.specs.Bookkeeping.{asks}
-use Rattle.channel_world_runs.specs.Left.{wanted_of}
-use Rattle.channel_world_runs.specs.Owed.{Owed}
-use Rattle.channel_world_runs.specs.Refusal.{step_refusal}
-use Rattle.channel_world_runs.specs.Run.{IsNameStateAfter}
-use Rattle.channel_world_runs.specs.Runs.{Moment}
-use Rattle.channel_world_runs.specs.ObservationAt.{observation_at}
-use Rattle.channel_world_runs.specs.declared.step.Entry.{Entry}
-use Rattle.channel_world_runs.specs.declared.step.PartyId.{PartyId}
-use Rattle.channel_world_runs.specs.declared.step.Step.{Step}
-use Rattle.channel_world_runs.specs.declared.step.Step.TheVariants as step
 use Rattle.channel_steps.specs.every_run.EndSays.{EndSays}
-use Rattle.channel_steps.specs.every_run.Marked.{plain, marked}
 use Rattle.channel_steps.specs.every_run.Marks.{BeginsItsMarks}
 use Rattle.channel_world.specs.StepsLeft.{OthersQuietOf}
 use Rattle.channel_steps.specs.every_run.Words.{WordsSay}
@@ -66,7 +47,7 @@ module _ {T : Type 0} where
     -- a call of this party is under way from now on, whose only moment is the present one, with no mark and nothing told
     pub at_first : Stage (Phase T) T Waiter
     pub under_way : n.configuration.under_way ≡ m.configuration.under_way ++ call_begun p.0 (asks m.name_state.name_table c) at_first m.configuration.now ∷ []
-    pub name_state : IsNameStateAfter (step.Begin p c) e None m.name_state n.name_state
+    pub name_state : IsNameStateAfter (Step.Begin p c) e None m.name_state n.name_state
 
   -- ---- a step of a call
 
@@ -98,7 +79,7 @@ module _ {T : Type 0} where
     -- if it ends its call; what the call leaves is what the names get back
     pub left : Option (Returned T)
     pub ends : IfSome e.reply (λ r. EndSays after r left)
-    pub name_state : IsNameStateAfter (step.Step p) e left m.name_state n.name_state
+    pub name_state : IsNameStateAfter (Step.Step p) e left m.name_state n.name_state
     -- a short call ends within eight steps of its own, whatever others do
     pub in_time : IsQuick call.ask → EndsInTime call.made e.reply
     -- if the others are quiet, a step that does not end its call leaves it fewer steps
@@ -110,8 +91,8 @@ module _ {T : Type 0} where
 
   -- the party begins a call, or makes a step of the one that it has under way
   abbrev pub CallSays : Moment T → Step T → Entry T → Moment T → Type 0
-  CallSays m (step.Begin p c) e n = BeginSays m p c e n
-  CallSays m (step.Step p) e n = WorkSays m p e n
+  CallSays m (Step.Begin p c) e n = BeginSays m p c e n
+  CallSays m (Step.Step p) e n = WorkSays m p e n
 
   pub record StepSays (m : Moment T) (x : Step T) (e : Entry T) (n : Moment T) : Type 0 where
     -- none of the seven reasons refuses it

@@ -1,24 +1,10 @@
 -- What settling answers, and the room that it takes.
-use Rattle.std.specs.Prelude.{◌≡◌, ◌+◌, ◌-◌, ◌*◌, ◌≤◌, ◌++◌, ℕ, min, List, length, map, if◌then◌else◌, true, false}
-use Rattle.std.specs.List.{list_any}
-use Rattle.std.specs.Option.{option_map_or}
+use Rattle.std.specs.Prelude.{◌≡◌, ◌+◌, ◌-◌, ◌*◌, ◌≤◌, ◌++◌, if◌then◌else◌}
+use Rattle.channel_world.specs.Words.{ℕ, min, List, length, map, true, false, list_any, option_map_or, wants_growth, Reply, WaitList, Sends, Receives, Streams, Answer, ModelChannel, woken_of_line, is_among, untold, Answers, poll_of, SettlesTo, State, Waiter, Settled}
 use Rattle.channel_steps.specs.solo.Ample.{lacks_memory}
-use Rattle.channel_world_language.specs.Text.{wants_growth}
-use Rattle.channel_calls.specs.declared.reply.Reply.{Reply}
-use Rattle.channel_calls.specs.declared.stage.WaitList.{WaitList}
-use Rattle.channel_calls.specs.declared.stage.WaitList.TheVariants.{Sends, Receives, Streams}
 use Rattle.channel_world_runs.specs.Positions.{accepted_by, brings}
-use Rattle.channel_world_model.specs.Answer.{Answer}
 use Rattle.channel_world_model.specs.Awake.{AwakeIn}
-use Rattle.channel_calls.specs.Model.{ModelChannel}
-use Rattle.channel_world_model.specs.Laws.{woken_of_line}
-use Rattle.channel_world_model.specs.Lines.{is_among, untold}
-use Rattle.channel_world_model.specs.Refused.{Answers}
-use Rattle.channel_world_model.specs.Settling.{poll_of, SettlesTo}
-use Rattle.channel_world_model.specs.State.{State}
-use Rattle.channel_world_model.specs.declared.name.Waiter.{Waiter}
 use Rattle.channel_world.specs.View.{WorldView, at_rest, names_in, HasPositions}
-use Rattle.channel_world.specs.declared.settle.Settled.{Settled}
 
 module _ {T : Type 0} where
   -- the polls of a settling, each with its name and its reply, in order

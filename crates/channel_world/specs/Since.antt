@@ -1,12 +1,7 @@
 -- Laws of all replies that were given on the way from a configuration, by runs of steps, lists of calls and settlings in turn.
-use Rattle.std.specs.Prelude.{◌≡◌, ℕ, ◌+◌, ◌≤◌, cond, true, List, [], ◌∷◌, ◌++◌, Option, None, Some}
-use Rattle.channel_calls.specs.declared.reply.Reply.{Reply}
+use Rattle.std.specs.Prelude.{◌≡◌, ◌+◌, ◌≤◌, ◌∷◌, ◌++◌}
+use Rattle.channel_world.specs.Words.{ℕ, cond, true, List, [], Option, None, Some, Reply, Each, Waiter, new_configuration, ActiveCall, Configuration, tally}
 use Rattle.channel_steps.specs.every_run.Bounds.{SaysFull, AllOf, one_if_closed}
-use Rattle.channel_steps.specs.every_run.Ends.{Each}
-use Rattle.channel_world_model.specs.declared.name.Waiter.{Waiter}
-use Rattle.channel_steps.specs.Run.{new_configuration}
-use Rattle.channel_steps.specs.Configuration.{ActiveCall, Configuration}
-use Rattle.channel_world_runs.specs.Counted.{tally}
 use Rattle.channel_world_runs.specs.Activity.{any_close}
 use Rattle.channel_world.specs.Carried.{LeadsTo}
 use Rattle.channel_world.specs.View.{at_rest, IsQuiet, Stands, Led, WorldView}

@@ -1,19 +1,12 @@
 -- How soon a call ends if the others are quiet: the number of steps of its own that are left to it at each moment of a run.
-use Rattle.std.specs.Prelude.{ℕ, suc, ◌≤◌, ◌==◌, ◌&&◌, if◌then◌else◌, is_none, List, [], ◌∷◌}
-use Rattle.channel_world_model.specs.declared.name.Waiter.{Waiter}
-use Rattle.channel_steps.specs.Left.{most_left}
-use Rattle.channel_steps.specs.Configuration.{Configuration, OthersQuiet}
-use Rattle.channel_world_runs.specs.Left.{calls_of_others, wanted_of}
-use Rattle.channel_world_runs.specs.Runs.{Moment}
-use Rattle.channel_world_runs.specs.declared.step.Entry.{Entry}
-use Rattle.channel_world_runs.specs.declared.step.Step.{Step}
-use Rattle.channel_world_runs.specs.declared.step.Step.TheVariants as step
+use Rattle.std.specs.Prelude.{◌≤◌, ◌==◌, ◌&&◌, if◌then◌else◌, ◌∷◌}
+use Rattle.channel_world.specs.Words.{ℕ, suc, is_none, List, [], Waiter, most_left, Configuration, OthersQuiet, calls_of_others, wanted_of, Moment, Entry, Step}
 use Rattle.channel_world.specs.View.{StandsIn, WorldView}
 
 module _ {T : Type 0} where
   -- how many of the next steps are this party's, one after another, with no reply among them
   abbrev pub in_a_row : ℕ → List (Step T) → List (Entry T) → ℕ
-  in_a_row p (step.Step q ∷ xs) (e ∷ es) = if (q.0 == p) && is_none e.reply then suc (in_a_row p xs es) else 0
+  in_a_row p (Step.Step q ∷ xs) (e ∷ es) = if (q.0 == p) && is_none e.reply then suc (in_a_row p xs es) else 0
   in_a_row p xs es = 0
 
   -- the calls under way but this party's are quiet: none has a mark but Nothing, and an unbounded channel has had its first taking,

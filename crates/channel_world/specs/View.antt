@@ -1,27 +1,11 @@
 -- What a world shows: its names, how many messages it holds, its capacity, whether it is closed, and how many calls of each kind
 -- are under way. What it is made of only the words of this file name, and no clause of a caller says anything of it. That is agreed:
 -- to the logic the words are open, so that a proof can read the parts off them.
-use Rattle.std.specs.Prelude.{ℕ, Bool, List, Option, refl}
-use Rattle.std.specs.Coded.{Coded, code_by}
-use Rattle.channel_calls.specs.Parts.{Parts, count}
+use Rattle.channel_world.specs.Words.{ℕ, Bool, List, Option, refl, Coded, code_by, Parts, count, Reply, Side, State, Waiter, Configuration, tally, is_lowering, is_closing, left_of, Observation, NameState, Moment, WorldState, NameTable, Entry, Step}
 use Rattle.channel_calls.specs.Plain.{parts_of}
-use Rattle.channel_calls.specs.declared.reply.Reply.{Reply}
-use Rattle.channel_calls.specs.declared.stage.Side.{Side}
-use Rattle.channel_world_model.specs.State.{State}
-use Rattle.channel_world_model.specs.declared.name.Waiter.{Waiter}
-use Rattle.channel_steps.specs.Configuration.{Configuration}
 use Rattle.channel_steps.specs.declared.party.Party.{Party}
-use Rattle.channel_world_runs.specs.Counted.{tally, is_lowering, is_closing}
 use Rattle.channel_world_runs.specs.WorldState as world_state
-use Rattle.channel_world_runs.specs.Left.{left_of}
-use Rattle.channel_world_runs.specs.Owed.{Observation}
-use Rattle.channel_world_runs.specs.Run.{NameState}
 use Rattle.channel_world_runs.specs.Runs as runs
-use Rattle.channel_world_runs.specs.Runs.{Moment}
-use Rattle.channel_world_runs.specs.declared.world_state.WorldState.{WorldState}
-use Rattle.channel_world_runs.specs.declared.name_table.NameTable.{NameTable}
-use Rattle.channel_world_runs.specs.declared.step.Entry.{Entry}
-use Rattle.channel_world_runs.specs.declared.step.Step.{Step}
 use Rattle.channel_world.specs.Kinds.{takings_of}
 use Rattle.channel_world.specs.World as world
 

@@ -1,18 +1,9 @@
 -- What a world is while no call is under way: a state of the model.
-use Rattle.std.specs.Prelude.{ℕ, ◌+◌, List, length}
-use Rattle.concurrent_queue.specs.Capacity.{capacity_of}
+use Rattle.std.specs.Prelude.{◌+◌}
+use Rattle.channel_world.specs.Words.{ℕ, List, length, capacity_of, Parts, WaitLists, ModelChannel, Waiting, State, Call, Waiter, names_of, WorldState}
 use Rattle.concurrent_queue.specs.Step.{items_in, closed_in}
 use Rattle.event_listener.specs.Lists.{tasks_of}
-use Rattle.channel_calls.specs.Parts.{Parts, WaitLists}
-use Rattle.channel_calls.specs.Model.{ModelChannel}
-use Rattle.channel_world_model.specs.Lines.{Waiting}
-use Rattle.channel_world_model.specs.State.{State}
-use Rattle.channel_world_model.specs.declared.call.Call.{Call}
-use Rattle.channel_world_model.specs.declared.call.Call.TheVariants as call
-use Rattle.channel_world_model.specs.declared.name.Waiter.{Waiter}
 use Rattle.channel_world_runs.specs.WorldState.{parts_in}
-use Rattle.channel_world_runs.specs.NameTable.{names_of}
-use Rattle.channel_world_runs.specs.declared.world_state.WorldState.{WorldState}
 
 -- those that wait in each list, and the woken
 abbrev pub waiting_in : WaitLists Waiter → List Waiter → Waiting
@@ -49,7 +40,7 @@ module _ {T : Type 0} where
 
   -- how many a call may wake at most
   abbrev pub most_woken : Call T → Waiting → ℕ
-  most_woken (call.Close handle) l = untold_count l
-  most_woken (call.Drop handle) l = untold_count l
-  most_woken (call.RecvMany receiver limit) l = length l.sends
+  most_woken (Call.Close handle) l = untold_count l
+  most_woken (Call.Drop handle) l = untold_count l
+  most_woken (Call.RecvMany receiver limit) l = length l.sends
   most_woken c l = 2 + length l.streams

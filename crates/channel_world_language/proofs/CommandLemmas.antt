@@ -1,10 +1,11 @@
 -- Words that are left on a line, and words of a language.
-use Rattle.std.proofs.Common.{arith, ◌≡◌, ℕ, List, [], ◌∷◌, length, ◌==◌, map, Bool, true, false, not, cond, is_some, option_copied, Option, None, Some, Bor, refl, ap, ◌∙◌}
+use Rattle.std.proofs.Common.{arith, ◌≡◌, ℕ, List, [], ◌∷◌, ◌++◌, length, nat_lt, codes, option_and_then, if◌then◌else◌, sym, ◌==◌, map, Bool, true, false, not, cond, is_some, option_copied, Option, None, Some, Bor, refl, ap, ◌∙◌}
 use Rattle.std.specs.Bool.{then_some}
 use Rattle.std.specs.List.{find}
 use Rattle.std.specs.Option.{option_map}
 use Rattle.std.specs.Str.{bytes_eq}
-use Rattle.channel_world_language.specs.Command.{Command, Form, for_word, read, that_is}
+use Rattle.channel_world_language.specs.Command.{Command, Form, call_commands, for_word, parse, parsed, read, settle, that_is}
+use Rattle.channel_world_language.specs.Language.{today}
 use Rattle.std.proofs.lemmas.List.Splits.{length-slice_split}
 use Rattle.std.proofs.lemmas.Bool.Decides.{nat_tests}
 use Rattle.channel_world_language.specs.Said.{form_of}
@@ -37,3 +38,22 @@ pub form_of_found : (word : List ℕ) (rows : List (Bor (List ℕ) × Verb)) (fo
     → row ≡ find (λ r. bytes_eq word r.0.now) rows → verb ≡ option_map (λ r. r.1) row → map (λ r. (r.0.now, form_of r.1)) rows ≡ forms → option_map form_of verb ≡ for_word word forms
 form_of_found word rows forms row verb found its listed =
     ap (option_map form_of) (its ∙ ap (option_map (λ r. r.1)) found) ∙ (form_of_row word rows ∙ ap (for_word word) listed)
+
+-- a word that has a form has the same beside further ones
+for_word_front : {X : Type 0} (word : List ℕ) (rows more : List (List ℕ × X)) (x : X) → Some x ≡ for_word word rows → for_word word (rows ++ more) ≡ Some x
+for_word_front word [] more x e = cc e
+for_word_front {X} word (row ∷ rows) more x e = by (bytes_eq word row.0) e (for_word_front word rows more x)
+  where
+    by : (b : Bool) → Some x ≡ cond b (Some row.1) (for_word word rows) → (Some x ≡ for_word word rows → for_word word (rows ++ more) ≡ Some x)
+        → cond b (Some row.1) (for_word word (rows ++ more)) ≡ Some x
+    by true e on = sym e
+    by false e on = on e
+
+-- what a line says that begins with the word of a verb
+pub line_says : (line word : List ℕ) (rest : List (List ℕ)) (verb : Verb) → nat_lt 200 (length line) ≡ false → words_of line ≡ word ∷ rest
+    → Some (form_of verb) ≡ for_word word call_commands → parse today line ≡ read (form_of verb) rest
+line_says line word rest verb short words form =
+    ap (λ (b : Bool). if b then None else parsed today (words_of line)) short
+    ∙ (ap (λ (ws : List (List ℕ)). parsed today ws) words
+    ∙ ap (λ (o : Option (Form Command)). option_and_then (λ f. read f rest) o)
+    (for_word_front word call_commands ((codes "settle", that_is settle) ∷ []) (form_of verb) form))

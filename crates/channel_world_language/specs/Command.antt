@@ -3,29 +3,19 @@ use Rattle.std.specs.Prelude.{ℕ, ◌==◌, List, [], ◌∷◌, ◌++◌, leng
 use Rattle.std.specs.Str.{bytes_eq}
 use Rattle.channel_world_language.specs.Words.{Name, words_of, first_name, first_number}
 use Rattle.channel_world_language.specs.declared.command.Opening.{Opening}
-use Rattle.channel_world_language.specs.declared.command.Opening.TheVariants as opening
+use Rattle.channel_world_language.specs.declared.command.Doing.{Doing}
+use Rattle.channel_world_language.specs.declared.command.Making.{Making}
 use Rattle.channel_world_language.specs.declared.command.Question.{Question}
-use Rattle.channel_world_language.specs.declared.command.Question.TheVariants as question
+use Rattle.channel_world_language.specs.declared.command.Sending.{Sending}
 
 -- a command of the language; a new name stands first
 pub data Command : Type 0 where
-  try_send : Name → ℕ → Command
-  force_send : Name → ℕ → Command
-  try_recv : Name → Command
+  message : Sending → Name → ℕ → Command
   recv_many : Name → ℕ → Command
   send : Name → Name → ℕ → Command
-  recv : Name → Name → Command
-  closed : Name → Name → Command
-  poll : Name → Command
-  next : Name → Command
-  drop : Name → Command
-  close : Name → Command
-  clone : Name → Name → Command
-  downgrade : Name → Name → Command
-  upgrade : Name → Name → Command
+  new : Making → Name → Name → Command
+  one : Doing → Name → Command
   same_channel : Name → Name → Command
-  is_terminated : Name → Command
-  ask : Question → Name → Command
   settle : Command
 
 -- ---- how words are read
@@ -58,47 +48,57 @@ parse forms line = if nat_lt 200 (length line) then None else parsed forms (word
 
 -- ---- the commands
 
+-- how the words after the first one of a command of one kind are read
+abbrev pub a_message : Sending → Form Command
+a_message how = a_name (λ s. a_number (λ m. that_is (message how s m)))
+
+abbrev pub a_new : Making → Form Command
+a_new what = a_name (λ n. a_name (λ h. that_is (new what n h)))
+
+abbrev pub a_doing : Doing → Form Command
+a_doing what = a_name (λ x. that_is (one what x))
+
 -- sends and receives that don't wait, and a receiver polled as a stream
 abbrev pub message_commands : List (List ℕ × Form Command)
 message_commands =
-    (codes "try_send", a_name (λ s. a_number (λ m. that_is (try_send s m))))
-    ∷ (codes "force_send", a_name (λ s. a_number (λ m. that_is (force_send s m))))
-    ∷ (codes "try_recv", a_name (λ r. that_is (try_recv r)))
+    (codes "try_send", a_message Sending.Try)
+    ∷ (codes "force_send", a_message Sending.Force)
+    ∷ (codes "try_recv", a_doing Doing.TryRecv)
     ∷ (codes "recv_many", a_name (λ r. a_number (λ n. that_is (recv_many r n))))
-    ∷ (codes "next", a_name (λ r. that_is (next r)))
+    ∷ (codes "next", a_doing Doing.Next)
     ∷ []
 
 -- polled operations
 abbrev pub operation_commands : List (List ℕ × Form Command)
 operation_commands =
     (codes "send", a_name (λ o. a_name (λ s. a_number (λ m. that_is (send o s m)))))
-    ∷ (codes "recv", a_name (λ o. a_name (λ r. that_is (recv o r))))
-    ∷ (codes "closed", a_name (λ o. a_name (λ s. that_is (closed o s))))
-    ∷ (codes "poll", a_name (λ o. that_is (poll o)))
-    ∷ (codes "is_terminated", a_name (λ x. that_is (is_terminated x)))
+    ∷ (codes "recv", a_new Making.Recv)
+    ∷ (codes "closed", a_new Making.Closed)
+    ∷ (codes "poll", a_doing Doing.Poll)
+    ∷ (codes "is_terminated", a_doing Doing.IsTerminated)
     ∷ []
 
 -- handles
 abbrev pub handle_commands : List (List ℕ × Form Command)
 handle_commands =
-    (codes "drop", a_name (λ x. that_is (drop x)))
-    ∷ (codes "close", a_name (λ h. that_is (close h)))
-    ∷ (codes "clone", a_name (λ n. a_name (λ h. that_is (clone n h))))
-    ∷ (codes "downgrade", a_name (λ n. a_name (λ h. that_is (downgrade n h))))
-    ∷ (codes "upgrade", a_name (λ n. a_name (λ w. that_is (upgrade n w))))
+    (codes "drop", a_doing Doing.Drop)
+    ∷ (codes "close", a_doing Doing.Close)
+    ∷ (codes "clone", a_new Making.Clone)
+    ∷ (codes "downgrade", a_new Making.Downgrade)
+    ∷ (codes "upgrade", a_new Making.Upgrade)
     ∷ (codes "same_channel", a_name (λ a. a_name (λ b. that_is (same_channel a b))))
     ∷ []
 
 -- questions
 abbrev pub question_commands : List (List ℕ × Form Command)
 question_commands =
-    (codes "is_closed", a_name (λ h. that_is (ask question.IsClosed h)))
-    ∷ (codes "is_empty", a_name (λ h. that_is (ask question.IsEmpty h)))
-    ∷ (codes "is_full", a_name (λ h. that_is (ask question.IsFull h)))
-    ∷ (codes "len", a_name (λ h. that_is (ask question.Len h)))
-    ∷ (codes "capacity", a_name (λ h. that_is (ask question.Capacity h)))
-    ∷ (codes "sender_count", a_name (λ h. that_is (ask question.SenderCount h)))
-    ∷ (codes "receiver_count", a_name (λ h. that_is (ask question.ReceiverCount h)))
+    (codes "is_closed", a_doing (Doing.Ask Question.IsClosed))
+    ∷ (codes "is_empty", a_doing (Doing.Ask Question.IsEmpty))
+    ∷ (codes "is_full", a_doing (Doing.Ask Question.IsFull))
+    ∷ (codes "len", a_doing (Doing.Ask Question.Len))
+    ∷ (codes "capacity", a_doing (Doing.Ask Question.Capacity))
+    ∷ (codes "sender_count", a_doing (Doing.Ask Question.SenderCount))
+    ∷ (codes "receiver_count", a_doing (Doing.Ask Question.ReceiverCount))
     ∷ []
 
 -- all that make one call
@@ -111,4 +111,4 @@ all_commands = call_commands ++ (codes "settle", that_is settle) ∷ []
 
 -- the first line: a channel of a capacity, or of any number of messages
 abbrev pub openings : List (List ℕ × Form Opening)
-openings = (codes "bounded", a_number (λ n. that_is (opening.Bounded n))) ∷ (codes "unbounded", that_is opening.Unbounded) ∷ []
+openings = (codes "bounded", a_number (λ n. that_is (Opening.Bounded n))) ∷ (codes "unbounded", that_is Opening.Unbounded) ∷ []

@@ -7,9 +7,7 @@ use Rattle.channel_world_language.specs.Words.{Name}
 use Rattle.channel_world_model.specs.declared.name.Waiter.{Waiter}
 use Rattle.channel_world_model.specs.declared.name.Waiter.TheVariants.{Op, Stream}
 use Rattle.channel_world_language.specs.declared.table.Sort.{Sort}
-use Rattle.channel_world_language.specs.declared.table.Sort.TheVariants as sort
 use Rattle.channel_world_language.specs.declared.table.Named.{Named}
-use Rattle.channel_world_language.specs.declared.table.Named.TheVariants as named
 
 -- All names that accepted lines gave, in order. The place of a name is the number of its handle or operation, so these
 -- are numbered together.
@@ -22,8 +20,8 @@ number_in table name = position (λ e. bytes_eq name e.0) table
 
 -- the handle, or the operation, of this number
 abbrev pub numbered : Sort → ℕ → Named
-numbered sort.Handle n = named.Handle (record { 0 = n })
-numbered sort.Op n = named.Op (record { 0 = n })
+numbered Sort.Handle n = Named.Handle (record { 0 = n })
+numbered Sort.Op n = Named.Op (record { 0 = n })
 
 -- what a name names, if it was given
 abbrev pub named_in : Table → Name → Option Named

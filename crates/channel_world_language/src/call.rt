@@ -2,8 +2,8 @@
 ghost use Rattle.std.specs.Prelude.{◌≡◌, ◌<◌, ◌^◌, ◌∷◌, length, option_and_then, option_copied};
 ghost use Rattle.std.specs.Option.{option_map, option_to_list};
 ghost use Rattle.channel_world_language.specs.Table.{named_in};
-ghost use Rattle.channel_world_language.specs.Asked.{used, given, handle_of, question_call, call_of};
-ghost use Rattle.channel_world_language.specs.Said.{said, sort_of, sending_call, making_call, doing_call};
+ghost use Rattle.channel_world_language.specs.Asked.{used, sort_of, given, handle_of, sending_call, making_call, question_call, doing_call, call_of};
+ghost use Rattle.channel_world_language.specs.Said.{said};
 
 use crate::command::{Command, Doing, Making, Question, Sending};
 use crate::table::{Named, Sort, Table};

@@ -1,7 +1,8 @@
 -- What keeps everybody awake, whatever the names are: how many messages and free places there are, and who waits.
-use Rattle.channel_world_model.proofs.Words.{zero, suc, arith, ◌≡◌, ◌⊎◌, ◌≤◌, ◌+◌, ◌-◌, ℕ, List, [], ◌∷◌, ◌++◌, length, take, drop, Bool, true, false, cond, if◌then◌else◌, Option, None, Some, IsSome, refl, sym, ap, subst, ◌∙◌, inl, inr, filter, Waiting, same_waiter, is_among, untold, told_by, after_news, after_rooms, without_waiter, gone, passed_on, at_end, standing, Kind, Enough, times_in, Placed, Awake, same_line, is_line, count_of, free_places, Waiter, WaitList, Sends, Receives, Streams, Closings, News, Nothing, Message, Room, Closing, NextIn}
-use Rattle.channel_world_model.proofs.Counting.{count_gone, count_news, one_if, count_end, count_append, count_without, count_without_other, times_self, among_counts, absent_counts, among_append, among_drop, among_take, among_self, or_right}
-use Rattle.channel_world_model.proofs.WaiterLemmas.{same_sound, decided, or_true, left_among, untold_gone}
+use Rattle.std.specs.Prelude.{◌≡◌, ◌⊎◌, ◌≤◌, ◌+◌, ◌-◌, ◌∷◌, ◌++◌, if◌then◌else◌}
+use Rattle.channel_world_model.proofs.Words.{zero, suc, arith, ℕ, List, [], length, take, drop, Bool, true, false, cond, Option, None, Some, IsSome, refl, sym, ap, subst, ◌∙◌, inl, inr, filter, Waiting, same_waiter, is_among, untold, told_by, after_news, after_rooms, without_waiter, gone, passed_on, at_end, standing, Kind, Enough, times_in, Placed, Awake, same_line, is_line, count_of, free_places, Waiter, WaitList, Sends, Receives, Streams, Closings, News, Nothing, Message, Room, Closing, NextIn, or_right, decided, or_true}
+use Rattle.channel_world_model.proofs.Counting.{count_gone, count_news, one_if, count_end, count_append, count_without, count_without_other, times_self, among_counts, absent_counts, among_append, among_drop, among_take, among_self}
+use Rattle.channel_world_model.proofs.WaiterLemmas.{same_sound, left_among, untold_gone}
 
 -- ---- lines
 

@@ -1,10 +1,8 @@
 -- How many messages there are at most, that an unbounded channel is never full, and that one close at most is the first.
-use Rattle.channel_world_model.proofs.Words.{false_from_ne_true, arith, ◌≡◌, ◌⊎◌, ◌≤◌, ◌<◌, ◌+◌, ◌-◌, ◌==◌, ℕ, List, [], ◌∷◌, length, Bool, true, false, if◌then◌else◌, Option, None, Some, IfSome, Err, refl, sym, ap, subst, ◌∙◌, inl, inr, length-append, filter, option_map_or, nat_tests, Answer, replying, space_of, try_send_answer, force_send_answer, strong_handles, with_strong_handles, without_one, shut, EachDone, says_full, says_closed, ModelChannel, is_full, appended, Answers, Runs, State, start, Call, NoMemory, HandleId, HandleKind, Sender, WorldRefusal, Done, Space, Open, Filled}
-use Rattle.channel_world_model.specs.declared.call.Call.TheVariants as call
-use Rattle.channel_calls.specs.declared.reply.Reply.TheVariants as reply
+use Rattle.std.specs.Prelude.{◌≡◌, ◌⊎◌, ◌≤◌, ◌<◌, ◌+◌, ◌-◌, ◌==◌, ◌∷◌, if◌then◌else◌}
+use Rattle.channel_world_model.proofs.Words.{false_from_ne_true, arith, ℕ, List, [], length, Bool, true, false, Option, None, Some, IfSome, Err, refl, sym, ap, subst, ◌∙◌, inl, inr, length-append, filter, option_map_or, nat_tests, Answer, replying, space_of, try_send_answer, force_send_answer, strong_handles, with_strong_handles, without_one, shut, EachDone, says_full, says_closed, ModelChannel, is_full, appended, Answers, Runs, State, start, Call, NoMemory, HandleId, HandleKind, Sender, WorldRefusal, Done, Space, Open, Filled, decided, Reply}
 use Rattle.channel_world_model.proofs.Deeds.{Deed, stays, grows, holds, shuts, adds, drops, deed_of}
 use Rattle.channel_world_model.proofs.Lacking.{held_is}
-use Rattle.channel_world_model.proofs.WaiterLemmas.{decided}
 
 room_left : (n c : ℕ) → (n == c) ≡ false → n ≤ c → n + 1 ≤ c
 room_left n c t h = grind (arith, nat_tests)
@@ -99,23 +97,23 @@ module _ {T : Type 0} where
   ]
 
   module _ (s : State T) (none : s.channel.capacity ≡ None) where
-    try_send_says : (sender : HandleId) (m : T) (x : Space) → space_of s.channel ≡ x → says_full (call.TrySend sender m) (try_send_answer s m x).reply ≡ false
+    try_send_says : (sender : HandleId) (m : T) (x : Space) → space_of s.channel ≡ x → says_full (Call.TrySend sender m) (try_send_answer s m x).reply ≡ false
     try_send_says sender m Filled e = no_space_filled s.channel none e
     try_send_says sender m x e = refl
 
-    force_send_says : (sender : HandleId) (m : T) (x : Space) → space_of s.channel ≡ x → says_full (call.ForceSend sender m) (force_send_answer s m x).reply ≡ false
+    force_send_says : (sender : HandleId) (m : T) (x : Space) → space_of s.channel ≡ x → says_full (Call.ForceSend sender m) (force_send_answer s m x).reply ≡ false
     force_send_says sender m Filled e = no_space_filled s.channel none e
     force_send_says sender m x e = refl
 
     never_says : (c : Call T) (a : Answer T) → Answers s c a → says_full c a.reply ≡ false
-    never_says (call.TrySend sender m) a (inl e) = subst (λ (x : Answer T). says_full (call.TrySend sender m) x.reply ≡ false) (sym e) (try_send_says sender m (space_of s.channel) refl)
-    never_says (call.TrySend sender m) a (inr (lack, e)) =
-        subst (λ (x : Answer T). says_full (call.TrySend sender m) x.reply ≡ false) (held_is s lack (space_of s.channel) (replying s (reply.TrySend (Err (NoMemory m)))) a e) refl
-    never_says (call.ForceSend sender m) a (inl e) = subst (λ (x : Answer T). says_full (call.ForceSend sender m) x.reply ≡ false) (sym e) (force_send_says sender m (space_of s.channel) refl)
-    never_says (call.ForceSend sender m) a (inr (lack, e)) =
-        subst (λ (x : Answer T). says_full (call.ForceSend sender m) x.reply ≡ false) (held_is s lack (space_of s.channel) (replying s (reply.ForceSend (Err (NoMemory m)))) a e) refl
-    never_says (call.IsFull handle) a (inl e) = subst (λ (x : Answer T). says_full (call.IsFull handle) x.reply ≡ false) (sym e) (never_filled s.channel none)
-    never_says (call.IsFull handle) a (inr (lack, e)) = cc e
+    never_says (Call.TrySend sender m) a (inl e) = subst (λ (x : Answer T). says_full (Call.TrySend sender m) x.reply ≡ false) (sym e) (try_send_says sender m (space_of s.channel) refl)
+    never_says (Call.TrySend sender m) a (inr (lack, e)) =
+        subst (λ (x : Answer T). says_full (Call.TrySend sender m) x.reply ≡ false) (held_is s lack (space_of s.channel) (replying s (Reply.TrySend (Err (NoMemory m)))) a e) refl
+    never_says (Call.ForceSend sender m) a (inl e) = subst (λ (x : Answer T). says_full (Call.ForceSend sender m) x.reply ≡ false) (sym e) (force_send_says sender m (space_of s.channel) refl)
+    never_says (Call.ForceSend sender m) a (inr (lack, e)) =
+        subst (λ (x : Answer T). says_full (Call.ForceSend sender m) x.reply ≡ false) (held_is s lack (space_of s.channel) (replying s (Reply.ForceSend (Err (NoMemory m)))) a e) refl
+    never_says (Call.IsFull handle) a (inl e) = subst (λ (x : Answer T). says_full (Call.IsFull handle) x.reply ≡ false) (sym e) (never_filled s.channel none)
+    never_says (Call.IsFull handle) a (inr (lack, e)) = cc e
     never_says c a e = refl
 
   run_never_says : (s : State T) (cs : List (Call T)) (ds : List (Done T)) (why : Option WorldRefusal) (rest : List (Call T)) (t : State T)

@@ -1,8 +1,9 @@
 -- Counting names in lists.
-use Rattle.channel_world_model.proofs.Words.{Waiting, after_news, gone, at_end, untold, same_waiter, is_among, without_waiter, News, Nothing, Message, Room, Closing, NextIn, sym, if◌then◌else◌, arith, ◌≡◌, ◌⊎◌, ◌≤◌, ◌+◌, ℕ, List, [], ◌∷◌, ◌++◌, length, take, drop, Bool, true, false, cond, refl, ap, subst, ◌∙◌, inl, inr, length-append, WaitList, Sends, or_left, filter, filter-append, times, Waiter}
+use Rattle.std.specs.Prelude.{if◌then◌else◌, ◌≡◌, ◌⊎◌, ◌≤◌, ◌+◌, ◌∷◌, ◌++◌}
+use Rattle.channel_world_model.proofs.Words.{Waiting, after_news, gone, at_end, untold, same_waiter, is_among, without_waiter, News, Nothing, Message, Room, Closing, NextIn, sym, arith, ℕ, List, [], length, take, drop, Bool, true, false, cond, refl, ap, subst, ◌∙◌, inl, inr, length-append, WaitList, Sends, or_left, filter, filter-append, times, Waiter, decided, or_true}
 use Rattle.std.proofs.lemmas.List.Folds.{list_any-append}
 pub use Rattle.std.proofs.lemmas.Bool.{or_right}
-use Rattle.channel_world_model.proofs.WaiterLemmas.{same_refl, same_sound, decided, or_true}
+use Rattle.channel_world_model.proofs.WaiterLemmas.{same_refl, same_sound}
 
 pub count_append : (p : Waiter → Bool) (xs ys : List Waiter) → length (filter p (xs ++ ys)) ≡ length (filter p xs) + length (filter p ys)
 count_append p xs ys = ap (λ (zs : List Waiter). length zs) (filter-append p xs ys) ∙ length-append (filter p xs) (filter p ys)

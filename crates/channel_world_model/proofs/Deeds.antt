@@ -1,6 +1,6 @@
 -- What one call does to a channel and to the number of its handles.
-use Rattle.channel_world_model.proofs.Words.{arith, ◌≡◌, ◌⊎◌, ◌+◌, ℕ, List, [], ◌∷◌, ◌++◌, length, false, Some, refl, ap, inl, length-append, says_closed, appended, with_messages, live_of, at, with_new, without_name, State, Call, Answer, space_of, shut, drop_one, dropped, strong_handles, with_strong_handles, without_one, Answers, Open, HandleId, HandleKind, Sender, Handle}
-use Rattle.channel_world_model.specs.Names.{borrowed_by}
+use Rattle.std.specs.Prelude.{◌≡◌, ◌⊎◌, ◌+◌, ◌∷◌, ◌++◌}
+use Rattle.channel_world_model.proofs.Words.{arith, ℕ, List, [], length, false, Some, refl, ap, inl, length-append, says_closed, appended, with_messages, live_of, at, with_new, without_name, State, Call, Answer, space_of, shut, drop_one, dropped, strong_handles, with_strong_handles, without_one, Answers, Open, HandleId, HandleKind, Sender, Handle, borrowed_by}
 use Rattle.channel_world_model.proofs.Lacking.{found_first}
 use Rattle.channel_world_model.proofs.Shapes.{Shape, shape_of}
 use Rattle.channel_world_model.proofs.Shapes as shape

@@ -1,9 +1,9 @@
 -- What stands under names in the kit's list of recent use.
-use Rattle.channel_world_model.proofs.Words.{arith, ◌≡◌, ℕ, ◌-◌, ◌^◌, ◌<◌, ◌≤◌, nat_eq, List, [], ◌∷◌, map, length, true, false, Option, None, Some, is_some, refl, sym, ap, ◌∙◌, inl, inr, IfNone, lookup, lookup_entry, set_value, take_all, option_map, option_map_or, Directory, at, is_taken, without_name}
+use Rattle.channel_world_model.proofs.Words.{arith, ℕ, nat_eq, List, [], map, length, true, false, Option, None, Some, is_some, refl, sym, ap, ◌∙◌, inl, inr, lookup, lookup_entry, set_value, take_all, option_map, option_map_or, Directory, at, is_taken, without_name, decided}
+use Rattle.std.specs.Prelude.{◌≡◌, ◌-◌, ◌^◌, ◌<◌, ◌≤◌, ◌∷◌, IfNone}
 use Rattle.std.proofs.lemmas.Map.Made.{lookup-map_values}
 use Rattle.std.proofs.lemmas.Option.{slice_get_past}
 use Rattle.lru.specs.LruCache.{LruCache, put_entries, displaced}
-use Rattle.channel_world_model.proofs.WaiterLemmas.{decided}
 
 module _ {X : Type 0} (name : ℕ) where
   -- nothing is set where nothing stands

@@ -1,10 +1,8 @@
 -- That counts count handles, and what an upgrade gives.
-use Rattle.channel_world_model.proofs.Words.{arith, ◌≡◌, ◌⊎◌, ◌≤◌, ◌<◌, ◌+◌, ◌-◌, ◌^◌, ◌==◌, ℕ, zero, suc, nat_lt, List, [], ◌∷◌, Bool, true, false, ◌||◌, cond, if◌then◌else◌, Option, None, Some, refl, sym, ap, subst, ◌∙◌, inl, inr, nat_tests, Answer, replying, strong_handles, strong_of, with_strong_handles, without_one, shut, spent, upgrade_answer, upgrade_to, one_more, ModelChannel, HandlesAreCounted, UpgradesAsOpen, live_of, Directory, at, with_new, without_name, are_alike, MayBeDone, Runs, State, start, Call, Reply, Handle, HandleId, HandleKind, Sender, Receiver, WeakSender, WeakReceiver, WorldRefusal, Done}
-use Rattle.channel_world_model.specs.declared.call.Call.TheVariants as call
-use Rattle.channel_calls.specs.declared.reply.Reply.TheVariants as reply
+use Rattle.std.specs.Prelude.{◌≡◌, ◌⊎◌, ◌≤◌, ◌<◌, ◌+◌, ◌-◌, ◌^◌, ◌==◌, ◌∷◌, ◌||◌, if◌then◌else◌}
+use Rattle.channel_world_model.proofs.Words.{arith, ℕ, zero, suc, nat_lt, List, [], Bool, true, false, cond, Option, None, Some, refl, sym, ap, subst, ◌∙◌, inl, inr, nat_tests, Answer, replying, strong_handles, strong_of, with_strong_handles, without_one, shut, spent, upgrade_answer, upgrade_to, one_more, ModelChannel, HandlesAreCounted, UpgradesAsOpen, live_of, Directory, at, with_new, without_name, are_alike, MayBeDone, Runs, State, start, Call, Reply, Handle, HandleId, HandleKind, Sender, Receiver, WeakSender, WeakReceiver, WorldRefusal, Done, decided}
 use Rattle.channel_world_model.proofs.Deeds.{Deed, stays, grows, holds, shuts, adds, drops, deed_of}
 use Rattle.channel_world_model.proofs.Live.{gone_less}
-use Rattle.channel_world_model.proofs.WaiterLemmas.{decided}
 
 pub more_than_one : (n : ℕ) → (n == 1) ≡ false → 1 ≤ n → 1 ≤ n - 1
 more_than_one zero t h = absurd (omega (arith, h))
@@ -143,7 +141,7 @@ module _ {T : Type 0} where
 
   -- one more handle is made, or there are too many
   one_more_says : (s : State T) (new : HandleId) (kind : HandleKind)
-      → ((one_more s new kind).reply ≡ reply.Made) ⊎ (((one_more s new kind).reply ≡ reply.TooMany) × (2 ^ 63 - 1 < strong_handles kind s.channel))
+      → ((one_more s new kind).reply ≡ Reply.Made) ⊎ (((one_more s new kind).reply ≡ Reply.TooMany) × (2 ^ 63 - 1 < strong_handles kind s.channel))
   one_more_says s new kind = elim (decided (nat_lt (2 ^ 63 - 1) (strong_handles kind s.channel))) [
     | inl t ↦ inr (rw t refl, grind (arith, nat_tests))
     | inr t ↦ inl (rw t refl)
@@ -153,13 +151,13 @@ module _ {T : Type 0} where
       → UpgradesAsOpen s weak (upgrade_to s new (strong_of h.kind)).reply
   upgrade_says s weak new h k there = elim (decided s.channel.closed) [
     | inl t ↦
-        let shut_is : (upgrade_to s new (strong_of h.kind)).reply ≡ reply.NotMade = rw t refl in
+        let shut_is : (upgrade_to s new (strong_of h.kind)).reply ≡ Reply.NotMade = rw t refl in
         record { closed = λ e. shut_is; opened = λ e. cc (t, e); limit = λ e. cc (shut_is, e) }
     | inr t ↦
         let off : (s.channel.closed || (strong_handles (strong_of h.kind) s.channel == 0)) ≡ false =
         ap (λ (b : Bool). b || (strong_handles (strong_of h.kind) s.channel == 0)) t ∙ strong_lives s k t h.kind in
         let goes_on : (upgrade_to s new (strong_of h.kind)).reply ≡ (one_more s new (strong_of h.kind)).reply =
-        ap (λ (b : Bool). (if b then replying (spent s new) reply.NotMade else one_more s new (strong_of h.kind)).reply) off in
+        ap (λ (b : Bool). (if b then replying (spent s new) Reply.NotMade else one_more s new (strong_of h.kind)).reply) off in
         elim (one_more_says s new (strong_of h.kind)) [
           | inl m ↦ record { closed = λ e. cc (t, e); opened = λ e. inl (goes_on ∙ m); limit = λ e. cc (goes_on, m, e) }
           | inr m ↦ record { closed = λ e. cc (t, e); opened = λ e. inr (goes_on ∙ m.0); limit = λ e. rw there m.1 }
@@ -167,7 +165,7 @@ module _ {T : Type 0} where
   ]
 
   pub upgraded : (capacity : Option ℕ) (calls rest : List (Call T)) (done : List (Done T)) (why : Option WorldRefusal) (world after : State T)
-      (weak new : HandleId) (d : Done T) → Runs (start capacity) calls done why rest world → MayBeDone world (call.Upgrade weak new) d after → UpgradesAsOpen world weak d.reply
+      (weak new : HandleId) (d : Done T) → Runs (start capacity) calls done why rest world → MayBeDone world (Call.Upgrade weak new) d after → UpgradesAsOpen world weak d.reply
   upgraded capacity calls rest done why world after weak new d r (ok, inr (lack, e)) = cc e
   upgraded capacity calls rest done why world after weak new d r (ok, inl e) =
       subst (λ (x : Reply T). UpgradesAsOpen world weak x) (sym (ap (λ (a : Answer T). a.reply) e)) (found (at weak.0 world.names.handles) refl) where

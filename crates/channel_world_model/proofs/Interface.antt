@@ -1,5 +1,6 @@
 -- What a layer above may use: nobody is asleep at the start, and no call that is begun leaves anybody asleep.
-use Rattle.channel_world_model.proofs.Words.{◌≡◌, ℕ, Option, None, Answer, AwakeIn, refusal, Answers, State, start, Call}
+use Rattle.std.specs.Prelude.{◌≡◌}
+use Rattle.channel_world_model.proofs.Words.{ℕ, Option, None, Answer, AwakeIn, refusal, Answers, State, start, Call}
 use Rattle.channel_world_model.proofs.LawSteps.{opened_kept, still_awake}
 
 pub start_awake : (T : Type 0) (capacity : Option ℕ) → AwakeIn (start {T = T} capacity)

@@ -1,19 +1,14 @@
 -- Each call, one at a time, keeps the accounts of messages and leaves nobody asleep.
-use Rattle.channel_world_model.proofs.Words.{with_messages, arith, ◌≡◌, ◌⊎◌, ◌≤◌, ◌+◌, ◌-◌, ◌==◌, ℕ, nat_eq, List, [], ◌∷◌, ◌++◌, length, Bool, true, false, ◌&&◌, not, if◌then◌else◌, Option, None, Some, IsSome, is_some, Ok, refl, sym, ap, subst, ◌∙◌, inl, inr, append-nil, append_assoc, length-append, nat_eq_equiv, option_map_or, option_to_list, lookup, set_value, ModelChannel, Names, Directory, Operation, at, is_taken, with_new_operation, Waiting, nobody, is_among, untold, after_news, gone, left_after, standing, told_after, with_names, State, start, with_channel, with_waiting, Call, Reply, Answer, replying, after_telling, after_leaving, first, try_send_answer, force_send_answer, displacing, send_poll_answer, try_recv_answer, recv_poll_answer, next_answer, shut, given_up, new_answer, drop_one, dropped, made, spent, strong_handles, with_strong_handles, news_without_one, Answers, refusal, removed_by, brought_by_call, sends_after, removed, accepted, line_of_operation, line_at, NobodyIsLeft, Awake, AwakeIn, times_in, Runs, poll_of, Done, WorldRefusal, WaitList, Sends, Receives, Streams, Nothing, Message, Room, Closing, Open, Shut, Waiter, Op, Stream, OpId, HandleId, HandleKind, Sender, Receiver, NameTaken, Ready, Pending}
+use Rattle.std.specs.Prelude.{◌≡◌, ◌⊎◌, ◌≤◌, ◌+◌, ◌-◌, ◌==◌, ◌∷◌, ◌++◌, ◌&&◌, if◌then◌else◌}
+use Rattle.channel_world_model.proofs.Words.{with_messages, arith, ℕ, nat_eq, List, [], length, Bool, true, false, not, Option, None, Some, IsSome, is_some, Ok, refl, sym, ap, subst, ◌∙◌, inl, inr, append-nil, append_assoc, length-append, nat_eq_equiv, option_map_or, option_to_list, lookup, set_value, ModelChannel, Names, Directory, Operation, at, is_taken, with_new_operation, Waiting, nobody, is_among, untold, after_news, gone, left_after, standing, told_after, with_names, State, start, with_channel, with_waiting, Call, Reply, Answer, replying, after_telling, after_leaving, first, try_send_answer, force_send_answer, displacing, send_poll_answer, try_recv_answer, recv_poll_answer, next_answer, shut, given_up, new_answer, drop_one, dropped, made, spent, strong_handles, with_strong_handles, news_without_one, Answers, refusal, removed_by, brought_by_call, sends_after, removed, accepted, line_of_operation, line_at, NobodyIsLeft, Awake, AwakeIn, times_in, Runs, poll_of, Done, WorldRefusal, WaitList, Sends, Receives, Streams, Nothing, Message, Room, Closing, Open, Shut, Waiter, Op, Stream, OpId, HandleId, HandleKind, Sender, Receiver, NameTaken, Ready, Pending, option_or, telling_rooms, waits_in, own_message, decided}
 use Rattle.std.specs.Bool.{then_some}
-use Rattle.std.specs.Option.{option_or}
 use Rattle.std.proofs.lemmas.Map.{lookup-set_value}
 pub use Rattle.std.proofs.lemmas.Bool.{cond-false as chosen_no, cond-true as chosen_yes}
-use Rattle.channel_world_model.specs.declared.call.Call.TheVariants as call
-use Rattle.channel_calls.specs.declared.reply.Reply.TheVariants as reply
-use Rattle.channel_world_model.specs.Answer.{telling_rooms}
-use Rattle.channel_world_model.specs.Names.{waits_in, own_message}
 use Rattle.channel_world_model.proofs.Shapes.{Shape, Quiet, brings, no_message, shape_of}
 use Rattle.channel_world_model.proofs.Shapes as shape
 use Rattle.channel_world_model.proofs.Lacking.{found_first}
-use Rattle.channel_world_model.proofs.WaiterLemmas.{decided, same_number}
+use Rattle.channel_world_model.proofs.WaiterLemmas.{same_number}
 use Rattle.channel_world_model.proofs.Awake.{awake_leave, awake_leave_spent, awake_nothing, awake_message, awake_room, awake_rooms, awake_closing, awake_gone, awake_without_stream, awake_standing, Idle, awake_renamed, stands, left_nowhere}
-use Rattle.channel_world_model.specs.declared.name.Operation.TheVariants as live
 
 pub no_line : {A : Type 0} (o : Option WaitList) → IsSome o → o ≡ None → A
 no_line None h e = cc h
@@ -29,7 +24,7 @@ second_reason x b why e = cc e
 module _ {T : Type 0} where
   -- the message of each unfinished send is that of the call that made it
   abbrev pub Keeps : List (ℕ × T) → Names T → Type 0
-  Keeps sends names = (n : ℕ) (h : HandleId) (m : T) → at n names.operations ≡ Some (live.Send h (Some m)) → lookup (nat_eq n) sends ≡ Some m
+  Keeps sends names = (n : ℕ) (h : HandleId) (m : T) → at n names.operations ≡ Some (Operation.Send h (Some m)) → lookup (nat_eq n) sends ≡ Some m
 
   -- what an answer has to keep
   pub record Good (sends : List (ℕ × T)) (s : State T) (c : Call T) (a : Answer T) : Type 0 where
@@ -72,11 +67,11 @@ module _ {T : Type 0} where
     ]
 
   keeps_changed : (op : OpId) (v : Option (Operation T)) (x : Operation T) (sends : List (ℕ × T)) (names names' : Names T)
-      → ((h : HandleId) (m : T) → v ≡ Some (live.Send h (Some m)) → ⊥)
+      → ((h : HandleId) (m : T) → v ≡ Some (Operation.Send h (Some m)) → ⊥)
       → at op.0 names.operations ≡ Some x → names'.operations ≡ set_value (nat_eq op.0) names.operations v
       → Keeps sends names → Keeps sends names'
   keeps_changed op v x sends names names' spent there set keeps n h m e =
-      let now : at n (set_value (nat_eq op.0) names.operations v) ≡ Some (live.Send h (Some m)) = subst (λ (d : Directory (Operation T)). at n d ≡ Some (live.Send h (Some m))) set e in
+      let now : at n (set_value (nat_eq op.0) names.operations v) ≡ Some (Operation.Send h (Some m)) = subst (λ (d : Directory (Operation T)). at n d ≡ Some (Operation.Send h (Some m))) set e in
       elim (decided (nat_eq op.0 n)) [
         | inl t ↦ absurd (spent h m (sym (set_here op.0 n v names.operations (found_name op.0 names.operations x there) t) ∙ now))
         | inr t ↦ keeps n h m (sym (set_elsewhere op.0 n v names.operations (found_name op.0 names.operations x there) t) ∙ now)
@@ -103,16 +98,16 @@ module _ {T : Type 0} where
 
   -- an operation waits in its own line, and a finished send in none
   own_line : (x : Operation T) → (line_of_operation (Some x) ≡ Some (waits_in x)) ⊎ (line_of_operation (Some x) ≡ None)
-  own_line (live.Send handle None) = inr refl
-  own_line (live.Send handle (Some m)) = inl refl
-  own_line (live.Receive handle) = inl refl
-  own_line (live.Closing handle) = inl refl
+  own_line (Operation.Send handle None) = inr refl
+  own_line (Operation.Send handle (Some m)) = inl refl
+  own_line (Operation.Receive handle) = inl refl
+  own_line (Operation.Closing handle) = inl refl
 
   -- a reply that says nothing of it brought nothing in
   none_brought : (sends : List (ℕ × T)) (c : Call T) (r : Reply T) → brings r ≡ false → brought_by_call sends c r ≡ []
-  none_brought sends (call.TrySend sender m) (reply.TrySend (Ok u)) e = cc e
-  none_brought sends (call.ForceSend sender m) (reply.ForceSend (Ok d)) e = cc e
-  none_brought sends (call.Poll op) (reply.SendPoll (Ready (Ok u))) e = cc e
+  none_brought sends (Call.TrySend sender m) (Reply.TrySend (Ok u)) e = cc e
+  none_brought sends (Call.ForceSend sender m) (Reply.ForceSend (Ok d)) e = cc e
+  none_brought sends (Call.Poll op) (Reply.SendPoll (Ready (Ok u))) e = cc e
   none_brought sends c r e = refl
 
   module _ (sends : List (ℕ × T)) (s : State T) (awake : AwakeIn s) (keeps : Keeps sends s.names) where
@@ -137,7 +132,7 @@ module _ {T : Type 0} where
     good c a w account ops same = record {
       awake = w;
       account = account;
-      keeps = λ n h m e. subst (λ (ss : List (ℕ × T)). lookup (nat_eq n) ss ≡ Some m) (sym same) (keeps n h m (subst (λ (d : Directory (Operation T)). at n d ≡ Some (live.Send h (Some m))) ops e));
+      keeps = λ n h m e. subst (λ (ss : List (ℕ × T)). lookup (nat_eq n) ss ≡ Some m) (sym same) (keeps n h m (subst (λ (d : Directory (Operation T)). at n d ≡ Some (Operation.Send h (Some m))) ops e));
     }
 
     -- nor the channel
@@ -150,7 +145,7 @@ module _ {T : Type 0} where
 
     -- one that changes an operation, which stands in no line after it
     changed : (c : Call T) (a : Answer T) (op : OpId) (v : Option (Operation T)) (x : Operation T) → at op.0 s.names.operations ≡ Some x
-        → ((h : HandleId) (m : T) → v ≡ Some (live.Send h (Some m)) → ⊥) → a.after.names.operations ≡ set_value (nat_eq op.0) s.names.operations v
+        → ((h : HandleId) (m : T) → v ≡ Some (Operation.Send h (Some m)) → ⊥) → a.after.names.operations ≡ set_value (nat_eq op.0) s.names.operations v
         → times_in (Op op) a.after.waiting ≡ 0 → Awake (line_at s.names) a.after.channel.capacity a.after.channel.closed (length a.after.channel.messages) a.after.waiting
         → removed_by a.reply ++ a.after.channel.messages ≡ s.channel.messages ++ brought_by_call sends c a.reply → sends_after sends c ≡ sends → Good sends s c a
     changed c a op v x there spent set nowhere w account same = record {
@@ -212,7 +207,7 @@ module _ {T : Type 0} where
         | inr t ↦ rw t refl
       ]
 
-    new_keeps : (op : OpId) (x : Operation T) (ss : List (ℕ × T)) → ((h : HandleId) (m : T) → Some x ≡ Some (live.Send h (Some m)) → lookup (nat_eq op.0) ss ≡ Some m)
+    new_keeps : (op : OpId) (x : Operation T) (ss : List (ℕ × T)) → ((h : HandleId) (m : T) → Some x ≡ Some (Operation.Send h (Some m)) → lookup (nat_eq op.0) ss ≡ Some m)
         → ((n : ℕ) → nat_eq n op.0 ≡ false → lookup (nat_eq n) ss ≡ lookup (nat_eq n) sends) → Keeps ss (with_new_operation op x s.names)
     new_keeps op x ss mine others n h m e = elim (decided (nat_eq n op.0)) [
       | inl t ↦
@@ -245,11 +240,11 @@ module _ {T : Type 0} where
     messages_without kind n true = sym (append-nil s.channel.messages)
     messages_without kind n false = sym (append-nil s.channel.messages)
 
-    drop_kind : (handle : HandleId) (kind : HandleKind) → Good sends s (call.Drop handle) (drop_one (dropped s handle) handle kind)
+    drop_kind : (handle : HandleId) (kind : HandleKind) → Good sends s (Call.Drop handle) (drop_one (dropped s handle) handle kind)
     drop_kind handle Sender =
         let n = s.channel.senders - 1 in
         let last = s.channel.senders == 1 in
-        good (call.Drop handle) (drop_one (dropped s handle) handle Sender)
+        good (Call.Drop handle) (drop_one (dropped s handle) handle Sender)
         (awake_handles s.names (dropped s handle).names (without Sender n last).capacity (without Sender n last).closed (length (without Sender n last).messages)
         (after_news (news_without_one Sender s.channel) s.waiting) refl (awake_without Sender n last s.channel.closed refl))
         (messages_without Sender n last) refl refl
@@ -257,101 +252,101 @@ module _ {T : Type 0} where
         let n = s.channel.receivers - 1 in
         let last = s.channel.receivers == 1 in
         let news = news_without_one Receiver s.channel in
-        good (call.Drop handle) (drop_one (dropped s handle) handle Receiver)
+        good (Call.Drop handle) (drop_one (dropped s handle) handle Receiver)
         (awake_handles s.names (dropped s handle).names (without Receiver n last).capacity (without Receiver n last).closed (length (without Receiver n last).messages)
         (left_after news Streams (Stream handle) s.waiting) refl
         (awake_leave (line_at s.names) (without Receiver n last).capacity (without Receiver n last).closed (length (without Receiver n last).messages) Streams (Stream handle)
         (after_news news s.waiting) refl (awake_without Receiver n last s.channel.closed refl)))
         (messages_without Receiver n last) refl refl
-    drop_kind handle kind = still (call.Drop handle) reply.Unit (dropped s handle).names s.waiting [] (refl, refl, refl, λ ss. refl) refl awake
+    drop_kind handle kind = still (Call.Drop handle) Reply.Unit (dropped s handle).names s.waiting [] (refl, refl, refl, λ ss. refl) refl awake
 
-    make_kind : (c : Call T) (new : HandleId) (kind : HandleKind) (n : ℕ) → Quiet c reply.Made
-        → Good sends s c (replying (with_channel (with_strong_handles kind n s.channel) (made s new kind)) reply.Made)
+    make_kind : (c : Call T) (new : HandleId) (kind : HandleKind) (n : ℕ) → Quiet c Reply.Made
+        → Good sends s c (replying (with_channel (with_strong_handles kind n s.channel) (made s new kind)) Reply.Made)
     make_kind c new Sender n h =
-        good c (replying (with_channel (with_strong_handles Sender n s.channel) (made s new Sender)) reply.Made)
+        good c (replying (with_channel (with_strong_handles Sender n s.channel) (made s new Sender)) Reply.Made)
         (awake_handles s.names (made s new Sender).names s.channel.capacity s.channel.closed (length s.channel.messages) s.waiting refl awake)
-        (nothing_moved c reply.Made refl (none_brought sends c reply.Made refl)) refl (h.3 sends)
+        (nothing_moved c Reply.Made refl (none_brought sends c Reply.Made refl)) refl (h.3 sends)
     make_kind c new kind n h =
-        good c (replying (with_channel (with_strong_handles kind n s.channel) (made s new kind)) reply.Made)
+        good c (replying (with_channel (with_strong_handles kind n s.channel) (made s new kind)) Reply.Made)
         (awake_handles s.names (made s new kind).names s.channel.capacity s.channel.closed (length s.channel.messages) s.waiting refl awake)
-        (nothing_moved c reply.Made refl (none_brought sends c reply.Made refl)) refl (h.3 sends)
+        (nothing_moved c Reply.Made refl (none_brought sends c Reply.Made refl)) refl (h.3 sends)
 
     -- ---- every call
 
     -- a new operation has a name of its own
     abbrev Fresh : Call T → Type 0
-    Fresh (call.NewSend op sender msg) = at op.0 s.names.operations ≡ None
-    Fresh (call.NewRecv op receiver) = at op.0 s.names.operations ≡ None
-    Fresh (call.NewClosed op sender) = at op.0 s.names.operations ≡ None
+    Fresh (Call.NewSend op sender msg) = at op.0 s.names.operations ≡ None
+    Fresh (Call.NewRecv op receiver) = at op.0 s.names.operations ≡ None
+    Fresh (Call.NewClosed op sender) = at op.0 s.names.operations ≡ None
     Fresh c = Unit {0}
 
     of_shape : {c : Call T} {a : Answer T} → Shape s c a → Fresh c → Good sends s c a
     of_shape (shape.says c r rests h) f = still c r s.names s.waiting [] h refl awake
-    of_shape (shape.tries sender m e) f = good (call.TrySend sender m) (try_send_answer s m Open) (awake_more m) refl refl refl
-    of_shape (shape.forces sender m room) f = good (call.ForceSend sender m) (force_send_answer s m Open) (awake_more m) refl refl refl
+    of_shape (shape.tries sender m e) f = good (Call.TrySend sender m) (try_send_answer s m Open) (awake_more m) refl refl refl
+    of_shape (shape.forces sender m room) f = good (Call.ForceSend sender m) (force_send_answer s m Open) (awake_more m) refl refl refl
     of_shape (shape.displaces sender m oldest rest e) f =
-        good (call.ForceSend sender m) (displacing s m (oldest ∷ rest))
+        good (Call.ForceSend sender m) (displacing s m (oldest ∷ rest))
         (awake_message (line_at s.names) s.channel.capacity s.channel.closed (length s.channel.messages) (length (rest ++ m ∷ [])) s.waiting
         (omega (arith, one_longer rest m, one_less oldest rest e)) (omega (arith, one_longer rest m, one_less oldest rest e)) awake)
         (ap (λ (xs : List T). xs ++ m ∷ []) (sym e)) refl refl
     of_shape (shape.sends op handle m there e) f =
-        changed (call.Poll op) (send_poll_answer s op handle m Open) op (Some (live.Send handle None)) (live.Send handle (Some m)) there (λ h v q. cc q) refl
+        changed (Call.Poll op) (send_poll_answer s op handle m Open) op (Some (Operation.Send handle None)) (Operation.Send handle (Some m)) there (λ h v q. cc q) refl
         (left_nowhere Sends (Op op) (after_news Message s.waiting))
         (awake_leave (line_at s.names) s.channel.capacity s.channel.closed (length (s.channel.messages ++ m ∷ [])) Sends (Op op) (after_news Message s.waiting) (ap line_of_operation there) (awake_more m))
         (ap (λ (o : Option T). s.channel.messages ++ option_to_list o) (sym (keeps op.0 handle m there))) refl
     of_shape (shape.fails op handle m there) f =
-        changed (call.Poll op) (send_poll_answer s op handle m Shut) op (Some (live.Send handle None)) (live.Send handle (Some m)) there (λ h v q. cc q) refl
+        changed (Call.Poll op) (send_poll_answer s op handle m Shut) op (Some (Operation.Send handle None)) (Operation.Send handle (Some m)) there (λ h v q. cc q) refl
         (left_nowhere Sends (Op op) (after_news Nothing s.waiting)) (awake_left Sends (Op op) (inl (ap line_of_operation there)))
-        (nothing_moved (call.Poll op) (send_poll_answer s op handle m Shut).reply refl refl) refl
-    of_shape (shape.takes receiver m rest e) f = good (call.TryRecv receiver) (try_recv_answer s (first m rest)) (awake_less m rest e) (taken m rest e) refl refl
+        (nothing_moved (Call.Poll op) (send_poll_answer s op handle m Shut).reply refl refl) refl
+    of_shape (shape.takes receiver m rest e) f = good (Call.TryRecv receiver) (try_recv_answer s (first m rest)) (awake_less m rest e) (taken m rest e) refl refl
     of_shape (shape.several receiver limit m ms rest e few) f =
-        good (call.RecvMany receiver limit) (telling_rooms (length (m ∷ ms)) (with_channel (with_messages s.channel rest) s) (reply.RecvMany (Ok (m ∷ ms))))
+        good (Call.RecvMany receiver limit) (telling_rooms (length (m ∷ ms)) (with_channel (with_messages s.channel rest) s) (Reply.RecvMany (Ok (m ∷ ms))))
         (awake_rooms (line_at s.names) s.channel.capacity s.channel.closed (length (m ∷ ms)) (length s.channel.messages) (length rest) s.waiting
         (several_less (m ∷ ms) rest e) awake)
         (e ∙ sym (append-nil s.channel.messages)) refl refl
     of_shape (shape.receives op m rest own e) f =
         let is = found_first s.channel.messages s.channel.closed m rest e in
-        good (call.Poll op) (recv_poll_answer s op (first m rest))
+        good (Call.Poll op) (recv_poll_answer s op (first m rest))
         (awake_leave (line_at s.names) s.channel.capacity s.channel.closed (length rest) Receives (Op op) (after_news Room s.waiting) own (awake_less m rest is)) (taken m rest is) refl refl
     of_shape (shape.streams receiver m rest e) f =
         let is = found_first s.channel.messages s.channel.closed m rest e in
-        good (call.PollNext receiver) (next_answer (with_waiting (gone (Stream receiver) s.waiting) s) receiver (first m rest))
+        good (Call.PollNext receiver) (next_answer (with_waiting (gone (Stream receiver) s.waiting) s) receiver (first m rest))
         (awake_room (line_at s.names) s.channel.capacity s.channel.closed (length s.channel.messages) (length rest) (gone (Stream receiver) s.waiting) (one_less m rest is) (next_left receiver))
         (taken m rest is) refl refl
     of_shape (shape.stands op line r own o i h) f =
-        still (call.Poll op) r s.names (standing line (Op op) s.waiting) [] h refl (awake_stands line (Op op) s.waiting own o i awake)
+        still (Call.Poll op) r s.names (standing line (Op op) s.waiting) [] h refl (awake_stands line (Op op) s.waiting own o i awake)
     of_shape (shape.restands receiver e o) f =
-        still (call.PollNext receiver) (reply.Next Pending) s.names (standing Streams (Stream receiver) (gone (Stream receiver) s.waiting)) [] (refl, refl, refl, λ ss. refl) refl
+        still (Call.PollNext receiver) (Reply.Next Pending) s.names (standing Streams (Stream receiver) (gone (Stream receiver) s.waiting)) [] (refl, refl, refl, λ ss. refl) refl
         (awake_stands Streams (Stream receiver) (gone (Stream receiver) s.waiting) refl o (no_message s.channel.messages e) (next_left receiver))
     of_shape (shape.leaves op line r own h) f =
-        still (call.Poll op) r s.names (left_after Nothing line (Op op) s.waiting) (told_after Nothing line (Op op) s.waiting) h refl (awake_left line (Op op) (inl own))
+        still (Call.Poll op) r s.names (left_after Nothing line (Op op) s.waiting) (told_after Nothing line (Op op) s.waiting) h refl (awake_left line (Op op) (inl own))
     of_shape (shape.refuses op line r own h) f =
-        still (call.PollRefused op) r s.names (left_after Nothing line (Op op) s.waiting) (told_after Nothing line (Op op) s.waiting) h refl (awake_left line (Op op) own)
+        still (Call.PollRefused op) r s.names (left_after Nothing line (Op op) s.waiting) (told_after Nothing line (Op op) s.waiting) h refl (awake_left line (Op op) own)
     of_shape (shape.goes w line r own i h) f =
         still (poll_of w) r s.names (gone w s.waiting) [] h refl (awake_gone (line_at s.names) s.channel.capacity s.channel.closed (length s.channel.messages) line w s.waiting own i awake)
     of_shape (shape.new_send op sender m) f = record {
-      awake = awake_new op (live.Send sender (Some m)) f;
-      account = nothing_moved (call.NewSend op sender m) reply.Made refl refl;
-      keeps = new_keeps op (live.Send sender (Some m)) ((op.0, m) ∷ sends) (λ h m e. rw (nat_eq_equiv.refl op.0) (cc e)) (λ n off. rw off refl);
+      awake = awake_new op (Operation.Send sender (Some m)) f;
+      account = nothing_moved (Call.NewSend op sender m) Reply.Made refl refl;
+      keeps = new_keeps op (Operation.Send sender (Some m)) ((op.0, m) ∷ sends) (λ h m e. rw (nat_eq_equiv.refl op.0) (cc e)) (λ n off. rw off refl);
     }
     of_shape (shape.new_receive op receiver) f = record {
-      awake = awake_new op (live.Receive receiver) f;
-      account = nothing_moved (call.NewRecv op receiver) reply.Made refl refl;
-      keeps = new_keeps op (live.Receive receiver) sends (λ h m e. cc e) (λ n off. refl);
+      awake = awake_new op (Operation.Receive receiver) f;
+      account = nothing_moved (Call.NewRecv op receiver) Reply.Made refl refl;
+      keeps = new_keeps op (Operation.Receive receiver) sends (λ h m e. cc e) (λ n off. refl);
     }
     of_shape (shape.new_closing op sender) f = record {
-      awake = awake_new op (live.Closing sender) f;
-      account = nothing_moved (call.NewClosed op sender) reply.Made refl refl;
-      keeps = new_keeps op (live.Closing sender) sends (λ h m e. cc e) (λ n off. refl);
+      awake = awake_new op (Operation.Closing sender) f;
+      account = nothing_moved (Call.NewClosed op sender) Reply.Made refl refl;
+      keeps = new_keeps op (Operation.Closing sender) sends (λ h m e. cc e) (λ n off. refl);
     }
     of_shape (shape.gives_up op x there) f =
-        changed (call.GiveUp op) (after_leaving Nothing (waits_in x) (Op op) (given_up s op x) (reply.GivenUp (own_message x))) op None x there (λ h v q. cc q) refl
+        changed (Call.GiveUp op) (after_leaving Nothing (waits_in x) (Op op) (given_up s op x) (Reply.GivenUp (own_message x))) op None x there (λ h v q. cc q) refl
         (left_nowhere (waits_in x) (Op op) (after_news Nothing s.waiting)) (awake_left (waits_in x) (Op op) (own_at op x there))
-        (nothing_moved (call.GiveUp op) (reply.GivenUp (own_message x)) refl refl) refl
+        (nothing_moved (Call.GiveUp op) (Reply.GivenUp (own_message x)) refl refl) refl
     of_shape (shape.shuts handle e) f =
-        good (call.Close handle) (after_telling Closing (with_channel (shut s.channel) s) (reply.Closed true))
+        good (Call.Close handle) (after_telling Closing (with_channel (shut s.channel) s) (Reply.Closed true))
         (awake_closing (line_at s.names) s.channel.capacity s.channel.closed (length s.channel.messages) s.waiting awake)
-        (nothing_moved (call.Close handle) (reply.Closed true) refl refl) refl refl
+        (nothing_moved (Call.Close handle) (Reply.Closed true) refl refl) refl refl
     of_shape (shape.drops handle h there) f = drop_kind handle h.kind
     of_shape (shape.makes c new kind mint h) f = make_kind c new kind (strong_handles kind s.channel + 1) h
     of_shape (shape.spends c new r mint h) f = still c r (spent s new).names s.waiting [] h refl awake
@@ -363,9 +358,9 @@ module _ {T : Type 0} where
     free_name op x ok = untaken op.0 s.names.operations (second_reason x _ NameTaken ok)
 
     fresh : (c : Call T) → refusal s c ≡ None → Fresh c
-    fresh (call.NewSend op sender msg) ok = free_name op _ ok
-    fresh (call.NewRecv op receiver) ok = free_name op _ ok
-    fresh (call.NewClosed op sender) ok = free_name op _ ok
+    fresh (Call.NewSend op sender msg) ok = free_name op _ ok
+    fresh (Call.NewRecv op receiver) ok = free_name op _ ok
+    fresh (Call.NewClosed op sender) ok = free_name op _ ok
     fresh c ok = tt
 
     -- an accepted call
@@ -374,8 +369,8 @@ module _ {T : Type 0} where
 
     -- a poll of settling, which nothing refuses
     pub poll_good : (w : Waiter) (a : Answer T) → Answers s (poll_of w) a → Good sends s (poll_of w) a
-    poll_good (Op op) a e = of_shape (shape_of s (call.Poll op) a e) tt
-    poll_good (Stream receiver) a e = of_shape (shape_of s (call.PollNext receiver) a e) tt
+    poll_good (Op op) a e = of_shape (shape_of s (Call.Poll op) a e) tt
+    poll_good (Stream receiver) a e = of_shape (shape_of s (Call.PollNext receiver) a e) tt
 
   -- ---- whole runs
 
@@ -437,33 +432,33 @@ module _ {T : Type 0} where
   -- the unfinished sends, each with its message
   sends_of : Directory (Operation T) → List (ℕ × T)
   sends_of [] = []
-  sends_of ((name, Some (live.Send h (Some m))) ∷ d) = (name, m) ∷ sends_of d
-  sends_of ((name, Some (live.Send h None)) ∷ d) = sends_of d
-  sends_of ((name, Some (live.Receive h)) ∷ d) = sends_of d
-  sends_of ((name, Some (live.Closing h)) ∷ d) = sends_of d
+  sends_of ((name, Some (Operation.Send h (Some m))) ∷ d) = (name, m) ∷ sends_of d
+  sends_of ((name, Some (Operation.Send h None)) ∷ d) = sends_of d
+  sends_of ((name, Some (Operation.Receive h)) ∷ d) = sends_of d
+  sends_of ((name, Some (Operation.Closing h)) ∷ d) = sends_of d
   sends_of ((name, None) ∷ d) = sends_of d
 
-  sends_found : (d : Directory (Operation T)) (n : ℕ) (h : HandleId) (m : T) → at n d ≡ Some (live.Send h (Some m)) → lookup (nat_eq n) (sends_of d) ≡ Some m
+  sends_found : (d : Directory (Operation T)) (n : ℕ) (h : HandleId) (m : T) → at n d ≡ Some (Operation.Send h (Some m)) → lookup (nat_eq n) (sends_of d) ≡ Some m
   unfolding sends_of
   sends_found [] n h m e = cc e
-  sends_found ((name, Some (live.Send g (Some x))) ∷ d) n h m e = elim (decided (nat_eq n name)) [
-    | inl t ↦ let same : Some (live.Send g (Some x)) ≡ Some (live.Send h (Some m)) = rw t at e in rw t (cc same)
+  sends_found ((name, Some (Operation.Send g (Some x))) ∷ d) n h m e = elim (decided (nat_eq n name)) [
+    | inl t ↦ let same : Some (Operation.Send g (Some x)) ≡ Some (Operation.Send h (Some m)) = rw t at e in rw t (cc same)
     | inr t ↦ rw t (sends_found d n h m (rw t at e))
   ]
-  sends_found ((name, Some (live.Send g None)) ∷ d) n h m e = elim (decided (nat_eq n name)) [
-    | inl t ↦ let same : Some (live.Send g None) ≡ Some (live.Send h (Some m)) = rw t at e in cc same
+  sends_found ((name, Some (Operation.Send g None)) ∷ d) n h m e = elim (decided (nat_eq n name)) [
+    | inl t ↦ let same : Some (Operation.Send g None) ≡ Some (Operation.Send h (Some m)) = rw t at e in cc same
     | inr t ↦ sends_found d n h m (rw t at e)
   ]
-  sends_found ((name, Some (live.Receive g)) ∷ d) n h m e = elim (decided (nat_eq n name)) [
-    | inl t ↦ let same : Some (live.Receive g) ≡ Some (live.Send h (Some m)) = rw t at e in cc same
+  sends_found ((name, Some (Operation.Receive g)) ∷ d) n h m e = elim (decided (nat_eq n name)) [
+    | inl t ↦ let same : Some (Operation.Receive g) ≡ Some (Operation.Send h (Some m)) = rw t at e in cc same
     | inr t ↦ sends_found d n h m (rw t at e)
   ]
-  sends_found ((name, Some (live.Closing g)) ∷ d) n h m e = elim (decided (nat_eq n name)) [
-    | inl t ↦ let same : Some (live.Closing g) ≡ Some (live.Send h (Some m)) = rw t at e in cc same
+  sends_found ((name, Some (Operation.Closing g)) ∷ d) n h m e = elim (decided (nat_eq n name)) [
+    | inl t ↦ let same : Some (Operation.Closing g) ≡ Some (Operation.Send h (Some m)) = rw t at e in cc same
     | inr t ↦ sends_found d n h m (rw t at e)
   ]
   sends_found ((name, None) ∷ d) n h m e = elim (decided (nat_eq n name)) [
-    | inl t ↦ let same : None ≡ Some (live.Send h (Some m)) = rw t at e in cc same
+    | inl t ↦ let same : None ≡ Some (Operation.Send h (Some m)) = rw t at e in cc same
     | inr t ↦ sends_found d n h m (rw t at e)
   ]
 

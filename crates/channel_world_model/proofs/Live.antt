@@ -1,6 +1,6 @@
 -- How many handles live, as names are lent, given back and dropped.
-use Rattle.channel_world_model.proofs.Words.{arith, ◌≡◌, ◌+◌, ◌-◌, ℕ, nat_eq, List, [], ◌∷◌, length, Bool, true, false, cond, Option, None, Some, refl, sym, ap, ◌∙◌, inl, inr, filter, option_map_or, is_of, live_of, Directory, at, lent_once_more, used_once_less, with_changed, without_name, are_alike, Handle, HandleId, HandleKind}
-use Rattle.channel_world_model.proofs.WaiterLemmas.{decided}
+use Rattle.std.specs.Prelude.{◌≡◌, ◌+◌, ◌-◌, ◌∷◌}
+use Rattle.channel_world_model.proofs.Words.{arith, ℕ, nat_eq, List, [], length, Bool, true, false, cond, Option, None, Some, refl, sym, ap, ◌∙◌, inl, inr, filter, option_map_or, is_of, live_of, Directory, at, lent_once_more, used_once_less, with_changed, without_name, are_alike, Handle, HandleId, HandleKind, decided}
 
 alike_front : {X : Type 0} (b c : Bool) (e f : X) (ys : List X) → b ≡ c → length (cond b (e ∷ ys) ys) ≡ length (cond c (f ∷ ys) ys)
 alike_front true false e f ys h = cc h

@@ -1,5 +1,6 @@
 -- Runs of calls, one after another.
-use Rattle.channel_world_model.proofs.Words.{nat_tests, arith, ◌≡◌, List, [], ◌∷◌, ◌++◌, Option, Some, None, true, false, nat_lt, length, slice_index_or, refl, sym, subst, append_assoc, append-nil, ◌∙◌, inr, State, refusal, Answers, Runs, Stops, MayStop, Call, Done, WorldRefusal}
+use Rattle.std.specs.Prelude.{◌≡◌, ◌∷◌, ◌++◌}
+use Rattle.channel_world_model.proofs.Words.{nat_tests, arith, List, [], Option, Some, None, true, false, nat_lt, length, slice_index_or, refl, sym, subst, append_assoc, append-nil, ◌∙◌, inr, State, refusal, Answers, Runs, Stops, MayStop, Call, Done, WorldRefusal}
 use Rattle.channel_world_model.specs.declared.refusal.WorldRefusal.TheVariants.{NoMemory}
 
 -- what follows from s and these calls follows, after what is done, from the first state and all calls

@@ -1,8 +1,8 @@
 -- Settling ends: each poll of the oldest woken one brings it nearer, and with w pending it makes no more than w(w+1)/2 polls.
-use Rattle.channel_world_model.proofs.Words.{false_from_ne_true, arith, ◌≡◌, ◌⊎◌, ◌≤◌, ◌+◌, ◌*◌, ℕ, zero, suc, List, [], ◌∷◌, ◌++◌, length, take, drop, Bool, true, false, if◌then◌else◌, not, Some, refl, sym, ap, subst, ◌∙◌, ◌&&◌, inl, inr, append-nil, append_assoc, filter, list_any, filter-append, slice_get, Answer, AwakeIn, Enough, Kind, Placed, times, count_of, free_places, line_at, Waiting, same_waiter, is_among, untold, told_by, after_news, without_waiter, gone, passed_on, left_after, told_after, at_end, standing, is_stream, Answers, Call, poll_of, Settles, SettlesTo, NobodyGoesOn, pending_count, pairs, polls_left, State, Reply, WaitList, Sends, Receives, Streams, Closings, News, Nothing, Message, Room, Closing, NextIn, Waiter, Op, Stream}
+use Rattle.std.specs.Prelude.{◌≡◌, ◌⊎◌, ◌≤◌, ◌+◌, ◌*◌, ◌∷◌, ◌++◌, if◌then◌else◌, ◌&&◌}
+use Rattle.channel_world_model.proofs.Words.{false_from_ne_true, arith, ℕ, zero, suc, List, [], length, take, drop, Bool, true, false, not, Some, refl, sym, ap, subst, ◌∙◌, inl, inr, append-nil, append_assoc, filter, list_any, filter-append, slice_get, Answer, AwakeIn, Enough, Kind, Placed, times, count_of, free_places, line_at, Waiting, same_waiter, is_among, untold, told_by, after_news, without_waiter, gone, passed_on, left_after, told_after, at_end, standing, is_stream, Answers, Call, poll_of, Settles, SettlesTo, NobodyGoesOn, pending_count, pairs, polls_left, State, Reply, WaitList, Sends, Receives, Streams, Closings, News, Nothing, Message, Room, Closing, NextIn, Waiter, Op, Stream, decided}
 use Rattle.std.proofs.Math.Nat.{suc-mul, mul-suc}
-use Rattle.channel_world_model.specs.declared.call.Call.TheVariants as call
-use Rattle.channel_world_model.proofs.WaiterLemmas.{decided, same_refl, none_left, without_absent}
+use Rattle.channel_world_model.proofs.WaiterLemmas.{same_refl, none_left, without_absent}
 use Rattle.channel_world_model.proofs.Counting.{among_counts, count_fewer, count_fewer_one}
 use Rattle.channel_world_model.proofs.Shapes.{Shape, shape_of}
 use Rattle.channel_world_model.proofs.Shapes as shape
@@ -147,15 +147,15 @@ module _ {T : Type 0} where
 
     -- of a poll of one that is woken
     abbrev PolledSo : Call T → Answer T → Type 0
-    PolledSo (call.Poll op) a = is_among (Op op) s.waiting.woken ≡ true → Cases (Op op) s.waiting P → So a
-    PolledSo (call.PollNext receiver) a = is_among (Stream receiver) s.waiting.woken ≡ true → Cases (Stream receiver) s.waiting P → So a
+    PolledSo (Call.Poll op) a = is_among (Op op) s.waiting.woken ≡ true → Cases (Op op) s.waiting P → So a
+    PolledSo (Call.PollNext receiver) a = is_among (Stream receiver) s.waiting.woken ≡ true → Cases (Stream receiver) s.waiting P → So a
     PolledSo c a = Unit {0}
 
     module _ (awake : AwakeIn s) where
       -- who is woken belongs to a line, and does not stand in it
       polled_so : {c : Call T} {a : Answer T} → Shape s c a → PolledSo c a
-      polled_so (shape.says (call.Poll op) r rests h) = λ e c. no_line (line_at s.names (Op op)) (awake.placed.wakes (Op op) e) rests
-      polled_so (shape.says (call.PollNext receiver) r rests h) =
+      polled_so (shape.says (Call.Poll op) r rests h) = λ e c. no_line (line_at s.names (Op op)) (awake.placed.wakes (Op op) e) rests
+      polled_so (shape.says (Call.PollNext receiver) r rests h) =
           λ e c. let off = not_untold (line_at s.names) Streams (Stream receiver) s.waiting awake.placed e in cc (rests, off)
       polled_so (shape.sends op handle m there fits) = λ e c. c.left Message tt Sends
       polled_so (shape.fails op handle m there) = λ e c. c.left Nothing tt Sends
@@ -166,16 +166,16 @@ module _ {T : Type 0} where
       polled_so (shape.leaves op line r own h) = λ e c. c.left Nothing tt line
       polled_so (shape.goes (Op op) line r own i h) = λ e c. c.leaves
       polled_so (shape.goes (Stream receiver) line r own i h) = λ e c. c.leaves
-      polled_so (shape.makes (call.Poll op) new kind mint h) = absurd mint
-      polled_so (shape.makes (call.PollNext receiver) new kind mint h) = absurd mint
-      polled_so (shape.spends (call.Poll op) new r mint h) = absurd mint
-      polled_so (shape.spends (call.PollNext receiver) new r mint h) = absurd mint
+      polled_so (shape.makes (Call.Poll op) new kind mint h) = absurd mint
+      polled_so (shape.makes (Call.PollNext receiver) new kind mint h) = absurd mint
+      polled_so (shape.spends (Call.Poll op) new r mint h) = absurd mint
+      polled_so (shape.spends (Call.PollNext receiver) new r mint h) = absurd mint
       polled_so x = tt
 
       -- however it is answered
       pub poll_cases : (w : Waiter) (a : Answer T) → is_among w s.waiting.woken ≡ true → Answers s (poll_of w) a → Cases w s.waiting P → P a.after.waiting a.woken
-      poll_cases (Op op) a e answers c = polled_so (shape_of s (call.Poll op) a answers) e c
-      poll_cases (Stream receiver) a e answers c = polled_so (shape_of s (call.PollNext receiver) a answers) e c
+      poll_cases (Op op) a e answers c = polled_so (shape_of s (Call.Poll op) a answers) e c
+      poll_cases (Stream receiver) a e answers c = polled_so (shape_of s (Call.PollNext receiver) a answers) e c
 
 pub first_there : (w : Waiter) (ws : List Waiter) → slice_get ws 0 ≡ Some w → is_among w ws ≡ true
 first_there w [] e = cc e

@@ -1,5 +1,6 @@
 -- Names in lists, and names as the keys of entries.
-use Rattle.channel_world_model.proofs.Words.{or_right, arith, ◌≡◌, ℕ, nat_eq, List, [], ◌∷◌, Bool, true, false, ◌||◌, not, cond, Some, refl, sym, ap, subst, inl, inr, AllByRecursion, nat_eq_equiv, nat_tests, keys_of, lookup_entry, remove_entry, Waiting, same_waiter, is_among, without_waiter, untold, gone, Waiter, Op, Stream, WaitList, Sends}
+use Rattle.std.specs.Prelude.{◌≡◌, ◌∷◌, ◌||◌}
+use Rattle.channel_world_model.proofs.Words.{or_right, arith, ℕ, nat_eq, List, [], Bool, true, false, not, cond, Some, refl, sym, ap, subst, inl, inr, AllByRecursion, nat_eq_equiv, nat_tests, keys_of, lookup_entry, remove_entry, Waiting, same_waiter, is_among, without_waiter, untold, gone, Waiter, Op, Stream, WaitList, Sends}
 use Rattle.std.specs.List.{IsDistinct}
 use Rattle.std.specs.Cmp.{IsEquivalence}
 pub use Rattle.std.proofs.lemmas.Bool.{cases_Bool as decided, or_cases as or_true, or_parts as or_false}

@@ -1,21 +1,10 @@
 -- What a call by names asks of its channel.
-use Rattle.std.specs.Prelude.{true, Option, None, Some}
+use Rattle.channel_world_model.specs.Words.{true, Option, None, Some, Call, Sender, Receiver, WeakSender, WeakReceiver, HandleId, OpId, Operation, Waiter, Op, Stream, Handle}
 use Rattle.channel_calls.specs.Asks.{lent}
 use Rattle.channel_calls.specs.declared.ask.ChannelAsk.{ChannelAsk}
-use Rattle.channel_calls.specs.declared.ask.ChannelAsk.TheVariants as ask
 use Rattle.channel_calls.specs.declared.stage.Side.TheVariants.{Senders, Receivers}
 use Rattle.channel_world_model.specs.Names.{Names, at, own_message, waits_in}
 use Rattle.channel_world_model.specs.Answer.{is_finished}
-use Rattle.channel_world_model.specs.declared.call.Call.{Call}
-use Rattle.channel_world_model.specs.declared.call.Call.TheVariants as call
-use Rattle.channel_world_model.specs.declared.name.HandleKind.TheVariants.{Sender, Receiver, WeakSender, WeakReceiver}
-use Rattle.channel_world_model.specs.declared.name.HandleId.{HandleId}
-use Rattle.channel_world_model.specs.declared.name.OpId.{OpId}
-use Rattle.channel_world_model.specs.declared.name.Operation.{Operation}
-use Rattle.channel_world_model.specs.declared.name.Operation.TheVariants as live
-use Rattle.channel_world_model.specs.declared.name.Waiter.{Waiter}
-use Rattle.channel_world_model.specs.declared.name.Waiter.TheVariants.{Op, Stream}
-use Rattle.channel_world_model.specs.declared.name.Handle.{Handle}
 use Rattle.event_listener.specs.declared.key.Key.{Key}
 
 -- the key of the listener that an operation or a stream holds
@@ -37,83 +26,83 @@ stream_of handle (Some h) = elim h.kind [
 module _ {T : Type 0} where
   -- of an operation, which holds this listener or none; a world never asks for one that doesn't live
   abbrev pub poll_asked : Option Key → OpId → Option (Operation T) → ChannelAsk T Waiter
-  poll_asked key op (Some (live.Send handle (Some m))) = ask.PollSend m (lent key) (Op op)
-  poll_asked key op (Some (live.Send handle None)) = ask.PollFinishedSend
-  poll_asked key op (Some (live.Receive handle)) = ask.PollRecv (lent key) (Op op)
-  poll_asked key op (Some (live.Closing handle)) = ask.PollClosed key (Op op)
-  poll_asked key op None = ask.Make
+  poll_asked key op (Some (Operation.Send handle (Some m))) = ChannelAsk.PollSend m (lent key) (Op op)
+  poll_asked key op (Some (Operation.Send handle None)) = ChannelAsk.PollFinishedSend
+  poll_asked key op (Some (Operation.Receive handle)) = ChannelAsk.PollRecv (lent key) (Op op)
+  poll_asked key op (Some (Operation.Closing handle)) = ChannelAsk.PollClosed key (Op op)
+  poll_asked key op None = ChannelAsk.Make
 
   abbrev pub refusal_asked : Option Key → Option (Operation T) → ChannelAsk T Waiter
-  refusal_asked key (Some operation) = ask.RefusePoll (waits_in operation) (own_message operation) key
-  refusal_asked key None = ask.Make
+  refusal_asked key (Some operation) = ChannelAsk.RefusePoll (waits_in operation) (own_message operation) key
+  refusal_asked key None = ChannelAsk.Make
 
   abbrev pub giving_up_asked : Option Key → Option (Operation T) → ChannelAsk T Waiter
-  giving_up_asked key (Some operation) = ask.GiveUp (waits_in operation) (own_message operation) key
-  giving_up_asked key None = ask.Make
+  giving_up_asked key (Some operation) = ChannelAsk.GiveUp (waits_in operation) (own_message operation) key
+  giving_up_asked key None = ChannelAsk.Make
 
   -- of a handle, whose stream holds this listener or none
   abbrev pub drop_asked : Option Key → Option Handle → ChannelAsk T Waiter
-  drop_asked key None = ask.Make
+  drop_asked key None = ChannelAsk.Make
   drop_asked key (Some h) = elim h.kind [
-    | Sender ↦ ask.DropSender
-    | Receiver ↦ ask.DropReceiver key
-    | WeakSender ↦ ask.DropWeak
-    | WeakReceiver ↦ ask.DropWeak
+    | Sender ↦ ChannelAsk.DropSender
+    | Receiver ↦ ChannelAsk.DropReceiver key
+    | WeakSender ↦ ChannelAsk.DropWeak
+    | WeakReceiver ↦ ChannelAsk.DropWeak
   ]
 
   abbrev pub clone_asked : Option Handle → ChannelAsk T Waiter
-  clone_asked None = ask.Make
+  clone_asked None = ChannelAsk.Make
   clone_asked (Some h) = elim h.kind [
-    | Sender ↦ ask.CloneHandle Senders
-    | Receiver ↦ ask.CloneHandle Receivers
-    | WeakSender ↦ ask.Make
-    | WeakReceiver ↦ ask.Make
+    | Sender ↦ ChannelAsk.CloneHandle Senders
+    | Receiver ↦ ChannelAsk.CloneHandle Receivers
+    | WeakSender ↦ ChannelAsk.Make
+    | WeakReceiver ↦ ChannelAsk.Make
   ]
 
   abbrev pub upgrade_asked : Option Handle → ChannelAsk T Waiter
-  upgrade_asked None = ask.Make
+  upgrade_asked None = ChannelAsk.Make
   upgrade_asked (Some h) = elim h.kind [
-    | Sender ↦ ask.Upgrade Senders
-    | Receiver ↦ ask.Upgrade Receivers
-    | WeakSender ↦ ask.Upgrade Senders
-    | WeakReceiver ↦ ask.Upgrade Receivers
+    | Sender ↦ ChannelAsk.Upgrade Senders
+    | Receiver ↦ ChannelAsk.Upgrade Receivers
+    | WeakSender ↦ ChannelAsk.Upgrade Senders
+    | WeakReceiver ↦ ChannelAsk.Upgrade Receivers
   ]
 
   -- what a call that goes through one handle asks; one that makes an operation or a weak handle asks nothing
   abbrev pub plain_asked : Call T → ChannelAsk T Waiter
-  plain_asked (call.StreamIsTerminated receiver) = ask.IsTerminated
-  plain_asked (call.TrySend sender msg) = ask.TrySend msg
-  plain_asked (call.ForceSend sender msg) = ask.ForceSend msg
-  plain_asked (call.TryRecv receiver) = ask.TryRecv
-  plain_asked (call.RecvMany receiver limit) = ask.RecvMany limit
-  plain_asked (call.Close handle) = ask.Close
-  plain_asked (call.IsClosed handle) = ask.IsClosed
-  plain_asked (call.IsEmpty handle) = ask.IsEmpty
-  plain_asked (call.IsFull handle) = ask.IsFull
-  plain_asked (call.Len handle) = ask.Len
-  plain_asked (call.Capacity handle) = ask.Capacity
-  plain_asked (call.SenderCount handle) = ask.HandleCount Senders
-  plain_asked (call.ReceiverCount handle) = ask.HandleCount Receivers
-  plain_asked c = ask.Make
+  plain_asked (Call.StreamIsTerminated receiver) = ChannelAsk.IsTerminated
+  plain_asked (Call.TrySend sender msg) = ChannelAsk.TrySend msg
+  plain_asked (Call.ForceSend sender msg) = ChannelAsk.ForceSend msg
+  plain_asked (Call.TryRecv receiver) = ChannelAsk.TryRecv
+  plain_asked (Call.RecvMany receiver limit) = ChannelAsk.RecvMany limit
+  plain_asked (Call.Close handle) = ChannelAsk.Close
+  plain_asked (Call.IsClosed handle) = ChannelAsk.IsClosed
+  plain_asked (Call.IsEmpty handle) = ChannelAsk.IsEmpty
+  plain_asked (Call.IsFull handle) = ChannelAsk.IsFull
+  plain_asked (Call.Len handle) = ChannelAsk.Len
+  plain_asked (Call.Capacity handle) = ChannelAsk.Capacity
+  plain_asked (Call.SenderCount handle) = ChannelAsk.HandleCount Senders
+  plain_asked (Call.ReceiverCount handle) = ChannelAsk.HandleCount Receivers
+  plain_asked c = ChannelAsk.Make
 
   -- what a call asks of the channel
   abbrev pub asked : KeysHeld → Names T → Call T → ChannelAsk T Waiter
-  asked held names (call.Poll op) = poll_asked (held (Op op)) op (at op.0 names.operations)
-  asked held names (call.PollRefused op) = refusal_asked (held (Op op)) (at op.0 names.operations)
-  asked held names (call.GiveUp op) = giving_up_asked (held (Op op)) (at op.0 names.operations)
-  asked held names (call.SendIsTerminated op) = ask.SendIsTerminated (is_finished (at op.0 names.operations))
-  asked held names (call.PollNext receiver) = ask.PollNext (held (Stream receiver)) (Stream receiver)
-  asked held names (call.Drop handle) = drop_asked (held (Stream handle)) (at handle.0 names.handles)
-  asked held names (call.TryClone handle new) = clone_asked (at handle.0 names.handles)
-  asked held names (call.Upgrade weak new) = upgrade_asked (at weak.0 names.handles)
-  asked held names (call.SameChannel a b) = ask.SameChannel true
+  asked held names (Call.Poll op) = poll_asked (held (Op op)) op (at op.0 names.operations)
+  asked held names (Call.PollRefused op) = refusal_asked (held (Op op)) (at op.0 names.operations)
+  asked held names (Call.GiveUp op) = giving_up_asked (held (Op op)) (at op.0 names.operations)
+  asked held names (Call.SendIsTerminated op) = ChannelAsk.SendIsTerminated (is_finished (at op.0 names.operations))
+  asked held names (Call.PollNext receiver) = ChannelAsk.PollNext (held (Stream receiver)) (Stream receiver)
+  asked held names (Call.Drop handle) = drop_asked (held (Stream handle)) (at handle.0 names.handles)
+  asked held names (Call.TryClone handle new) = clone_asked (at handle.0 names.handles)
+  asked held names (Call.Upgrade weak new) = upgrade_asked (at weak.0 names.handles)
+  asked held names (Call.SameChannel a b) = ChannelAsk.SameChannel true
   asked held names c = plain_asked c
 
   -- the name that keeps the listener that a call leaves, if any does
   abbrev pub keeper_in : Names T → Call T → Option Waiter
-  keeper_in names (call.Poll op) = Some (Op op)
-  keeper_in names (call.PollRefused op) = Some (Op op)
-  keeper_in names (call.GiveUp op) = Some (Op op)
-  keeper_in names (call.PollNext receiver) = Some (Stream receiver)
-  keeper_in names (call.Drop handle) = stream_of handle (at handle.0 names.handles)
+  keeper_in names (Call.Poll op) = Some (Op op)
+  keeper_in names (Call.PollRefused op) = Some (Op op)
+  keeper_in names (Call.GiveUp op) = Some (Op op)
+  keeper_in names (Call.PollNext receiver) = Some (Stream receiver)
+  keeper_in names (Call.Drop handle) = stream_of handle (at handle.0 names.handles)
   keeper_in names c = None

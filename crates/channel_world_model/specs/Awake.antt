@@ -1,12 +1,9 @@
 -- What is true of a world between two calls: which names wait, where, and that none is left asleep.
-use Rattle.std.specs.Prelude.{◌≡◌, ◌⊎◌, ◌≤◌, ◌+◌, ℕ, List, [], length, Bool, true, false, Option, None, Some, IsSome}
-use Rattle.std.specs.List.{filter}
+use Rattle.std.specs.Prelude.{◌≡◌, ◌⊎◌, ◌≤◌, ◌+◌}
+use Rattle.channel_world_model.specs.Words.{ℕ, List, [], length, Bool, true, false, Option, None, Some, IsSome, filter, Waiter, WaitList, Sends, Receives}
 use Rattle.channel_world_model.specs.Lines.{Waiting, same_waiter, is_among, untold}
 use Rattle.channel_world_model.specs.Laws.{count_of, free_places, line_at}
 use Rattle.channel_world_model.specs.State.{State}
-use Rattle.channel_world_model.specs.declared.name.Waiter.{Waiter}
-use Rattle.channel_calls.specs.declared.stage.WaitList.{WaitList}
-use Rattle.channel_calls.specs.declared.stage.WaitList.TheVariants.{Sends, Receives}
 
 -- the line that a pending name belongs to
 abbrev pub Kind : Type 0

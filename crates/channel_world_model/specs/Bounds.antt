@@ -1,16 +1,9 @@
 -- How many messages a channel holds at most, whether it is ever full, and how often it is closed: over all runs of calls, one at a
 -- time.
-use Rattle.std.specs.Prelude.{◌≡◌, ◌≤◌, ◌<◌, ℕ, List, [], ◌∷◌, length, Bool, true, false, Option, None, Some, IfSome, Ok, Err}
-use Rattle.std.specs.List.{filter}
+use Rattle.std.specs.Prelude.{◌≡◌, ◌≤◌, ◌<◌, ◌∷◌}
+use Rattle.channel_world_model.specs.Words.{ℕ, List, [], length, Bool, true, false, Option, None, Some, IfSome, Ok, Err, filter, Call, was_full, Reply, WorldRefusal, Done}
 use Rattle.channel_world_model.specs.Run.{Runs}
 use Rattle.channel_world_model.specs.State.{State, start}
-use Rattle.channel_world_model.specs.declared.call.Call.{Call}
-use Rattle.channel_world_model.specs.declared.call.Call.TheVariants as call
-use Rattle.channel_calls.specs.Errors.{was_full}
-use Rattle.channel_calls.specs.declared.reply.Reply.{Reply}
-use Rattle.channel_calls.specs.declared.reply.Reply.TheVariants as reply
-use Rattle.channel_world_model.specs.declared.refusal.WorldRefusal.{WorldRefusal}
-use Rattle.channel_world_model.specs.declared.run.Done.{Done}
 
 -- The length never passes the capacity; a bounded channel is opened with a capacity of 1 at least.
 abbrev pub LengthIsWithin : Type 0 → Type 0
@@ -21,9 +14,9 @@ LengthIsWithin T =
 
 -- whether a call says that the channel is full: it refused a message for that, displaced one, or was asked
 abbrev pub says_full : {T : Type 0} → Call T → Reply T → Bool
-says_full (call.TrySend sender m) (reply.TrySend (Err e)) = was_full e
-says_full (call.ForceSend sender m) (reply.ForceSend (Ok (Some displaced))) = true
-says_full (call.IsFull handle) (reply.Flag full) = full
+says_full (Call.TrySend sender m) (Reply.TrySend (Err e)) = was_full e
+says_full (Call.ForceSend sender m) (Reply.ForceSend (Ok (Some displaced))) = true
+says_full (Call.IsFull handle) (Reply.Flag full) = full
 says_full c r = false
 
 -- so it is of each call that was done, with its reply
@@ -41,7 +34,7 @@ UnboundedIsNeverFull T =
 
 -- whether it answers that it closed the channel
 abbrev pub says_closed : {T : Type 0} → Reply T → Bool
-says_closed (reply.Closed by_this) = by_this
+says_closed (Reply.Closed by_this) = by_this
 says_closed r = false
 
 -- At most one close answers that it closed the channel.

@@ -1,22 +1,11 @@
 -- What the counts of a channel count, and when an upgrade gives a handle: over all runs of calls, one at a time.
-use Rattle.std.specs.Prelude.{◌≡◌, ◌⊎◌, ◌≤◌, ◌<◌, ◌-◌, ◌^◌, ℕ, List, length, Bool, true, false, Option, None, Some, IfSome}
-use Rattle.std.specs.List.{filter}
+use Rattle.std.specs.Prelude.{◌≡◌, ◌⊎◌, ◌≤◌, ◌<◌, ◌-◌, ◌^◌}
+use Rattle.channel_world_model.specs.Words.{ℕ, List, length, Bool, true, false, Option, None, Some, IfSome, filter, ModelChannel, Call, Reply, Handle, HandleId, HandleKind, Sender, Receiver, WorldRefusal, Done}
 use Rattle.channel_world_model.specs.Answer.{strong_handles, strong_of}
-use Rattle.channel_calls.specs.Model.{ModelChannel}
 use Rattle.channel_world_model.specs.Names.{Directory, at}
 use Rattle.channel_world_model.specs.Refusal.{are_alike}
 use Rattle.channel_world_model.specs.Run.{MayBeDone, Runs}
 use Rattle.channel_world_model.specs.State.{State, start}
-use Rattle.channel_world_model.specs.declared.call.Call.{Call}
-use Rattle.channel_world_model.specs.declared.call.Call.TheVariants as call
-use Rattle.channel_calls.specs.declared.reply.Reply.{Reply}
-use Rattle.channel_calls.specs.declared.reply.Reply.TheVariants as reply
-use Rattle.channel_world_model.specs.declared.name.Handle.{Handle}
-use Rattle.channel_world_model.specs.declared.name.HandleId.{HandleId}
-use Rattle.channel_world_model.specs.declared.name.HandleKind.{HandleKind}
-use Rattle.channel_world_model.specs.declared.name.HandleKind.TheVariants.{Sender, Receiver}
-use Rattle.channel_world_model.specs.declared.refusal.WorldRefusal.{WorldRefusal}
-use Rattle.channel_world_model.specs.declared.run.Done.{Done}
 
 -- ---- counts
 
@@ -47,14 +36,14 @@ CountsAreHandles T =
 -- What an upgrade of this weak handle answers: a handle where the channel is open, and none if it is closed. On an open one
 -- only the limit stands against it: more than half of all numbers of handles of its side.
 pub record UpgradesAsOpen {T : Type 0} (s : State T) (weak : HandleId) (r : Reply T) : Type 0 where
-  pub closed : s.channel.closed ≡ true → r ≡ reply.NotMade
-  pub opened : s.channel.closed ≡ false → (r ≡ reply.Made) ⊎ (r ≡ reply.TooMany)
-  pub limit : r ≡ reply.TooMany → IfSome (at weak.0 s.names.handles) (λ h. 2 ^ 63 - 1 < strong_handles (strong_of h.kind) s.channel)
+  pub closed : s.channel.closed ≡ true → r ≡ Reply.NotMade
+  pub opened : s.channel.closed ≡ false → (r ≡ Reply.Made) ⊎ (r ≡ Reply.TooMany)
+  pub limit : r ≡ Reply.TooMany → IfSome (at weak.0 s.names.handles) (λ h. 2 ^ 63 - 1 < strong_handles (strong_of h.kind) s.channel)
 
 abbrev pub UpgradesWhileOpen : Type 0 → Type 0
 UpgradesWhileOpen T =
     (capacity : Option ℕ) (calls rest : List (Call T)) (done : List (Done T)) (why : Option WorldRefusal) (world after : State T)
     (weak new : HandleId) (upgraded : Done T)
     → Runs (start capacity) calls done why rest world
-    → MayBeDone world (call.Upgrade weak new) upgraded after
+    → MayBeDone world (Call.Upgrade weak new) upgraded after
     → UpgradesAsOpen world weak upgraded.reply

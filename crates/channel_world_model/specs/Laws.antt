@@ -1,47 +1,32 @@
 -- Two laws of all runs of calls, one at a time, from a channel that was just opened.
-use Rattle.std.specs.Prelude.{◌≡◌, ◌⊎◌, ◌≤◌, ◌-◌, ℕ, nat_eq, List, [], ◌∷◌, ◌++◌, length, Bool, true, false, Option, None, Some, Ok}
-use Rattle.std.specs.List.{filter}
-use Rattle.std.specs.Map.{lookup}
-use Rattle.std.specs.Option.{option_to_list}
+use Rattle.std.specs.Prelude.{◌≡◌, ◌⊎◌, ◌≤◌, ◌-◌, ◌∷◌, ◌++◌}
+use Rattle.channel_world_model.specs.Words.{ℕ, nat_eq, List, [], length, Bool, true, false, Option, None, Some, Ok, filter, lookup, option_to_list, Call, Reply, Done, WorldRefusal, Waiter, Op, Stream, WaitList, Sends, Receives, Streams, Closings, Ready, Operation}
 use Rattle.channel_world_model.specs.Names.{Names, at}
 use Rattle.channel_world_model.specs.Lines.{untold}
 use Rattle.channel_world_model.specs.State.{State, start}
-use Rattle.channel_world_model.specs.declared.call.Call.{Call}
-use Rattle.channel_world_model.specs.declared.call.Call.TheVariants as call
-use Rattle.channel_calls.specs.declared.reply.Reply.{Reply}
-use Rattle.channel_calls.specs.declared.reply.Reply.TheVariants as reply
 use Rattle.channel_world_model.specs.Run.{Runs}
-use Rattle.channel_world_model.specs.declared.run.Done.{Done}
-use Rattle.channel_world_model.specs.declared.refusal.WorldRefusal.{WorldRefusal}
-use Rattle.channel_world_model.specs.declared.name.Waiter.{Waiter}
-use Rattle.channel_world_model.specs.declared.name.Waiter.TheVariants.{Op, Stream}
-use Rattle.channel_calls.specs.declared.stage.WaitList.{WaitList}
-use Rattle.channel_calls.specs.declared.stage.WaitList.TheVariants.{Sends, Receives, Streams, Closings}
-use Rattle.futures.specs.declared.task.Poll.TheVariants.{Ready}
-use Rattle.channel_world_model.specs.declared.name.Operation.TheVariants as live
-use Rattle.channel_world_model.specs.declared.name.Operation.{Operation}
 
 -- ---- nothing is lost, doubled or reordered
 
 -- what a call took out of the channel: messages that were received, or one that a send displaced
 abbrev pub removed_by : {T : Type 0} → Reply T → List T
-removed_by (reply.TryRecv (Ok m)) = m ∷ []
-removed_by (reply.RecvMany (Ok ms)) = ms
-removed_by (reply.RecvPoll (Ready (Ok m))) = m ∷ []
-removed_by (reply.Next (Ready (Some (Ok m)))) = m ∷ []
-removed_by (reply.ForceSend (Ok (Some m))) = m ∷ []
+removed_by (Reply.TryRecv (Ok m)) = m ∷ []
+removed_by (Reply.RecvMany (Ok ms)) = ms
+removed_by (Reply.RecvPoll (Ready (Ok m))) = m ∷ []
+removed_by (Reply.Next (Ready (Some (Ok m)))) = m ∷ []
+removed_by (Reply.ForceSend (Ok (Some m))) = m ∷ []
 removed_by r = []
 
 -- what a call brought into the channel; `sends` has the message of each polled send under its name
 abbrev pub brought_by_call : {T : Type 0} → List (ℕ × T) → Call T → Reply T → List T
-brought_by_call sends (call.TrySend sender m) (reply.TrySend (Ok u)) = m ∷ []
-brought_by_call sends (call.ForceSend sender m) (reply.ForceSend (Ok d)) = m ∷ []
-brought_by_call sends (call.Poll op) (reply.SendPoll (Ready (Ok u))) = option_to_list (lookup (nat_eq op.0) sends)
+brought_by_call sends (Call.TrySend sender m) (Reply.TrySend (Ok u)) = m ∷ []
+brought_by_call sends (Call.ForceSend sender m) (Reply.ForceSend (Ok d)) = m ∷ []
+brought_by_call sends (Call.Poll op) (Reply.SendPoll (Ready (Ok u))) = option_to_list (lookup (nat_eq op.0) sends)
 brought_by_call sends c r = []
 
 -- the sends that were made, after this call
 abbrev pub sends_after : {T : Type 0} → List (ℕ × T) → Call T → List (ℕ × T)
-sends_after sends (call.NewSend op sender m) = (op.0, m) ∷ sends
+sends_after sends (Call.NewSend op sender m) = (op.0, m) ∷ sends
 sends_after sends c = sends
 
 -- what the calls of a run took out, in order
@@ -66,10 +51,10 @@ NothingIsLost T =
 
 -- the line that an operation belongs to while it is pending; a finished send is never pending
 abbrev pub line_of_operation : {T : Type 0} → Option (Operation T) → Option WaitList
-line_of_operation (Some (live.Send handle (Some m))) = Some Sends
-line_of_operation (Some (live.Send handle None)) = None
-line_of_operation (Some (live.Receive handle)) = Some Receives
-line_of_operation (Some (live.Closing handle)) = Some Closings
+line_of_operation (Some (Operation.Send handle (Some m))) = Some Sends
+line_of_operation (Some (Operation.Send handle None)) = None
+line_of_operation (Some (Operation.Receive handle)) = Some Receives
+line_of_operation (Some (Operation.Closing handle)) = Some Closings
 line_of_operation None = None
 
 abbrev pub line_at : {T : Type 0} → Names T → Waiter → Option WaitList

@@ -1,20 +1,10 @@
 -- In which order messages leave, and what becomes of those that are refused: calls made one at a time.
-use Rattle.std.specs.Prelude.{◌≡◌, ◌<◌, ℕ, List, [], length, Option, None, Some, Err, slice_get}
+use Rattle.std.specs.Prelude.{◌≡◌, ◌<◌}
+use Rattle.channel_world_model.specs.Words.{ℕ, List, [], length, Option, None, Some, Err, slice_get, Call, OpId, Operation, unsent, handed_back, try_handed_back, Reply, WorldRefusal, Done, Ready, Pending, Refused}
 use Rattle.channel_world_model.specs.Laws.{removed, accepted}
 use Rattle.channel_world_model.specs.Names.{at, own_message}
 use Rattle.channel_world_model.specs.Run.{MayBeDone, Runs}
 use Rattle.channel_world_model.specs.State.{State, start}
-use Rattle.channel_world_model.specs.declared.call.Call.{Call}
-use Rattle.channel_world_model.specs.declared.call.Call.TheVariants as call
-use Rattle.channel_world_model.specs.declared.name.OpId.{OpId}
-use Rattle.channel_world_model.specs.declared.name.Operation.{Operation}
-use Rattle.channel_calls.specs.Errors.{unsent, handed_back, try_handed_back}
-use Rattle.channel_calls.specs.declared.error.Refused.TheVariants as refused
-use Rattle.channel_calls.specs.declared.reply.Reply.{Reply}
-use Rattle.channel_calls.specs.declared.reply.Reply.TheVariants as reply
-use Rattle.channel_world_model.specs.declared.refusal.WorldRefusal.{WorldRefusal}
-use Rattle.channel_world_model.specs.declared.run.Done.{Done}
-use Rattle.futures.specs.declared.task.Poll.TheVariants.{Ready, Pending}
 
 -- ---- order
 
@@ -39,14 +29,14 @@ unsent_at op s = unsent_in (at op.0 s.names.operations)
 -- If a send was refused, or waits, the channel is as it was, and the message is returned by the answer or stays with the
 -- send's operation.
 abbrev pub RefusesWhole : {T : Type 0} → State T → Call T → Reply T → State T → Type 0
-RefusesWhole s (call.TrySend sender m) (reply.TrySend (Err e)) t = (try_handed_back e ≡ m) × (t.channel ≡ s.channel)
-RefusesWhole s (call.ForceSend sender m) (reply.ForceSend (Err e)) t = (handed_back e ≡ m) × (t.channel ≡ s.channel)
-RefusesWhole s (call.Poll op) (reply.SendPoll (Ready (Err (refused.Plain e)))) t =
+RefusesWhole s (Call.TrySend sender m) (Reply.TrySend (Err e)) t = (try_handed_back e ≡ m) × (t.channel ≡ s.channel)
+RefusesWhole s (Call.ForceSend sender m) (Reply.ForceSend (Err e)) t = (handed_back e ≡ m) × (t.channel ≡ s.channel)
+RefusesWhole s (Call.Poll op) (Reply.SendPoll (Ready (Err (Refused.Plain e)))) t =
     (unsent_at op s ≡ Some (unsent e)) × (unsent_at op t ≡ None) × (t.channel ≡ s.channel)
-RefusesWhole s (call.Poll op) (reply.SendPoll (Ready (Err (refused.NoMemory u)))) t = (unsent_at op t ≡ unsent_at op s) × (t.channel ≡ s.channel)
-RefusesWhole s (call.Poll op) (reply.SendPoll (Ready (Err (refused.SerialsUsedUp u)))) t = (unsent_at op t ≡ unsent_at op s) × (t.channel ≡ s.channel)
-RefusesWhole s (call.Poll op) (reply.SendPoll Pending) t = (unsent_at op t ≡ unsent_at op s) × (t.channel ≡ s.channel)
-RefusesWhole s (call.PollRefused op) (reply.SendPoll r) t = (unsent_at op t ≡ unsent_at op s) × (t.channel ≡ s.channel)
+RefusesWhole s (Call.Poll op) (Reply.SendPoll (Ready (Err (Refused.NoMemory u)))) t = (unsent_at op t ≡ unsent_at op s) × (t.channel ≡ s.channel)
+RefusesWhole s (Call.Poll op) (Reply.SendPoll (Ready (Err (Refused.SerialsUsedUp u)))) t = (unsent_at op t ≡ unsent_at op s) × (t.channel ≡ s.channel)
+RefusesWhole s (Call.Poll op) (Reply.SendPoll Pending) t = (unsent_at op t ≡ unsent_at op s) × (t.channel ≡ s.channel)
+RefusesWhole s (Call.PollRefused op) (Reply.SendPoll r) t = (unsent_at op t ≡ unsent_at op s) × (t.channel ≡ s.channel)
 RefusesWhole s c r t = Unit {0}
 
 -- So it is of every call, in whatever state it is made.

@@ -1,12 +1,6 @@
 -- Which names wait, in four lines, and which of them were told.
-use Rattle.std.specs.Prelude.{ℕ, zero, suc, ◌==◌, ◌&&◌, List, [], ◌∷◌, ◌++◌, take, drop, Bool, true, false, not, if◌then◌else◌}
-use Rattle.std.specs.List.{list_any, filter}
-use Rattle.channel_world_model.specs.declared.name.Waiter.{Waiter}
-use Rattle.channel_world_model.specs.declared.name.Waiter.TheVariants.{Op, Stream}
-use Rattle.channel_calls.specs.declared.stage.WaitList.{WaitList}
-use Rattle.channel_calls.specs.declared.stage.WaitList.TheVariants.{Sends, Receives, Streams, Closings}
-use Rattle.channel_world_model.specs.declared.news.News.{News}
-use Rattle.channel_world_model.specs.declared.news.News.TheVariants.{Nothing, Message, Room, Closing, NextIn}
+use Rattle.std.specs.Prelude.{◌==◌, ◌&&◌, ◌∷◌, ◌++◌, if◌then◌else◌}
+use Rattle.channel_world_model.specs.Words.{ℕ, zero, suc, List, [], take, drop, Bool, true, false, not, list_any, filter, Waiter, Op, Stream, WaitList, Sends, Receives, Streams, Closings, News, Nothing, Message, Room, Closing, NextIn}
 
 -- The untold of each line in order of arrival; and the told of all lines in the order in which they were woken. A told
 -- one is a pending one that was woken, so the told of a line are those of `woken` that belong to it, and they stand in

@@ -1,16 +1,6 @@
 -- The names of handles and operations: which were ever taken, which live, what each is and what it borrows.
-use Rattle.std.specs.Prelude.{ℕ, ◌+◌, ◌-◌, List, ◌∷◌, nat_eq, Bool, Option, None, Some, is_some}
-use Rattle.std.specs.Option.{option_map_or}
-use Rattle.std.specs.Map.{lookup, set_value}
-use Rattle.channel_world_model.specs.declared.name.HandleId.{HandleId}
-use Rattle.channel_world_model.specs.declared.name.OpId.{OpId}
-use Rattle.channel_world_model.specs.declared.name.Handle.{Handle}
-use Rattle.channel_world_model.specs.declared.name.Operation.{Operation}
-use Rattle.channel_world_model.specs.declared.name.Operation.TheVariants as live
-use Rattle.channel_world_model.specs.declared.name.OperationKind.{OperationKind}
-use Rattle.channel_world_model.specs.declared.name.OperationKind.TheVariants as kind
-use Rattle.channel_calls.specs.declared.stage.WaitList.{WaitList}
-use Rattle.channel_calls.specs.declared.stage.WaitList.TheVariants.{Sends, Receives, Closings}
+use Rattle.std.specs.Prelude.{◌+◌, ◌-◌, ◌∷◌}
+use Rattle.channel_world_model.specs.Words.{ℕ, List, nat_eq, Bool, Option, None, Some, is_some, option_map_or, lookup, set_value, HandleId, OpId, Handle, Operation, OperationKind, WaitList, Sends, Receives, Closings}
 
 -- The names of one sort that were ever taken, the latest first: each with what lives under it, or with None where that
 -- lives no more.
@@ -45,33 +35,33 @@ without_name name directory = set_value (nat_eq name) directory None
 
 -- the handle that it borrows
 abbrev pub borrowed_by : {T : Type 0} → Operation T → HandleId
-borrowed_by (live.Send handle message) = handle
-borrowed_by (live.Receive handle) = handle
-borrowed_by (live.Closing handle) = handle
+borrowed_by (Operation.Send handle message) = handle
+borrowed_by (Operation.Receive handle) = handle
+borrowed_by (Operation.Closing handle) = handle
 
 -- the message of an unfinished send
 abbrev pub own_message : {T : Type 0} → Operation T → Option T
-own_message (live.Send handle message) = message
-own_message (live.Receive handle) = None
-own_message (live.Closing handle) = None
+own_message (Operation.Send handle message) = message
+own_message (Operation.Receive handle) = None
+own_message (Operation.Closing handle) = None
 
 -- the same, where it is a send with this message, or with none
 abbrev pub with_message : {T : Type 0} → Option T → Operation T → Operation T
-with_message message (live.Send handle before) = live.Send handle message
-with_message message (live.Receive handle) = live.Receive handle
-with_message message (live.Closing handle) = live.Closing handle
+with_message message (Operation.Send handle before) = Operation.Send handle message
+with_message message (Operation.Receive handle) = Operation.Receive handle
+with_message message (Operation.Closing handle) = Operation.Closing handle
 
 -- the line in which it waits
 abbrev pub waits_in : {T : Type 0} → Operation T → WaitList
-waits_in (live.Send handle message) = Sends
-waits_in (live.Receive handle) = Receives
-waits_in (live.Closing handle) = Closings
+waits_in (Operation.Send handle message) = Sends
+waits_in (Operation.Receive handle) = Receives
+waits_in (Operation.Closing handle) = Closings
 
 -- a new one of this kind, which borrows the handle; a send has this message
 abbrev pub new_operation : {T : Type 0} → OperationKind → HandleId → Option T → Operation T
-new_operation kind.Send handle message = live.Send handle message
-new_operation kind.Receive handle message = live.Receive handle
-new_operation kind.Closing handle message = live.Closing handle
+new_operation OperationKind.Send handle message = Operation.Send handle message
+new_operation OperationKind.Receive handle message = Operation.Receive handle
+new_operation OperationKind.Closing handle message = Operation.Closing handle
 
 -- ---- all names
 

@@ -1,28 +1,15 @@
 -- Which calls are refused, and why: the first of five reasons that there is. A name that the call uses is not live; what lives under it is
 -- of the wrong kind; the operation, or the stream, is being polled; a handle that it takes whole is borrowed; its new name was taken
 -- before. Room for memory is another matter: see `Run`.
-use Rattle.std.specs.Prelude.{ℕ, nat_lt, Bool, true, false, not, ◌||◌, Option, None, Some, if◌then◌else◌}
+use Rattle.std.specs.Prelude.{◌||◌, if◌then◌else◌}
+use Rattle.channel_world_model.specs.Words.{ℕ, nat_lt, Bool, true, false, not, Option, None, Some, option_or, Call, Handle, HandleId, HandleKind, Waiter, Op, Stream, Plan, Through, ThroughBoth, Makes, Polls, GivesUp, Asks, Drops, Mints, Strong, Weak, Any, WorldRefusal, UnknownName, WrongKind, OpUnderWay, Borrowed, NameTaken, Operation}
 use Rattle.std.specs.Bool.{then_some}
-use Rattle.std.specs.Option.{option_or}
 use Rattle.channel_world_model.specs.Names.{Names, at, is_taken}
 use Rattle.channel_world_model.specs.Plan.{plan_of}
 use Rattle.channel_world_model.specs.State.{State}
-use Rattle.channel_world_model.specs.declared.call.Call.{Call}
-use Rattle.channel_world_model.specs.declared.name.Handle.{Handle}
-use Rattle.channel_world_model.specs.declared.name.HandleId.{HandleId}
-use Rattle.channel_world_model.specs.declared.name.HandleKind.{HandleKind}
-use Rattle.channel_world_model.specs.declared.name.HandleKind.TheVariants as handle_kind
-use Rattle.channel_world_model.specs.declared.name.Waiter.{Waiter}
-use Rattle.channel_world_model.specs.declared.name.Waiter.TheVariants.{Op, Stream}
-use Rattle.channel_world_model.specs.declared.plan.Plan.{Plan}
-use Rattle.channel_world_model.specs.declared.plan.Plan.TheVariants.{Through, ThroughBoth, Makes, Polls, GivesUp, Asks, Streams, Drops, Mints}
+use Rattle.channel_world_model.specs.declared.plan.Plan.TheVariants.{Streams}
 use Rattle.channel_world_model.specs.declared.plan.Wanted.{Wanted}
-use Rattle.channel_world_model.specs.declared.plan.Wanted.TheVariants.{Sender, Receiver, Strong, Weak, Any}
-use Rattle.channel_world_model.specs.declared.refusal.WorldRefusal.{WorldRefusal}
-use Rattle.channel_world_model.specs.declared.refusal.WorldRefusal.TheVariants.{UnknownName, WrongKind, OpUnderWay, Borrowed, NameTaken}
-use Rattle.channel_world_model.specs.declared.refusal.WorldRefusal.TheVariants as why
-use Rattle.channel_world_model.specs.declared.name.Operation.TheVariants as live
-use Rattle.channel_world_model.specs.declared.name.Operation.{Operation}
+use Rattle.channel_world_model.specs.declared.plan.Wanted.TheVariants.{Sender, Receiver}
 
 -- whose poll is under way, and which handles calls under way use
 pub record UnderWay : Type 0 where
@@ -37,19 +24,19 @@ nobody_under_way = record { polled = λ w. false; used = λ handle. false }
 
 -- whether a handle of this kind is such a one as is wanted
 abbrev pub handle_fits : Wanted → HandleKind → Bool
-handle_fits Sender handle_kind.Sender = true
-handle_fits Receiver handle_kind.Receiver = true
-handle_fits Strong handle_kind.Sender = true
-handle_fits Strong handle_kind.Receiver = true
-handle_fits Weak handle_kind.WeakSender = true
-handle_fits Weak handle_kind.WeakReceiver = true
+handle_fits Sender HandleKind.Sender = true
+handle_fits Receiver HandleKind.Receiver = true
+handle_fits Strong HandleKind.Sender = true
+handle_fits Strong HandleKind.Receiver = true
+handle_fits Weak HandleKind.WeakSender = true
+handle_fits Weak HandleKind.WeakReceiver = true
 handle_fits Any kind = true
 handle_fits wanted kind = false
 
 -- two senders or two receivers
 abbrev pub are_alike : HandleKind → HandleKind → Bool
-are_alike handle_kind.Sender handle_kind.Sender = true
-are_alike handle_kind.Receiver handle_kind.Receiver = true
+are_alike HandleKind.Sender HandleKind.Sender = true
+are_alike HandleKind.Receiver HandleKind.Receiver = true
 are_alike a b = false
 
 -- ---- what a call needs of what lives under a name, if anything does, and the first thing that it lacks
@@ -77,7 +64,7 @@ unfit_operation is_polled (Some operation) = then_some is_polled OpUnderWay
 -- to ask whether a send has finished: that the operation lives, and is a send
 abbrev pub unfit_send : {T : Type 0} → Option (Operation T) → Option WorldRefusal
 unfit_send None = Some UnknownName
-unfit_send (Some (live.Send handle msg)) = None
+unfit_send (Some (Operation.Send handle msg)) = None
 unfit_send (Some operation) = Some WrongKind
 
 -- ---- calls
@@ -113,11 +100,11 @@ refusal s c = refusal_beside nobody_under_way s.names c
 
 -- the number by which a script names a refusal
 abbrev pub refusal_number : WorldRefusal → ℕ
-refusal_number why.Busy = 1
-refusal_number why.Idle = 2
-refusal_number why.UnknownName = 3
-refusal_number why.NameTaken = 4
-refusal_number why.OpUnderWay = 5
-refusal_number why.Borrowed = 6
-refusal_number why.WrongKind = 7
-refusal_number why.NoMemory = 8
+refusal_number WorldRefusal.Busy = 1
+refusal_number WorldRefusal.Idle = 2
+refusal_number WorldRefusal.UnknownName = 3
+refusal_number WorldRefusal.NameTaken = 4
+refusal_number WorldRefusal.OpUnderWay = 5
+refusal_number WorldRefusal.Borrowed = 6
+refusal_number WorldRefusal.WrongKind = 7
+refusal_number WorldRefusal.NoMemory = 8

@@ -1,11 +1,9 @@
 -- Whole runs of calls, one at a time. Which growths are refused is free; all else is a function of state and call.
-use Rattle.std.specs.Prelude.{◌≡◌, ◌⊎◌, List, [], ◌∷◌, Option, None, Some}
+use Rattle.std.specs.Prelude.{◌≡◌, ◌⊎◌, ◌∷◌}
+use Rattle.channel_world_model.specs.Words.{List, [], Option, None, Some, Call, Done, WorldRefusal}
 use Rattle.channel_world_model.specs.State.{State}
 use Rattle.channel_world_model.specs.Refusal.{refusal}
 use Rattle.channel_world_model.specs.Refused.{Answers}
-use Rattle.channel_world_model.specs.declared.call.Call.{Call}
-use Rattle.channel_world_model.specs.declared.run.Done.{Done}
-use Rattle.channel_world_model.specs.declared.refusal.WorldRefusal.{WorldRefusal}
 use Rattle.channel_world_model.specs.declared.refusal.WorldRefusal.TheVariants.{NoMemory}
 
 -- A call is not begun for this reason, or is begun. Room for its answer may be refused to any call that nothing else

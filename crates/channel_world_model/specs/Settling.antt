@@ -1,25 +1,19 @@
 -- Settling: the woken one whose wake is oldest is polled, again and again until nobody is woken.
-use Rattle.std.specs.Prelude.{◌≡◌, ◌⊎◌, ◌+◌, ◌*◌, ◌≤◌, ℕ, zero, suc, List, [], ◌∷◌, length, true, false, None, Some, is_none, slice_get, if◌then◌else◌}
-use Rattle.std.specs.Option.{option_map_or}
+use Rattle.std.specs.Prelude.{◌≡◌, ◌⊎◌, ◌+◌, ◌*◌, ◌≤◌, ◌∷◌, if◌then◌else◌}
+use Rattle.channel_world_model.specs.Words.{ℕ, zero, suc, List, [], length, true, false, None, Some, is_none, slice_get, option_map_or, WaitList, Call, Reply, Waiter, Op, Stream}
 use Rattle.channel_world_model.specs.Awake.{AwakeIn}
 use Rattle.channel_world_model.specs.Laws.{free_places}
 use Rattle.channel_world_model.specs.Lines.{Waiting, untold}
-use Rattle.channel_calls.specs.declared.stage.WaitList.{WaitList}
 use Rattle.channel_world_model.specs.State.{State}
 use Rattle.channel_world_model.specs.Refusal.{refusal}
 use Rattle.channel_world_model.specs.Answer.{answer}
 use Rattle.channel_world_model.specs.Refused.{Answers}
-use Rattle.channel_world_model.specs.declared.call.Call.{Call}
-use Rattle.channel_world_model.specs.declared.call.Call.TheVariants as call
-use Rattle.channel_calls.specs.declared.reply.Reply.{Reply}
-use Rattle.channel_world_model.specs.declared.name.Waiter.{Waiter}
-use Rattle.channel_world_model.specs.declared.name.Waiter.TheVariants.{Op, Stream}
 
 -- A poll of settling is no call that the world may refuse: a stream is polled even while an operation borrows its
 -- receiver.
 abbrev pub poll_of : {T : Type 0} → Waiter → Call T
-poll_of (Op op) = call.Poll op
-poll_of (Stream receiver) = call.PollNext receiver
+poll_of (Op op) = Call.Poll op
+poll_of (Stream receiver) = Call.PollNext receiver
 
 -- from s these are polled, in this order and with these replies, and then nobody is woken in the state t
 abbrev pub Settles : {T : Type 0} → State T → List (Waiter × Reply T) → State T → Type 0

@@ -1,10 +1,8 @@
 -- The state between two calls, when calls are made one at a time.
-use Rattle.std.specs.Prelude.{ℕ, [], ◌∷◌, Option, Some}
-use Rattle.channel_calls.specs.Model.{ModelChannel, opened_model}
+use Rattle.std.specs.Prelude.{◌∷◌}
+use Rattle.channel_world_model.specs.Words.{ℕ, [], Option, Some, ModelChannel, opened_model, Handle, Sender, Receiver}
 use Rattle.channel_world_model.specs.Names.{Names, Directory}
 use Rattle.channel_world_model.specs.Lines.{Waiting, nobody}
-use Rattle.channel_world_model.specs.declared.name.Handle.{Handle}
-use Rattle.channel_world_model.specs.declared.name.HandleKind.TheVariants.{Sender, Receiver}
 
 pub record State (T : Type 0) : Type 0 where
   pub channel : ModelChannel T

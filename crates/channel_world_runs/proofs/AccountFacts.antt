@@ -1,13 +1,6 @@
 -- Accounts: over a step, over a run, and one after the other.
-use Rattle.std.proofs.Common.{◌≡◌, List, [], ◌++◌, sym, ap, ◌∙◌, append-nil, append_assoc}
-use Rattle.channel_calls.specs.Moves.{Channel}
-use Rattle.channel_world_model.specs.declared.name.Waiter.{Waiter}
-use Rattle.channel_steps.specs.Run.{Accounts, IsRun, Next, NextConfiguration}
-use Rattle.channel_steps.specs.Configuration.{Configuration, gone_by, came_by}
-use Rattle.channel_steps.specs.declared.party.Entry.{Entry as ChannelEntry}
-use Rattle.channel_steps.specs.declared.run.Step.{Step as ChannelStep}
-use Rattle.channel_steps.specs.declared.run.Step.TheVariants as step
-use Rattle.channel_steps.proofs.Interface.{run_keeps}
+use Rattle.std.specs.Prelude.{◌≡◌, ◌++◌}
+use Rattle.channel_world_runs.proofs.Words.{List, [], sym, ap, ◌∙◌, append-nil, append_assoc, Channel, Waiter, Accounts, IsRun, Next, NextConfiguration, Configuration, gone_by, came_by, ChannelEntry, ChannelStep, run_keeps}
 
 module _ {T : Type 0} where
   pub no_accounts : (s : Configuration T Waiter) → Accounts s s
@@ -40,10 +33,10 @@ module _ {T : Type 0} where
   -- a step
   pub next_accounts : (s m t : Configuration T Waiter) (x : ChannelStep T Waiter) (e : ChannelEntry T) (names : List Waiter) → Accounts s m
       → Next m x e names t → Accounts s t
-  next_accounts s m t (step.Begin p a) e names h n =
+  next_accounts s m t (ChannelStep.Begin p a) e names h n =
       both s m t [] [] h (n.0.gone ∙ sym (append-nil m.gone)) (n.0.came ∙ sym (append-nil m.came))
       (ap (λ (d : Channel T Waiter). d.queue.items) n.0.now ∙ sym (append-nil m.now.queue.items))
-  next_accounts s m t (step.Step p) e names h n =
+  next_accounts s m t (ChannelStep.Step p) e names h n =
       both s m t (gone_by e.mark m.now.queue.items) (came_by e.mark n.mine.ask) h n.gone n.came n.held
 
   -- a run

@@ -1,28 +1,8 @@
 -- What is noted of the calls under way is what they are and have done, from one step to the next.
-use Rattle.std.proofs.Common.{arith, ◌≡◌, ℕ, ◌+◌, ◌-◌, ◌^◌, ◌≤◌, min, Bool, true, false, ◌||◌, List, [], ◌∷◌, ◌++◌, map, length, slice_get, slice_set, Option, None, Some, refl, sym, ap, ◌∙◌, subst}
-use Rattle.std.specs.List.{remove}
-use Rattle.std.proofs.lemmas.List.{length-map, map-append}
-use Rattle.channel_calls.specs.Moves.{Channel}
-use Rattle.channel_calls.specs.declared.ask.ChannelAsk.{ChannelAsk}
-use Rattle.channel_calls.specs.declared.mark.Mark.{Mark}
-use Rattle.channel_calls.specs.declared.mark.Mark.TheVariants as mark
-use Rattle.channel_calls.specs.declared.reply.Reply.{Reply}
-use Rattle.channel_calls.specs.declared.stage.Stage.{Stage}
-use Rattle.channel_world_model.specs.declared.name.Waiter.{Waiter}
-use Rattle.channel_steps.proofs.Interface.{messages_moved}
-use Rattle.channel_steps.specs.Count.{taken_out}
-use Rattle.channel_steps.specs.Moments.{MarkedMoment, with_marked}
-use Rattle.channel_steps.specs.Run.{Begins, call_begun}
-use Rattle.channel_steps.specs.Configuration.{ActiveCall, Configuration, Steps, IsBalanced, after_step, sees, does, unless_ended}
-use Rattle.channel_steps.specs.Tellings.{takings, with_taking}
-use Rattle.channel_steps.specs.declared.party.Entry.{Entry}
-use Rattle.concurrent_queue.specs.Queue.{Phase}
-use Rattle.channel_world_runs.specs.Activity.{is_close, any_close, role_of, activity_begun, activity_after, activity_of}
-use Rattle.channel_world_runs.specs.Owners.{All}
-use Rattle.channel_world_runs.specs.declared.activity.Activity.{Activity}
+use Rattle.std.specs.Prelude.{◌≡◌, ◌+◌, ◌-◌, ◌^◌, ◌≤◌, ◌||◌, ◌∷◌, ◌++◌}
+use Rattle.channel_world_runs.proofs.Lemmas.{arith, ℕ, min, Bool, true, false, List, [], map, length, slice_get, slice_set, Option, None, Some, refl, sym, ap, ◌∙◌, subst, remove, length-map, map-append, Channel, ChannelAsk, Mark, Reply, Stage, Waiter, messages_moved, taken_out, MarkedMoment, with_marked, Begins, begun_active_call as call_begun, ActiveCall, Configuration, Steps, IsBalanced, after_step, sees, does, unless_ended, takings, with_taking, ChannelEntry as Entry, Phase, is_close, any_close, role_of, activity_begun, activity_after, activity_of, All, Activity, step_brings}
 use Rattle.channel_world_runs.specs.declared.activity.Role.{Role}
 use Rattle.channel_world_runs.proofs.OwnerTogether.{all_join, all_left, all_right}
-use Rattle.channel_world_runs.proofs.PositionFacts.{step_brings}
 
 -- ---- the k-th of a list
 
@@ -59,11 +39,11 @@ same_activity r b c m n e f =
     ∙ ap (λ (y : ℕ). let x : Activity = record { role = r; has_closed = c; taken = y } in x) f
 
 taking_more : (m : Mark) (n k : ℕ) → with_taking m (n + k) ≡ with_taking m n + k
-taking_more mark.Take n k = omega arith
+taking_more Mark.Take n k = omega arith
 taking_more m n k = refl
 
 taking_out : (m : Mark) → with_taking m 0 ≤ taken_out m
-taking_out mark.Take = omega arith
+taking_out Mark.Take = omega arith
 taking_out m = omega arith
 
 -- as far as a machine number goes
@@ -74,8 +54,8 @@ at_most n = min n (2 ^ 64 - 1)
 noted_so : (r : Role) (b : Bool) (n : ℕ) (m : Mark)
     → activity_after m (record { role = r; has_closed = b; taken = at_most n })
     ≡ record { role = r; has_closed = b || is_close m; taken = at_most (n + with_taking m 0) }
-noted_so r b n mark.Close = same_activity r true (b || true) (at_most n) (at_most (n + 0)) (sym (or_true b)) (omega arith)
-noted_so r b n mark.Take =
+noted_so r b n Mark.Close = same_activity r true (b || true) (at_most n) (at_most (n + 0)) (sym (or_true b)) (omega arith)
+noted_so r b n Mark.Take =
     same_activity r b (b || false) (min (at_most n + 1) (2 ^ 64 - 1)) (at_most (n + 1)) (sym (or_false b)) (omega arith)
 noted_so r b n m = same_activity r b (b || false) (at_most n) (at_most (n + 0)) (sym (or_false b)) (omega arith)
 
@@ -93,12 +73,12 @@ module _ {T W : Type 0} where
   -- what a call has done, after a step more
   takings_by : (ds : List (MarkedMoment T W)) (m : Mark) (c : Channel T W) (seen : List (Channel T W))
       → takings (with_marked ds m c seen) ≡ takings ds + with_taking m 0
-  takings_by ds mark.Nothing c seen = omega arith
+  takings_by ds Mark.Nothing c seen = omega arith
   takings_by ds m c seen = takings_more ds (record { mark = m; before = c; seen = seen })
 
   close_by : (ds : List (MarkedMoment T W)) (m : Mark) (c : Channel T W) (seen : List (Channel T W))
       → any_close (with_marked ds m c seen) ≡ (any_close ds || is_close m)
-  close_by ds mark.Nothing c seen = sym (or_false (any_close ds))
+  close_by ds Mark.Nothing c seen = sym (or_false (any_close ds))
   close_by ds m c seen = close_more ds (record { mark = m; before = c; seen = seen })
 
   does_noted : (u : ActiveCall T W) (at : Stage (Phase T) T W) (m : Mark) (c d : Channel T W)

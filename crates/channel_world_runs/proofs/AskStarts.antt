@@ -1,29 +1,7 @@
 -- What a call has in hand, whom it waits for, and what it is to do to the counts, by what it asks; so it stands at its first stage.
-use Rattle.std.proofs.Common.{◌≡◌, Bool, true, false, if◌then◌else◌, Option, None, Some, inl, inr, refl, sym, ap, ◌∙◌, subst}
-use Rattle.std.specs.Option.{option_map}
-use Rattle.concurrent_queue.specs.Queue.{Phase, asked}
-use Rattle.concurrent_queue.specs.declared.call.QueueAsk.TheVariants as queue
-use Rattle.event_listener.specs.declared.key.Key.{Key}
-use Rattle.channel_calls.specs.Asks.{asks_listener, first}
-use Rattle.channel_calls.specs.Moves.{Turned}
-use Rattle.channel_calls.specs.Turns.{again, held_on, line_of as waits_on}
-use Rattle.channel_calls.specs.declared.ask.ChannelAsk.{ChannelAsk}
-use Rattle.channel_calls.specs.declared.ask.ChannelAsk.TheVariants as ask
-use Rattle.channel_calls.specs.declared.reply.Reply.{Reply}
-use Rattle.channel_calls.specs.declared.stage.ListenerRef.{ListenerRef}
-use Rattle.channel_calls.specs.declared.stage.WaitList.{WaitList}
-use Rattle.channel_calls.specs.declared.stage.WaitList.TheVariants.{Sends, Receives, Streams, Closings}
-use Rattle.channel_calls.specs.declared.stage.Side.{Side}
-use Rattle.channel_calls.specs.declared.stage.Side.TheVariants.{Senders, Receivers}
-use Rattle.channel_calls.specs.declared.stage.Stage.{Stage}
-use Rattle.channel_calls.specs.declared.stage.Stage.TheVariants.{Trying, Working}
-use Rattle.channel_calls.specs.declared.stage.NextStep.{NextStep}
-use Rattle.channel_calls.specs.declared.stage.NextStep.TheVariants.{Tries, Works, Ends}
-use Rattle.channel_calls.specs.declared.stage.Waiting.{Waiting}
-use Rattle.channel_calls.specs.declared.stage.Waiting.TheVariants as waiting
-use Rattle.channel_world_runs.specs.AskedBy.{listening_first, IsOrListens}
-use Rattle.channel_world_runs.specs.Counted.{same_side, is_lowering, is_raising}
-use Rattle.channel_world_runs.specs.Owners.{holding, task_at, wait_of, line_asked, Bears}
+use Rattle.std.specs.Prelude.{◌≡◌, if◌then◌else◌}
+use Rattle.channel_world_runs.proofs.Words.{Bool, true, false, Option, None, Some, inl, inr, refl, sym, ap, ◌∙◌, subst, option_map, Phase, asked, Key, asks_listener, Turned, again, held_on, line_of as waits_on, ChannelAsk, Reply, ListenerRef, WaitList, Sends, Receives, Streams, Closings, Side, Senders, Receivers, Stage, Trying, Working, NextStep, Tries, Works, Ends, WaitingStep as Waiting, listening_first, IsOrListens, same_side, is_lowering, is_raising, holding, task_at, wait_of, line_asked, Bears, QueueAsk}
+use Rattle.channel_calls.specs.Asks.{first}
 
 line_on : (line : WaitList) (key : Option Key) (h : ListenerRef) → held_on line key ≡ Some h → let o : Option WaitList = Some line in
     o ≡ Some h.line
@@ -33,42 +11,42 @@ line_on line (Some key) h e = ap (λ (o : Option ListenerRef). option_map (λ (i
 module _ {T W : Type 0} where
   -- the listener with which a call begins
   abbrev pub ask_holds : ChannelAsk T W → Option ListenerRef
-  ask_holds (ask.PollSend m l task) = held_on Sends l.key
-  ask_holds (ask.PollRecv l task) = held_on Receives l.key
-  ask_holds (ask.PollClosed key task) = held_on Closings key
-  ask_holds (ask.PollNext key task) = held_on Streams key
-  ask_holds (ask.RefusePoll line message key) = held_on line key
-  ask_holds (ask.GiveUp line message key) = held_on line key
-  ask_holds (ask.DropReceiver key) = held_on Streams key
+  ask_holds (ChannelAsk.PollSend m l task) = held_on Sends l.key
+  ask_holds (ChannelAsk.PollRecv l task) = held_on Receives l.key
+  ask_holds (ChannelAsk.PollClosed key task) = held_on Closings key
+  ask_holds (ChannelAsk.PollNext key task) = held_on Streams key
+  ask_holds (ChannelAsk.RefusePoll line message key) = held_on line key
+  ask_holds (ChannelAsk.GiveUp line message key) = held_on line key
+  ask_holds (ChannelAsk.DropReceiver key) = held_on Streams key
   ask_holds a = None
 
   -- whether it is to lower the count of this side
   abbrev pub asks_lowering : Side → ChannelAsk T W → Bool
-  asks_lowering side ask.DropSender = same_side side Senders
-  asks_lowering side (ask.DropReceiver key) = same_side side Receivers
+  asks_lowering side ChannelAsk.DropSender = same_side side Senders
+  asks_lowering side (ChannelAsk.DropReceiver key) = same_side side Receivers
   asks_lowering side a = false
 
   -- or may raise it
   abbrev pub asks_raising : Side → ChannelAsk T W → Bool
-  asks_raising side (ask.CloneHandle s) = same_side side s
-  asks_raising side (ask.Upgrade s) = same_side side s
+  asks_raising side (ChannelAsk.CloneHandle s) = same_side side s
+  asks_raising side (ChannelAsk.Upgrade s) = same_side side s
   asks_raising side a = false
 
   pub line_held : (a : ChannelAsk T W) (h : ListenerRef) → ask_holds a ≡ Some h → line_asked a ≡ Some h.line
-  line_held (ask.PollSend m l task) h e = line_on Sends l.key h e
-  line_held (ask.PollRecv l task) h e = line_on Receives l.key h e
-  line_held (ask.PollClosed key task) h e = line_on Closings key h e
-  line_held (ask.PollNext key task) h e = line_on Streams key h e
-  line_held (ask.RefusePoll line message key) h e = line_on line key h e
-  line_held (ask.GiveUp line message key) h e = line_on line key h e
-  line_held (ask.DropReceiver key) h e = line_on Streams key h e
+  line_held (ChannelAsk.PollSend m l task) h e = line_on Sends l.key h e
+  line_held (ChannelAsk.PollRecv l task) h e = line_on Receives l.key h e
+  line_held (ChannelAsk.PollClosed key task) h e = line_on Closings key h e
+  line_held (ChannelAsk.PollNext key task) h e = line_on Streams key h e
+  line_held (ChannelAsk.RefusePoll line message key) h e = line_on line key h e
+  line_held (ChannelAsk.GiveUp line message key) h e = line_on line key h e
+  line_held (ChannelAsk.DropReceiver key) h e = line_on Streams key h e
   line_held a h e = absurd (let no : None ≡ Some h = e in cc)
 
   pub line_waits : (a : ChannelAsk T W) (line : WaitList) (task : W) → wait_of a ≡ Some (line, task) → line_asked a ≡ Some line
-  line_waits (ask.PollSend m key t) line task e = ap (λ (o : Option (WaitList × W)). option_map (λ (x : WaitList × W). x.0) o) e
-  line_waits (ask.PollRecv key t) line task e = ap (λ (o : Option (WaitList × W)). option_map (λ (x : WaitList × W). x.0) o) e
-  line_waits (ask.PollClosed key t) line task e = ap (λ (o : Option (WaitList × W)). option_map (λ (x : WaitList × W). x.0) o) e
-  line_waits (ask.PollNext key t) line task e = ap (λ (o : Option (WaitList × W)). option_map (λ (x : WaitList × W). x.0) o) e
+  line_waits (ChannelAsk.PollSend m key t) line task e = ap (λ (o : Option (WaitList × W)). option_map (λ (x : WaitList × W). x.0) o) e
+  line_waits (ChannelAsk.PollRecv key t) line task e = ap (λ (o : Option (WaitList × W)). option_map (λ (x : WaitList × W). x.0) o) e
+  line_waits (ChannelAsk.PollClosed key t) line task e = ap (λ (o : Option (WaitList × W)). option_map (λ (x : WaitList × W). x.0) o) e
+  line_waits (ChannelAsk.PollNext key t) line task e = ap (λ (o : Option (WaitList × W)). option_map (λ (x : WaitList × W). x.0) o) e
   line_waits a line task e = absurd (let no : None ≡ Some (line, task) = e in cc)
 
   -- ---- with its listener asked first all of this is the same
@@ -76,7 +54,7 @@ module _ {T W : Type 0} where
   listens_so : (side : Side) (x : ChannelAsk T W)
       → (ask_holds (listening_first x) ≡ ask_holds x) × (wait_of (listening_first x) ≡ wait_of x)
       × (asks_lowering side (listening_first x) ≡ asks_lowering side x) × (asks_raising side (listening_first x) ≡ asks_raising side x)
-  listens_so side (ask.PollSend m l task) = (refl, refl, refl, refl)
+  listens_so side (ChannelAsk.PollSend m l task) = (refl, refl, refl, refl)
   listens_so side x = (refl, refl, refl, refl)
 
   same_of : {X : Type 0} (f : ChannelAsk T W → X) (x a : ChannelAsk T W) → f (listening_first x) ≡ f x → IsOrListens x a → f a ≡ f x
@@ -109,7 +87,7 @@ module _ {T W : Type 0} where
   taken : (a : ChannelAsk T W) (t : NextStep T W) (r : Option (Reply T)) (s : Stage (Phase T) T W) → Turned t r s
       → TurnStarts a t → Starts a s
   taken a (Tries x purpose) r s h k = subst (λ (z : Stage (Phase T) T W). Starts a z) (sym h.1) (k (asked x))
-  taken a (Works w) r s h k = subst (λ (z : Stage (Phase T) T W). Starts a z) (sym h.1) (k (asked queue.Pop))
+  taken a (Works w) r s h k = subst (λ (z : Stage (Phase T) T W). Starts a z) (sym h.1) (k (asked QueueAsk.Pop))
   taken a (Ends x kept) r s h k = absurd k
 
   polled_turn : (a : ChannelAsk T W) (w : Waiting T) (b : Bool) (key : Option Key) (task : W) → ask_holds a ≡ held_on (waits_on w) key → wait_of a ≡ Some (waits_on w, task)
@@ -120,13 +98,13 @@ module _ {T W : Type 0} where
   polled_turn a w true (Some key) task h e lowers raises = λ p. (sym h, (waits_on w, e), lowers, raises)
 
   first_turn : (a : ChannelAsk T W) → TurnStarts a (first a)
-  first_turn (ask.PollSend m l task) =
-      polled_turn (ask.PollSend m l task) (waiting.Send m) l.asks_first l.key task refl refl (λ side. refl) (λ side. refl)
-  first_turn (ask.PollRecv l task) =
-      polled_turn (ask.PollRecv l task) waiting.Receive l.asks_first l.key task refl refl (λ side. refl) (λ side. refl)
-  first_turn (ask.PollNext key task) =
-      polled_turn (ask.PollNext key task) waiting.Stream true key task refl refl (λ side. refl) (λ side. refl)
-  first_turn (ask.PollClosed key task) = λ p. (refl, (Closings, refl), λ side. refl, λ side. refl)
+  first_turn (ChannelAsk.PollSend m l task) =
+      polled_turn (ChannelAsk.PollSend m l task) (Waiting.Send m) l.asks_first l.key task refl refl (λ side. refl) (λ side. refl)
+  first_turn (ChannelAsk.PollRecv l task) =
+      polled_turn (ChannelAsk.PollRecv l task) Waiting.Receive l.asks_first l.key task refl refl (λ side. refl) (λ side. refl)
+  first_turn (ChannelAsk.PollNext key task) =
+      polled_turn (ChannelAsk.PollNext key task) Waiting.Stream true key task refl refl (λ side. refl) (λ side. refl)
+  first_turn (ChannelAsk.PollClosed key task) = λ p. (refl, (Closings, refl), λ side. refl, λ side. refl)
   first_turn a = λ p. (refl, tt, λ side. refl, λ side. refl)
 
   pub starts : (a : ChannelAsk T W) (r : Option (Reply T)) (s : Stage (Phase T) T W) → Turned (first a) r s → Starts a s

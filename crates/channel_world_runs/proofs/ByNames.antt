@@ -1,23 +1,8 @@
 -- Steps of a merge, as steps by names: which may be taken, and what the name state is after them.
-use Rattle.std.proofs.Common.{◌≡◌, ℕ, nat_eq, Bool, true, false, if◌then◌else◌, ◌||◌, arith, List, [], ◌∷◌, ◌++◌, length, slice_get, Option, None, Some, refl, sym, ap, ◌∙◌, subst}
-use Rattle.std.proofs.lemmas.Bool.Decides.{nat_tests}
+use Rattle.std.specs.Prelude.{◌≡◌, if◌then◌else◌, ◌||◌, ◌∷◌, ◌++◌}
+use Rattle.channel_world_runs.proofs.Lemmas.{ℕ, nat_eq, Bool, true, false, arith, List, [], length, slice_get, Option, None, Some, refl, sym, ap, ◌∙◌, subst, nat_tests, Call, Waiter, WorldRefusal, Busy, Idle, ActiveCall, Configuration, Steps, ChannelEntry, NamesKept, NameStatus, status, Together, begin_refusal, step_refusal, is_at_work, NameState, IsNameStateOf, name_state_ended, with_woken, Agent, PartyId, Step, differ}
 use Rattle.channel_steps.specs.every_run.Ends.{Each, IsIdle}
-use Rattle.channel_world_model.specs.declared.call.Call.{Call}
-use Rattle.channel_world_model.specs.declared.name.Waiter.{Waiter}
-use Rattle.channel_world_model.specs.declared.refusal.WorldRefusal.{WorldRefusal}
-use Rattle.channel_world_model.specs.declared.refusal.WorldRefusal.TheVariants.{Busy, Idle}
-use Rattle.channel_steps.specs.Configuration.{ActiveCall, Configuration, Steps}
-use Rattle.channel_steps.specs.declared.party.Entry.{Entry as ChannelEntry}
-use Rattle.channel_world_runs.specs.WorldInvariant.{NamesKept}
-use Rattle.channel_world_runs.specs.Owners.{NameStatus, status, Together}
-use Rattle.channel_world_runs.specs.Refusal.{begin_refusal, step_refusal}
-use Rattle.channel_world_runs.specs.NameTable.{is_at_work}
-use Rattle.channel_world_runs.specs.Run.{NameState, IsNameStateOf, name_state_ended, with_woken}
-use Rattle.channel_world_runs.specs.Calls.{Agent}
-use Rattle.channel_world_runs.specs.declared.step.PartyId.{PartyId}
-use Rattle.channel_world_runs.specs.declared.step.Step.TheVariants as step
 use Rattle.std.proofs.Math.Bool.{or-true}
-use Rattle.channel_world_runs.proofs.OwnerNames.{differ}
 use Rattle.channel_world_runs.proofs.OwnerTogether.{Parted, parted}
 
 same : (a b : ℕ) → a ≡ b → nat_eq a b ≡ true
@@ -33,12 +18,11 @@ module _ {T : Type 0} where
   not_at_work statuses p (a ∷ more) (u ∷ us) t idle =
       ap (λ (b : Bool). b || is_at_work p more) (differ a.party p (λ e. idle.0 (sym t.0.party ∙ e)))
       ∙ not_at_work statuses p more us t.1 idle.1
-  not_at_work statuses p [] (u ∷ us) t idle = absurd t
-  not_at_work statuses p (a ∷ more) [] t idle = absurd t
+  not_at_work statuses p more us t idle = absurd t
 
   -- it may begin a call that nothing refuses
   pub may_begin : (b : NameState T) (s : Configuration T Waiter) (q : PartyId) (c : Call T) → NamesKept b s → IsIdle q.0 s → begin_refusal b.name_table c ≡ None
-      → step_refusal b.name_table b.agents (step.Begin q c) ≡ None
+      → step_refusal b.name_table b.agents (Step.Begin q c) ≡ None
   may_begin b s q c k idle free =
       ap (λ (x : Bool). if x then Some Busy else begin_refusal b.name_table c) (not_at_work (status b.name_table) q.0 b.agents s.under_way k.owned.together idle)
       ∙ free
@@ -55,9 +39,9 @@ module _ {T : Type 0} where
 
   -- a step of a call under way is one of a party at work, and has a name state after it
   pub record MayStep (b : NameState T) (q : PartyId) (e : ChannelEntry T) (names : List Waiter) : Type 0 where
-    pub accepted : step_refusal b.name_table b.agents (step.Step q) ≡ None
+    pub accepted : step_refusal b.name_table b.agents (Step.Step q) ≡ None
     pub after : NameState T
-    pub name_state : IsNameStateOf (step.Step q) e.reply e.kept names b after
+    pub name_state : IsNameStateOf (Step.Step q) e.reply e.kept names b after
 
   pub may_step : (b : NameState T) (s t : Configuration T Waiter) (q : PartyId) (e : ChannelEntry T) (names : List Waiter) → NamesKept b s
       → Steps s q.0 e names t → MayStep b q e names

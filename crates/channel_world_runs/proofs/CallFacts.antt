@@ -1,12 +1,6 @@
 -- What is read off the calls under way.
-use Rattle.std.proofs.Common.{◌≡◌, ℕ, Bool, ◌||◌, nat_eq, List, [], ◌∷◌, map, slice_get, slice_set, Option, Some, refl, ap, ◌∙◌}
-use Rattle.std.specs.List.{list_any, remove}
-use Rattle.std.proofs.lemmas.List.{map-set}
-use Rattle.channel_calls.specs.declared.reply.Reply.{Reply}
-use Rattle.channel_steps.proofs.Interface.{get-map, map-after, set-same}
-use Rattle.channel_world_runs.specs.Calls.{Agent, agent_of}
-use Rattle.channel_world_runs.specs.NameTable.{is_at_work}
-use Rattle.channel_world_runs.specs.declared.calls.CallUnderWay.{CallUnderWay}
+use Rattle.std.specs.Prelude.{◌≡◌, ◌||◌, ◌∷◌}
+use Rattle.channel_world_runs.proofs.Words.{ℕ, Bool, nat_eq, List, [], map, slice_get, slice_set, Option, Some, refl, ap, ◌∙◌, list_any, remove, map-set, Reply, get-map, map-after, set-same, Agent, agent_of, is_at_work, CallUnderWay}
 
 -- what is read off none is none
 pub none_read : {A B : Type 0} (f : A → B) (xs : List A) → map f xs ≡ [] → xs ≡ []

@@ -1,39 +1,10 @@
 -- What a call that begins is to do to the counts, and what it does to the names.
-use Rattle.std.proofs.Common.{arith, ◌≡◌, ℕ, ◌+◌, false, Option, None, Some, refl, sym, ap, subst, ◌∙◌}
-use Rattle.std.specs.Option.{option_map}
-use Rattle.event_listener.specs.declared.key.Key.{Key}
-use Rattle.channel_calls.specs.declared.ask.ChannelAsk.{ChannelAsk}
-use Rattle.channel_calls.specs.declared.stage.Side.{Side}
-use Rattle.channel_calls.specs.declared.stage.Side.TheVariants.{Senders, Receivers}
-use Rattle.channel_world_model.specs.Answer.{weak_of, strong_of}
-use Rattle.channel_world_model.specs.Asked.{drop_asked, clone_asked, upgrade_asked}
-use Rattle.channel_world_model.specs.Names.{at, borrowed_by, without_name}
-use Rattle.channel_world_model.specs.declared.call.Call.{Call}
-use Rattle.channel_world_model.specs.declared.call.Call.TheVariants as call
-use Rattle.channel_world_model.specs.declared.name.Handle.{Handle}
-use Rattle.channel_world_model.specs.declared.name.HandleId.{HandleId}
-use Rattle.channel_world_model.specs.declared.name.HandleKind.{HandleKind}
-use Rattle.channel_world_model.specs.declared.name.HandleKind.TheVariants as handle_kind
-use Rattle.channel_world_model.specs.declared.name.OpId.{OpId}
-use Rattle.channel_world_model.specs.declared.name.Waiter.{Waiter}
-use Rattle.channel_world_model.specs.declared.name.Waiter.TheVariants.{Op, Stream}
-use Rattle.channel_world_runs.specs.Bookkeeping.{asks, on_return_of, names_begun, lent_by, leave_handle_of, new_from, operation_named, handle_named}
-use Rattle.channel_world_runs.specs.Counted.{is_strong, strong_lives, live_on, makes_strong}
-use Rattle.channel_world_runs.specs.NameTable.{held_of, names_of, with_lent, with_borrowed, with_poll_state}
-use Rattle.channel_world_runs.specs.declared.names.OnReturn.{OnReturn}
-use Rattle.channel_world_runs.specs.declared.names.HandleEntry.{HandleEntry}
-use Rattle.channel_world_runs.specs.declared.names.OperationEntry.{OperationEntry}
-use Rattle.channel_world_runs.specs.declared.names.PollState.TheVariants.{IsPolled}
-use Rattle.channel_world_runs.specs.declared.name_table.NameTable.{NameTable}
-use Rattle.channel_world_model.specs.Plan.{plan_of}
-use Rattle.channel_world_runs.proofs.AskStarts.{asks_lowering, asks_raising}
-use Rattle.channel_world_runs.proofs.AskFacts.{of_polls, of_refused, of_given_up}
-use Rattle.channel_world_runs.proofs.CountNames.{bit, without_live, spent_live, lent_live, borrowed_live, handed_over_live, poll_state_live}
-use Rattle.channel_world_runs.proofs.RefusalLemmas.{handle_there, handle_through}
+use Rattle.std.specs.Prelude.{◌≡◌, ◌+◌}
+use Rattle.channel_world_runs.proofs.Lemmas.{arith, ℕ, false, Option, None, Some, refl, sym, ap, subst, ◌∙◌, option_map, Key, ChannelAsk, Side, Senders, Receivers, weak_of, strong_of, drop_asked, clone_asked, upgrade_asked, at, borrowed_by, without_name, Call, Handle, HandleId, HandleKind, OpId, Waiter, Op, Stream, asks, on_return_of, names_begun, lent_by, leave_handle_of, new_from, operation_named, handle_named, is_strong, strong_lives, live_on, makes_strong, held_of, names_of, with_lent, with_borrowed, with_poll_state, OnReturn, HandleEntry, OperationEntry, IsPolled, NameTable, plan_of, asks_lowering, asks_raising, of_polls, of_refused, of_given_up, bit, without_live, spent_live, lent_live, borrowed_live, handed_over_live, poll_state_live, handle_there, handle_through}
 
 weak_strong : (side : Side) (k : HandleKind) → is_strong side (weak_of k) ≡ false
-weak_strong Senders handle_kind.Sender = refl
-weak_strong Receivers handle_kind.Sender = refl
+weak_strong Senders HandleKind.Sender = refl
+weak_strong Receivers HandleKind.Sender = refl
 weak_strong side k = refl
 
 module _ (T : Type 0) where
@@ -45,8 +16,8 @@ module _ (T : Type 0) where
   drop_kind : (side : Side) (key : Option Key) (k : HandleKind) (n : ℕ)
       → (let a : ChannelAsk T Waiter = drop_asked key (Some (record { kind = k; borrowers = n })) in
       (asks_lowering side a ≡ is_strong side k) × (asks_raising side a ≡ false))
-  drop_kind Senders key handle_kind.Sender n = (refl, refl)
-  drop_kind Receivers key handle_kind.Sender n = (refl, refl)
+  drop_kind Senders key HandleKind.Sender n = (refl, refl)
+  drop_kind Receivers key HandleKind.Sender n = (refl, refl)
   drop_kind side key k n = (refl, refl)
 
   drop_lowers : (side : Side) (key : Option Key) (o : Option HandleEntry)
@@ -59,16 +30,16 @@ module _ (T : Type 0) where
   clone_kind : (side : Side) (k : HandleKind) (n : ℕ)
       → (let a : ChannelAsk T Waiter = clone_asked (Some (record { kind = k; borrowers = n })) in
       (asks_lowering side a ≡ false) × (is_strong side k ≡ asks_raising side a))
-  clone_kind Senders handle_kind.Sender n = (refl, refl)
-  clone_kind Receivers handle_kind.Sender n = (refl, refl)
+  clone_kind Senders HandleKind.Sender n = (refl, refl)
+  clone_kind Receivers HandleKind.Sender n = (refl, refl)
   clone_kind side k n = (refl, refl)
 
   -- and an upgrade a strong one
   upgrade_kind : (side : Side) (k : HandleKind) (n : ℕ)
       → (let a : ChannelAsk T Waiter = upgrade_asked (Some (record { kind = k; borrowers = n })) in
       (asks_lowering side a ≡ false) × (is_strong side (strong_of k) ≡ asks_raising side a))
-  upgrade_kind Senders handle_kind.Sender n = (refl, refl)
-  upgrade_kind Receivers handle_kind.Sender n = (refl, refl)
+  upgrade_kind Senders HandleKind.Sender n = (refl, refl)
+  upgrade_kind Receivers HandleKind.Sender n = (refl, refl)
   upgrade_kind side k n = (refl, refl)
 
   -- what a call that begins does, and what it is to do
@@ -122,42 +93,42 @@ module _ (T : Type 0) where
     downgraded handle new (Some h) = weak_strong side h.kind
 
     pub begins_so : (c : Call T) → BeginsSo side r c
-    begins_so (call.NewSend op sender msg) = (made op sender, refl)
-    begins_so (call.NewRecv op receiver) = (made op receiver, refl)
-    begins_so (call.NewClosed op sender) = (made op sender, refl)
-    begins_so (call.Poll op) =
+    begins_so (Call.NewSend op sender msg) = (made op sender, refl)
+    begins_so (Call.NewRecv op receiver) = (made op receiver, refl)
+    begins_so (Call.NewClosed op sender) = (made op sender, refl)
+    begins_so (Call.Poll op) =
         let a = of_polls (Aside side) (refl, refl) (λ m key w. (refl, refl)) (refl, refl) (λ key w. (refl, refl)) (λ key w. (refl, refl)) (held_of r (Op op)) op (at op.0 (names_of r).operations) in
-        (aside (live_on side r.handles) (asks r (call.Poll op)) a.0 refl, sym a.1)
-    begins_so (call.PollRefused op) =
+        (aside (live_on side r.handles) (asks r (Call.Poll op)) a.0 refl, sym a.1)
+    begins_so (Call.PollRefused op) =
         let a = of_refused (Aside side) (refl, refl) (λ line m key. (refl, refl)) (held_of r (Op op)) (at op.0 (names_of r).operations) in
-        (aside (live_on side r.handles) (asks r (call.PollRefused op)) a.0 refl, sym a.1)
-    begins_so (call.GiveUp op) =
+        (aside (live_on side r.handles) (asks r (Call.PollRefused op)) a.0 refl, sym a.1)
+    begins_so (Call.GiveUp op) =
         let a = of_given_up (Aside side) (refl, refl) (λ line m key. (refl, refl)) (held_of r (Op op)) (at op.0 (names_of r).operations) in
         let live = handed_over_live side (at op.0 r.operations) (record r { operations = without_name op.0 r.operations }) in
-        (aside _ (asks r (call.GiveUp op)) a.0 live, leaves_aside (at op.0 r.operations) ∙ sym a.1)
-    begins_so (call.SendIsTerminated op) =
+        (aside _ (asks r (Call.GiveUp op)) a.0 live, leaves_aside (at op.0 r.operations) ∙ sym a.1)
+    begins_so (Call.SendIsTerminated op) =
         let same = lent_by_live (at op.0 r.operations) in
         (omega (arith, same), leaves_aside (at op.0 r.operations))
-    begins_so (call.PollNext receiver) =
+    begins_so (Call.PollNext receiver) =
         let stands = poll_state_live side (IsPolled false) receiver r in
         let used = lent_live side receiver (with_poll_state (IsPolled false) receiver r) in
         (omega (arith, stands, used), refl)
-    begins_so (call.Drop handle) =
+    begins_so (Call.Drop handle) =
         let a = subst (λ (x : Option Handle). let a : ChannelAsk T Waiter = drop_asked (held_of r (Stream handle)) x in
         (asks_lowering side a ≡ strong_lives side (at handle.0 r.handles)) × (asks_raising side a ≡ false))
         (handle_there r handle.0) (drop_lowers side (held_of r (Stream handle)) (at handle.0 r.handles)) in
-        let low : bit (asks_lowering side (asks r (call.Drop handle))) ≡ bit (strong_lives side (at handle.0 r.handles)) = ap bit a.0 in
+        let low : bit (asks_lowering side (asks r (Call.Drop handle))) ≡ bit (strong_lives side (at handle.0 r.handles)) = ap bit a.0 in
         let gone = without_live side handle.0 r.handles in
         (omega (arith, low, gone), sym a.1)
-    begins_so (call.TryClone handle new) =
+    begins_so (Call.TryClone handle new) =
         let a = cloned handle new (at handle.0 (names_of r).handles) in
-        (aside _ (asks r (call.TryClone handle new)) a.0 (named handle new), a.1)
-    begins_so (call.Downgrade handle new) =
-        (aside _ (asks r (call.Downgrade handle new)) refl (named handle new), downgraded handle new (at handle.0 (names_of r).handles))
-    begins_so (call.Upgrade weak new) =
+        (aside _ (asks r (Call.TryClone handle new)) a.0 (named handle new), a.1)
+    begins_so (Call.Downgrade handle new) =
+        (aside _ (asks r (Call.Downgrade handle new)) refl (named handle new), downgraded handle new (at handle.0 (names_of r).handles))
+    begins_so (Call.Upgrade weak new) =
         let a = upgraded weak new (at weak.0 (names_of r).handles) in
-        (aside _ (asks r (call.Upgrade weak new)) a.0 (named weak new), a.1)
-    begins_so (call.SameChannel a b) =
+        (aside _ (asks r (Call.Upgrade weak new)) a.0 (named weak new), a.1)
+    begins_so (Call.SameChannel a b) =
         let one = lent_live side a r in
         let two = lent_live side b (with_lent a r) in
         (omega (arith, one, two), refl)

@@ -1,57 +1,32 @@
 -- The drop of the last handle of a side closes the channel.
+use Rattle.std.specs.Prelude.{◌≡◌, ◌-◌, ◌≤◌, ◌==◌, if◌then◌else◌, ◌⊎◌}
+use Rattle.channel_world_runs.proofs.Words.{ℕ, Bool, true, false, List, Option, None, inl, inr, refl, sym, ap, ◌∙◌, subst, Queue, Phase, is_displaced, marked, Continues, ContinuesBy, AnswersClose, AnswersTo, QueueAsk, QueueMark, QueueReply, Key, answered_next, Channel, Effect, Turned, Tried, Moves, count, dropper, closer_ending, ends_by, ChannelAsk, Reply, Closer, Side, Senders, Receivers, Stage, Trying, Working, Tries, Lower, TriesFor, StageAt, MarkedMoment, Shut, is_last_of, is_lowering, is_closing, Purpose}
 use Rattle.channel_world_model.proofs.HandleLaws.{more_than_one}
-use Rattle.std.proofs.Common.{◌≡◌, ℕ, ◌-◌, ◌≤◌, ◌==◌, Bool, true, false, if◌then◌else◌, List, Option, None, ◌⊎◌, inl, inr, refl, sym, ap, ◌∙◌, subst}
-use Rattle.concurrent_queue.specs.Queue.{Queue, Phase, is_displaced, marked, Continues, ContinuesBy, Answers, AnswersClose, AnswersTo}
+use Rattle.concurrent_queue.specs.Queue.{Answers}
 use Rattle.concurrent_queue.specs.Queue as stages
-use Rattle.concurrent_queue.specs.declared.call.QueueAsk.{QueueAsk}
-use Rattle.concurrent_queue.specs.declared.call.QueueAsk.TheVariants as queue
-use Rattle.concurrent_queue.specs.declared.call.QueueMark.{QueueMark}
-use Rattle.concurrent_queue.specs.declared.call.QueueMark.TheVariants as queue_mark
-use Rattle.concurrent_queue.specs.declared.call.QueueReply.{QueueReply}
-use Rattle.concurrent_queue.specs.declared.call.QueueReply.TheVariants as answer
-use Rattle.event_listener.specs.declared.key.Key.{Key}
-use Rattle.channel_calls.specs.Answered.{answered_next}
-use Rattle.channel_calls.specs.Moves.{Channel, Effect, Turned, Tried, Moves}
-use Rattle.channel_calls.specs.Parts.{count}
-use Rattle.channel_calls.specs.Turns.{dropper, closer_ending, ends_by}
-use Rattle.channel_calls.specs.declared.ask.ChannelAsk.{ChannelAsk}
-use Rattle.channel_calls.specs.declared.ask.ChannelAsk.TheVariants as ask
-use Rattle.channel_calls.specs.declared.reply.Reply.{Reply}
-use Rattle.channel_calls.specs.declared.stage.Purpose.TheVariants as purpose
-use Rattle.channel_calls.specs.declared.stage.Closer.{Closer}
-use Rattle.channel_calls.specs.declared.stage.Closer.TheVariants as closer
-use Rattle.channel_calls.specs.declared.stage.Side.{Side}
-use Rattle.channel_calls.specs.declared.stage.Side.TheVariants.{Senders, Receivers}
-use Rattle.channel_calls.specs.declared.stage.Stage.{Stage}
-use Rattle.channel_calls.specs.declared.stage.Stage.TheVariants.{Trying, Working}
-use Rattle.channel_calls.specs.declared.stage.NextStep.TheVariants.{Tries}
-use Rattle.channel_calls.specs.declared.stage.ListStep.TheVariants.{Lower}
-use Rattle.channel_steps.specs.Known.{TriesFor, StageAt}
-use Rattle.channel_steps.specs.Moments.{MarkedMoment, Shut}
-use Rattle.channel_world_runs.specs.Counted.{is_last_of, is_lowering, is_closing}
 
 module _ (T W : Type 0) where
   -- ---- a closing that is under way
 
   closed_so : (q : Queue T) (m : QueueMark) (y : QueueReply T) (s : stages.Stage T) → AnswersClose q m y s
-      → (marked queue.Close (is_displaced s) m q).closed ≡ true
-  closed_so q queue_mark.Close (answer.Close true) (stages.trying seen) h = refl
-  closed_so q queue_mark.Nothing (answer.Close false) (stages.trying seen) h = h
+      → (marked QueueAsk.Close (is_displaced s) m q).closed ≡ true
+  closed_so q QueueMark.Close (QueueReply.Close true) (stages.trying seen) h = refl
+  closed_so q QueueMark.Nothing (QueueReply.Close false) (stages.trying seen) h = h
   closed_so q m y s h = absurd h
 
   closer_asks : (x : ChannelAsk T W) (c : Closer) (a : QueueAsk T) (ds : List (MarkedMoment T W)) (seen : List (Channel T W))
-      → TriesFor x (purpose.Close c) a ds seen → a ≡ queue.Close
-  closer_asks ask.Close closer.Call queue.Close ds seen h = refl
-  closer_asks ask.DropSender closer.Sender queue.Close ds seen h = refl
-  closer_asks (ask.DropReceiver k) (closer.Receiver key) queue.Close ds seen h = refl
+      → TriesFor x (Purpose.Close c) a ds seen → a ≡ QueueAsk.Close
+  closer_asks ChannelAsk.Close Closer.Call QueueAsk.Close ds seen h = refl
+  closer_asks ChannelAsk.DropSender Closer.Sender QueueAsk.Close ds seen h = refl
+  closer_asks (ChannelAsk.DropReceiver k) (Closer.Receiver key) QueueAsk.Close ds seen h = refl
   closer_asks x c a ds seen h = absurd h
 
   shuts : (c : Channel T W) (f : Phase T) (cl : Closer) (e : Effect T W) (r : Option (Reply T)) (s : Stage (Phase T) T W)
-      → f.ask ≡ queue.Close → Tried c f (purpose.Close cl) e r s → Shut e.channel
+      → f.ask ≡ QueueAsk.Close → Tried c f (Purpose.Close cl) e r s → Shut e.channel
   shuts c f cl e r s asks h = by h.how
     where
-      by : ((f' : Phase T) × Continues c.queue f h.mark f' × (r ≡ None) × (s ≡ Trying f' (purpose.Close cl)))
-          ⊎ ((y : QueueReply T) × Answers c.queue f h.mark y × Turned (answered_next (purpose.Close cl) y) r s) → Shut e.channel
+      by : ((f' : Phase T) × Continues c.queue f h.mark f' × (r ≡ None) × (s ≡ Trying f' (Purpose.Close cl)))
+          ⊎ ((y : QueueReply T) × Answers c.queue f h.mark y × Turned (answered_next (Purpose.Close cl) y) r s) → Shut e.channel
       by (inl g) = absurd (subst (λ (a : QueueAsk T). ContinuesBy c.queue a h.mark f.stage (let n : Phase T = g.0 in n.stage)) asks g.1.1)
       by (inr g) =
           ap (λ (x : Effect T W). x.channel.queue.closed) h.effect
@@ -62,7 +37,7 @@ module _ (T W : Type 0) where
   pub closing_shuts : (side : Side) (c : Channel T W) (x : ChannelAsk T W) (at : Stage (Phase T) T W) (e : Effect T W)
       (r : Option (Reply T)) (s : Stage (Phase T) T W) (ds : List (MarkedMoment T W)) (seen : List (Channel T W)) → StageAt c x at ds seen
       → Moves c at e r s → is_closing side at ≡ true → Shut e.channel
-  closing_shuts side c x (Trying f (purpose.Close cl)) e r s ds seen k h sure = shuts c f cl e r s (closer_asks x cl f.ask ds seen k.0) h
+  closing_shuts side c x (Trying f (Purpose.Close cl)) e r s ds seen k h sure = shuts c f cl e r s (closer_asks x cl f.ask ds seen k.0) h
   closing_shuts side c x at e r s ds seen k h sure = absurd (let no : false ≡ true = sure in cc)
 
   -- ---- a drop that lowers the count
@@ -73,7 +48,7 @@ module _ (T W : Type 0) where
 
   left : (side z : Side) (key : Option Key) (n : ℕ) (r : Option (Reply T)) (s : Stage (Phase T) T W) (b : Bool) → (n == 1) ≡ b → 1 ≤ n
       → is_last_of side (dropper z key) ≡ true
-      → Turned (if b then Tries queue.Close (purpose.Close (dropper z key)) else ends_by (closer_ending (dropper z key) false)) r s
+      → Turned (if b then Tries QueueAsk.Close (Purpose.Close (dropper z key)) else ends_by (closer_ending (dropper z key) false)) r s
       → Left side r s (n - 1)
   left side z key n r s true e low last h = inr (h.0, ap (λ (x : Stage (Phase T) T W). is_closing side x) h.1 ∙ last)
   left side z key n r s false e low last h = inl (more_than_one n e low)

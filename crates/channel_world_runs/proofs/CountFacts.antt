@@ -1,37 +1,9 @@
 -- What the counts count, from one step to the next.
-use Rattle.std.proofs.lemmas.List.{map-append}
-use Rattle.std.proofs.Common.{arith, ◌≡◌, ℕ, ◌+◌, ◌≤◌, Bool, true, false, ◌&&◌, List, [], ◌∷◌, ◌++◌, map, Option, None, Some, ◌⊎◌, inl, inr, refl, sym, ap, ◌∙◌, subst}
-use Rattle.concurrent_queue.specs.Queue.{Phase}
-use Rattle.channel_calls.specs.Marks.{is_made}
-use Rattle.channel_calls.specs.Moves.{Channel, Effect}
-use Rattle.channel_calls.specs.Parts.{count}
-use Rattle.channel_calls.specs.declared.ask.ChannelAsk.{ChannelAsk}
-use Rattle.channel_calls.specs.declared.mark.Mark.{Mark}
-use Rattle.channel_calls.specs.declared.reply.Reply.{Reply}
-use Rattle.channel_calls.specs.declared.stage.Returned.{Returned}
-use Rattle.channel_calls.specs.declared.stage.Side.{Side}
-use Rattle.channel_calls.specs.declared.stage.Side.TheVariants.{Senders, Receivers}
-use Rattle.channel_calls.specs.declared.stage.Stage.{Stage}
-use Rattle.channel_world_model.specs.declared.call.Call.{Call}
-use Rattle.channel_world_model.specs.declared.name.Waiter.{Waiter}
-use Rattle.channel_steps.specs.Moments.{Open, Shut}
-use Rattle.channel_steps.specs.Run.{new_configuration, Begins}
+use Rattle.std.specs.Prelude.{◌≡◌, ◌+◌, ◌≤◌, ◌&&◌, ◌∷◌, ◌++◌, ◌⊎◌}
+use Rattle.channel_world_runs.proofs.Lemmas.{map-append, arith, ℕ, Bool, true, false, List, [], map, Option, None, Some, inl, inr, refl, sym, ap, ◌∙◌, subst, Phase, is_made, Channel, Effect, count, ChannelAsk, Mark, Reply, Returned, Side, Senders, Receivers, Stage, Call, Waiter, Open, Shut, new_configuration, Begins, ActiveCall, Configuration, Steps, Known, AllKnown, sees, does, unless_ended, ChannelEntry as Entry, IsOrListens, asks, on_return_of, written_back, tally, is_lowering, is_closing, is_raising, makes_strong, CountsSide, Counted, NameStatus, status, wait_of, Together, Owned, first_name_table, WakeOrder, no_places, NameState, name_state_begun, with_woken, Agent, PartyId, asks_lowering, asks_raising, lowering_same, raising_same, Starts, starts, bit, settled_live}
 use Rattle.channel_steps.specs.Run as start
-use Rattle.channel_steps.specs.Configuration.{ActiveCall, Configuration, Steps, Known, AllKnown, sees, does, unless_ended}
-use Rattle.channel_steps.specs.declared.party.Entry.{Entry}
-use Rattle.channel_world_runs.specs.AskedBy.{IsOrListens}
-use Rattle.channel_world_runs.specs.Bookkeeping.{asks, on_return_of, written_back}
-use Rattle.channel_world_runs.specs.Counted.{tally, is_lowering, is_closing, is_raising, makes_strong, CountsSide, Counted}
-use Rattle.channel_world_runs.specs.Owners.{NameStatus, status, wait_of, Together, Owned}
-use Rattle.channel_world_runs.specs.NameTable.{first_name_table}
-use Rattle.channel_world_runs.specs.Order.{WakeOrder, no_places}
-use Rattle.channel_world_runs.specs.Run.{NameState, name_state_begun, with_woken}
-use Rattle.channel_world_runs.specs.Calls.{Agent}
-use Rattle.channel_world_runs.specs.declared.step.PartyId.{PartyId}
-use Rattle.channel_world_runs.proofs.AskStarts.{asks_lowering, asks_raising, lowering_same, raising_same, Starts, starts}
 use Rattle.channel_world_runs.proofs.CountBegins.{BeginsSo, begins_so}
 use Rattle.channel_world_runs.proofs.CountClosings.{closing_shuts, last_closes}
-use Rattle.channel_world_runs.proofs.CountNames.{bit, settled_live}
 use Rattle.channel_world_runs.proofs.CountTurns.{Turns, turns}
 use Rattle.channel_world_runs.proofs.OwnerRuns.{parts, IsAfter, ended_as}
 use Rattle.channel_world_runs.proofs.OwnerTogether.{Parted}
@@ -140,8 +112,6 @@ module _ {T : Type 0} where
       (back : List (Agent T)) (before : List (ActiveCall T Waiter)) (u : ActiveCall T Waiter) (behind : List (ActiveCall T Waiter))
       → Together p front before → map f (front ++ (a ∷ back)) ≡ map g (before ++ (u ∷ behind)) → Apart f g front a back before u behind
   apart p f g [] a back [] u behind t e = record { first = refl; own = first_same _ _ _ _ e; last = rest_same _ _ _ _ e }
-  apart p f g [] a back (v ∷ before) u behind t e = absurd t
-  apart p f g (b ∷ front) a back [] u behind t e = absurd t
   apart p f g (b ∷ front) a back (v ∷ before) u behind t e =
       let rest = apart p f g front a back before u behind t.1 (rest_same _ _ _ _ e) in
       record {
@@ -149,6 +119,7 @@ module _ {T : Type 0} where
         own = rest.own;
         last = rest.last;
       }
+  apart p f g front a back before u behind t e = absurd t
 
   known_of : (now : Channel T Waiter) (us : List (ActiveCall T Waiter)) (u : ActiveCall T Waiter) (vs : List (ActiveCall T Waiter))
       → AllKnown now (us ++ (u ∷ vs)) → Known now u

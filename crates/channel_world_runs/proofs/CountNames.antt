@@ -1,32 +1,6 @@
 -- How many strong handles live, after what calls do to the names.
-use Rattle.std.proofs.Common.{arith, ◌≡◌, ℕ, ◌+◌, nat_eq, Bool, true, false, ◌&&◌, inl, inr, cond, [], ◌∷◌, Option, None, Some, refl, sym, ap, ◌∙◌, subst}
-use Rattle.std.specs.Map.{lookup, set_value}
-use Rattle.std.specs.Option.{option_map_or}
-use Rattle.channel_calls.specs.Marks.{is_made}
-use Rattle.channel_calls.specs.declared.reply.Reply.{Reply}
-use Rattle.channel_calls.specs.declared.reply.Reply.TheVariants as reply
-use Rattle.channel_calls.specs.declared.stage.Returned.{Returned}
-use Rattle.channel_calls.specs.declared.stage.WaitList.{WaitList}
-use Rattle.channel_calls.specs.declared.stage.Side.{Side}
-use Rattle.channel_world_model.specs.Names.{Directory, at, borrowed_by, with_spent, with_changed, without_name}
-use Rattle.channel_world_model.specs.declared.name.HandleId.{HandleId}
-use Rattle.channel_world_model.specs.declared.name.HandleKind.{HandleKind}
-use Rattle.channel_world_model.specs.declared.name.HandleKind.TheVariants as handle_kind
-use Rattle.channel_world_model.specs.declared.name.Waiter.{Waiter}
-use Rattle.channel_world_model.specs.declared.name.Waiter.TheVariants.{Stream}
-use Rattle.channel_world_runs.specs.Bookkeeping.{written_back, installed, handed_over_by}
-use Rattle.channel_world_runs.specs.Counted.{is_strong, strong_lives, live_on, makes_strong}
-use Rattle.channel_world_runs.specs.Owners.{NameStatus, free, retired, no_stream_status, stream_status, status, status_by, Suits}
-use Rattle.channel_world_runs.specs.NameTable.{poll_state_with, unused, used_more, used_less, borrowed_more, handed_over, with_handle, with_lent, with_given_back, with_borrowed, with_poll_state}
-use Rattle.channel_world_runs.specs.declared.names.OnReturn.{OnReturn}
-use Rattle.channel_world_runs.specs.declared.names.OnReturn.TheVariants as on_return
-use Rattle.channel_world_runs.specs.declared.names.HandleEntry.{HandleEntry}
-use Rattle.channel_world_runs.specs.declared.names.OperationEntry.{OperationEntry}
-use Rattle.channel_world_runs.specs.declared.names.PollState.{PollState}
-use Rattle.channel_world_runs.specs.declared.names.PollState.TheVariants.{Rests, Waits, IsPolled}
-use Rattle.channel_world_runs.specs.declared.name_table.NameTable.{NameTable}
-use Rattle.channel_world_model.proofs.DirectoryLemmas.{set_absent}
-use Rattle.channel_world_model.proofs.WaiterLemmas.{decided}
+use Rattle.std.specs.Prelude.{◌≡◌, ◌+◌, ◌&&◌, ◌∷◌}
+use Rattle.channel_world_runs.proofs.Words.{arith, ℕ, nat_eq, Bool, true, false, inl, inr, cond, [], Option, None, Some, refl, sym, ap, ◌∙◌, subst, lookup, set_value, option_map_or, is_made, Reply, Returned, WaitList, Side, Directory, at, borrowed_by, with_spent, with_changed, without_name, HandleId, HandleKind, Waiter, Stream, written_back, installed, handed_over_by, is_strong, strong_lives, live_on, makes_strong, NameStatus, free, retired, no_stream_status, stream_status, status, status_by, Suits, poll_state_with, unused, used_more, used_less, borrowed_more, handed_over, with_handle, with_lent, with_given_back, with_borrowed, with_poll_state, OnReturn, HandleEntry, OperationEntry, PollState, Rests, Waits, IsPolled, NameTable, set_absent, decided}
 use Rattle.channel_world_runs.proofs.RefusalLemmas.{and_true, and_false}
 use Rattle.channel_world_runs.proofs.OwnerNames.{found, handle_entry_status, given_back_same}
 
@@ -69,9 +43,9 @@ none_vacant Rests h = h
 none_vacant x h = h
 
 not_vacant : (k : HandleKind) (s : PollState) → IsVacant (stream_status k s) → ⊥
-not_vacant handle_kind.Receiver Rests h = h
-not_vacant handle_kind.Receiver (Waits key) h = h
-not_vacant handle_kind.Receiver (IsPolled brings) h = h
+not_vacant HandleKind.Receiver Rests h = h
+not_vacant HandleKind.Receiver (Waits key) h = h
+not_vacant HandleKind.Receiver (IsPolled brings) h = h
 not_vacant x s h = none_vacant s h
 
 is_vacant : (x : NameStatus) → x ≡ retired → IsVacant x
@@ -123,7 +97,7 @@ module _ {T : Type 0} where
 
   pub installed_live : (side : Side) (new : HandleId) (kind : HandleKind) (y : Reply T) (r : NameTable T) → status r (Stream new) ≡ retired
       → live_on side (installed new kind y r).handles ≡ live_on side r.handles + bit (is_strong side kind && is_made (Some y))
-  installed_live side new kind reply.Made r e =
+  installed_live side new kind Reply.Made r e =
       let there = vacant_is (lookup (nat_eq new.0) r.handles) e in
       let set = set_live side new.0 r.handles (Some (unused kind)) there.0 there.1 in
       let none : bit (strong_lives side there.0) ≡ 0 = ap bit (there.2 side) in
@@ -136,16 +110,16 @@ module _ {T : Type 0} where
   pub settled_live : (side : Side) (e : OnReturn T) (y : Reply T) (kept : Returned T) (wait : Option (WaitList × Waiter)) (r : NameTable T)
       → Suits (status r) e wait
       → live_on side (written_back e y kept r).handles ≡ live_on side r.handles + bit (makes_strong side e && is_made (Some y))
-  settled_live side (on_return.Leave handle) y kept wait r f = let same = back_live side handle r in omega (arith, same)
-  settled_live side (on_return.LeaveBoth a b) y kept wait r f =
+  settled_live side (OnReturn.Leave handle) y kept wait r f = let same = back_live side handle r in omega (arith, same)
+  settled_live side (OnReturn.LeaveBoth a b) y kept wait r f =
       let first = back_live side a r in
       let second = back_live side b (with_given_back a r) in
       omega (arith, first, second)
-  settled_live side (on_return.PollNext receiver) y kept wait r f =
+  settled_live side (OnReturn.PollNext receiver) y kept wait r f =
       let first = poll_state_live side (poll_state_with kept.key) receiver r in
       let second = back_live side receiver (with_poll_state (poll_state_with kept.key) receiver r) in
       omega (arith, first, second)
-  settled_live side (on_return.New from new kind) y kept wait r f =
+  settled_live side (OnReturn.New from new kind) y kept wait r f =
       let back = back_live side from r in
       let made = installed_live side new kind y (with_given_back from r) (given_back_same r from (Stream new) ∙ f.0) in
       omega (arith, back, made)

@@ -1,52 +1,16 @@
 -- What one step of a call does to the counts.
-use Rattle.std.proofs.Common.{arith, ◌≡◌, ℕ, ◌+◌, ◌-◌, ◌^◌, ◌≤◌, ◌==◌, Bool, true, false, ◌&&◌, if◌then◌else◌, nat_lt, List, [], Option, None, Some, ◌⊎◌, inl, inr, refl, sym, ap, ◌∙◌, subst}
-use Rattle.std.proofs.lemmas.Bool.Decides.{nat_tests}
-use Rattle.concurrent_queue.specs.Queue.{Phase, Continues, Answers}
-use Rattle.concurrent_queue.specs.declared.call.QueueReply.{QueueReply}
-use Rattle.event_listener.specs.Lists.{listened, registration, removed}
-use Rattle.event_listener.specs.declared.key.Key.{Key}
-use Rattle.channel_calls.specs.Answered.{answered_next}
-use Rattle.channel_calls.specs.Marks.{up, is_made}
-use Rattle.channel_calls.specs.Moves.{Channel, Effect, queued, untouched, on_line, on_count, leaves, Turned, TakesRoomFor, Inserts, Worked, Moves}
-use Rattle.channel_calls.specs.Parts.{WaitLists, Listeners, listeners, with_listeners, with_count, count, is_raised, waits}
-use Rattle.channel_calls.specs.Turns.{line_of, leaving, nothing_kept, ends_by, again, pends_by, unlistened, told_all_next, room_next, roomless, lowered_next, loaded_next, raised_next}
-use Rattle.channel_calls.specs.declared.ask.ChannelAsk.{ChannelAsk}
-use Rattle.channel_calls.specs.declared.reply.Reply.{Reply}
-use Rattle.channel_calls.specs.declared.reply.Reply.TheVariants as reply
-use Rattle.channel_calls.specs.declared.stage.Purpose.{Purpose}
-use Rattle.channel_calls.specs.declared.stage.Purpose.TheVariants as purpose
-use Rattle.channel_calls.specs.declared.stage.Ending.{Ending}
-use Rattle.channel_calls.specs.declared.stage.ListenerRef.{ListenerRef}
-use Rattle.channel_calls.specs.declared.stage.WaitList.{WaitList}
-use Rattle.channel_calls.specs.declared.stage.WaitList.TheVariants.{Sends, Receives, Streams, Closings}
-use Rattle.channel_calls.specs.declared.stage.Making.{Making}
-use Rattle.channel_calls.specs.declared.stage.Side.{Side}
-use Rattle.channel_calls.specs.declared.stage.Side.TheVariants.{Senders, Receivers}
-use Rattle.channel_calls.specs.declared.stage.Stage.{Stage}
-use Rattle.channel_calls.specs.declared.stage.Stage.TheVariants.{Trying, Working, Finished}
-use Rattle.channel_calls.specs.declared.stage.NextStep.{NextStep}
-use Rattle.channel_calls.specs.declared.stage.NextStep.TheVariants.{Tries, Works, Ends}
-use Rattle.channel_calls.specs.declared.stage.Waiting.{Waiting}
-use Rattle.channel_calls.specs.declared.stage.ListStep.{ListStep}
-use Rattle.channel_calls.specs.declared.stage.ListStep.TheVariants.{TellReceive, TellStreams, TellSend, TellSends, TakeRoom, TellAll, Insert, Register, Leave, Lower, Count, Load, Raise}
-use Rattle.channel_steps.specs.Known.{StageAt}
-use Rattle.channel_steps.specs.Moments.{MarkedMoment}
-use Rattle.channel_world_runs.specs.Counted.{same_side, is_lowering, is_raising}
-use Rattle.channel_world_runs.proofs.CountNames.{bit}
-use Rattle.channel_world_runs.proofs.OwnerTurns.{Stays, ends_has, told_all_has, room_has, lowered_has, loaded_has, answered_has}
+use Rattle.std.specs.Prelude.{◌≡◌, ◌+◌, ◌-◌, ◌^◌, ◌≤◌, ◌==◌, ◌&&◌, if◌then◌else◌, ◌⊎◌}
+use Rattle.channel_world_runs.proofs.Lemmas.{arith, ℕ, Bool, true, false, nat_lt, List, [], Option, None, Some, inl, inr, refl, sym, ap, ◌∙◌, subst, nat_tests, Phase, Continues, QueueReply, listened, registration, removed, Key, answered_next, up, is_made, Channel, Effect, queued, untouched, on_line, on_count, leaves, Turned, TakesRoomFor, Inserts, Worked, Moves, WaitLists, Listeners, listeners, with_listeners, with_count, count, is_raised, line_of, leaving, nothing_kept, ends_by, again, pends_by, unlistened, told_all_next, room_next, roomless, lowered_next, loaded_next, raised_next, ChannelAsk, Reply, Purpose, Ending, ListenerRef, WaitList, Sends, Receives, Streams, Closings, Making, Side, Senders, Receivers, Stage, Trying, Working, Finished, NextStep, Tries, Works, Ends, WaitingStep as Waiting, ListStep, TellReceive, TellStreams, TellSend, TellSends, TakeRoom, TellAll, Insert, Register, Leave, Lower, Count, Load, Raise, StageAt, MarkedMoment, same_side, is_lowering, is_raising, bit, Stays, ends_has, told_all_has, room_has, lowered_has, loaded_has, answered_has}
+use Rattle.concurrent_queue.specs.Queue.{Answers}
+use Rattle.channel_calls.specs.Parts.{waits}
 
 -- ---- a count
 
 module _ {W : Type 0} where
   lines_count : (side : Side) (line : WaitList) (l : Listeners W) (r : WaitLists W) → count side (with_listeners line l r) ≡ count side r
   lines_count Senders Sends l r = refl
-  lines_count Senders Receives l r = refl
-  lines_count Senders Streams l r = refl
-  lines_count Senders Closings l r = refl
   lines_count Receivers Sends l r = refl
-  lines_count Receivers Receives l r = refl
-  lines_count Receivers Streams l r = refl
-  lines_count Receivers Closings l r = refl
+  lines_count side line l r = refl
 
   -- a count that is lowered by one
   lowered_count : (side s : Side) (r : WaitLists W) → bit (same_side side s) ≤ count side r
@@ -181,7 +145,7 @@ module _ (T W : Type 0) where
         (taken side (Working (Lower s key)) (lowered_next s key (count s c.wait_lists)) r at was _ h.1
         ((lowered_has T W s key (count s c.wait_lists) None).1 side) (lowered_count side s c.wait_lists low))
     works (Count s) e r at low h =
-        as_it (Working (Count s)) r at e _ h.0 (still (Working (Count s)) (Ends (reply.Count (count s c.wait_lists)) nothing_kept) r at refl h.1 refl)
+        as_it (Working (Count s)) r at e _ h.0 (still (Working (Count s)) (Ends (Reply.Count (count s c.wait_lists)) nothing_kept) r at refl h.1 refl)
     works (Load s m) e r at low h =
         as_it (Working (Load s m)) r at e _ h.0
         (still (Working (Load s m)) (loaded_next s m (count s c.wait_lists)) r at refl h.1 ((loaded_has T W s m (count s c.wait_lists)).1 side))
@@ -189,7 +153,7 @@ module _ (T W : Type 0) where
         as_it (Working (Raise s n m)) r at e _ h.0 (raised s n m (is_raised s n c.wait_lists) r at refl h.1)
 
     goes_on : (f f' : Phase T) (a : Purpose T W) → is_raising side (Trying f' a) ≡ is_raising side (Trying f a)
-    goes_on f f' purpose.TrySend = refl
+    goes_on f f' Purpose.TrySend = refl
     goes_on f f' x = refl
 
     continues : (f f' : Phase T) (a : Purpose T W) (r : Option (Reply T)) (s : Stage (Phase T) T W) → r ≡ None → s ≡ Trying f' a

@@ -1,25 +1,8 @@
 -- What layers above may use: of a channel with no call under way, of what leads on from one configuration to another, how few steps
 -- are left to the calls under way, that each party has one call, and what is owed to those that are pending, and
 -- that only sends bring messages.
-use Rattle.std.proofs.Common.{◌≡◌, false, List, [], ◌∷◌, ◌++◌, None, subst}
-use Rattle.channel_calls.specs.declared.reply.Reply.{Reply}
-use Rattle.channel_world_model.specs.declared.call.Call.{Call}
-use Rattle.channel_world_model.specs.declared.name.Waiter.{Waiter}
-use Rattle.channel_steps.specs.Answers.{asks_first}
-use Rattle.channel_steps.specs.Configuration.{ActiveCall, Configuration}
-use Rattle.channel_world_runs.specs.WorldState.{Led, LeadsOn, Stands}
-use Rattle.channel_world_runs.specs.WorldInvariant.{WorldInvariant, AllTry, NamesKept}
-use Rattle.channel_world_runs.specs.Owed.{Owed}
-use Rattle.channel_world_runs.specs.Owners.{All, status}
-use Rattle.channel_world_runs.specs.Refusal.{step_refusal}
-use Rattle.channel_world_runs.specs.Run.{NameState}
-use Rattle.channel_world_runs.specs.Runs.{Moment, LeadsBy}
-use Rattle.channel_world_runs.specs.ObservationAt.{observation_at}
-use Rattle.channel_world_runs.specs.declared.step.Entry.{Entry}
-use Rattle.channel_world_runs.specs.declared.step.PartyId.{PartyId}
-use Rattle.channel_world_runs.specs.declared.step.Step.TheVariants as step
-use Rattle.channel_world_runs.specs.declared.world_state.WorldState.{WorldState}
-use Rattle.channel_world_runs.proofs.AccountFacts.{no_accounts, accounts_both}
+use Rattle.std.specs.Prelude.{◌≡◌, ◌∷◌, ◌++◌}
+use Rattle.channel_world_runs.proofs.Lemmas.{false, List, [], None, subst, Reply, Call, Waiter, asks_first, ActiveCall, Configuration, Led, LeadsOn, Stands, WorldInvariant, AllTry, NamesKept, Owed, All, status, step_refusal, NameState, Moment, LeadsBy, observation_at, Entry, PartyId, WorldState, Step, no_accounts, accounts_both, no_way, ways_on}
 pub use Rattle.channel_world_runs.proofs.WorldStateFacts.{few_in}
 use Rattle.channel_world_runs.proofs.LeftFacts as left_facts
 pub use Rattle.channel_world_runs.proofs.LeftFacts.{nobody_still}
@@ -28,7 +11,6 @@ use Rattle.channel_world_runs.proofs.OwnerRuns.{idle_and_free}
 use Rattle.channel_world_runs.proofs.OwnerTogether.{all_right}
 use Rattle.channel_world_runs.proofs.ObservationFacts as observation_facts
 pub use Rattle.channel_world_runs.proofs.ReachesFacts.{ran_leads}
-use Rattle.channel_world_runs.proofs.ReachesFacts.{no_way, ways_on}
 
 module _ {T : Type 0} where
   -- a call under way asks no listener before it tries
@@ -63,13 +45,13 @@ module _ {T : Type 0} where
       record { configuration = t.last; stands = t.stands }
 
   -- in a step, no call that began before that of the party that makes it is of this party
-  pub none_before : (m : Moment T) (p : PartyId) (e : Entry T) (n : Moment T) → WorldInvariant m.name_state m.configuration → (l : LeadsBy m (step.Step p) e n)
+  pub none_before : (m : Moment T) (p : PartyId) (e : Entry T) (n : Moment T) → WorldInvariant m.name_state m.configuration → (l : LeadsBy m (Step.Step p) e n)
       → All (λ (u : ActiveCall T Waiter). u.party ≡ p.0 → ⊥) l.made.next.before
   none_before m p e n k l = left_facts.apart m.name_state m.configuration k.owned p.0 _ e.woken.items n.configuration l.made.next
 
   -- and a party that may begin a call has none under way
   pub none_of : (b : NameState T) (s : Configuration T Waiter) (p : PartyId) (c : Call T) → WorldInvariant b s
-      → step_refusal b.name_table b.agents (step.Begin p c) ≡ None → All (λ (u : ActiveCall T Waiter). u.party ≡ p.0 → ⊥) s.under_way
+      → step_refusal b.name_table b.agents (Step.Begin p c) ≡ None → All (λ (u : ActiveCall T Waiter). u.party ≡ p.0 → ⊥) s.under_way
   none_of b s p c k fine =
       let idle = idle_and_free p c b fine in left_facts.none_at_work (status b.name_table) p.0 b.agents s.under_way k.owned.together idle.0
 

@@ -1,29 +1,6 @@
 -- The steps that are left to a call, by its party and by its place.
-use Rattle.std.proofs.lemmas.Bool.{eq-eqb, ne_eqb}
-use Rattle.std.proofs.Common.{arith, ◌≡◌, ℕ, suc, ◌≤◌, ◌==◌, nat_eq, Bool, true, false, if◌then◌else◌, List, [], ◌∷◌, ◌++◌, map, length, slice_get, Option, None, Some, refl, sym, ap, ◌∙◌, subst}
-use Rattle.std.proofs.lemmas.List.{length-map}
-use Rattle.channel_calls.specs.Moves.{Channel}
-use Rattle.channel_calls.specs.Parts.{Parts}
-use Rattle.channel_calls.specs.declared.reply.Reply.{Reply}
-use Rattle.channel_world_model.specs.declared.name.Waiter.{Waiter}
-use Rattle.channel_steps.specs.Left.{party_left, all_left, left_at, most_left, most_wanted}
-use Rattle.channel_steps.proofs.Interface.{hold_still}
-use Rattle.channel_steps.specs.Configuration.{ActiveCall, Configuration, ActiveCallWitness, OthersQuiet, Represents, Steps, sees, does, active_call_of, unless_ended, wanted_at, parties_in}
-use Rattle.channel_steps.specs.declared.party.Entry.{Entry as ChannelEntry}
-use Rattle.channel_steps.specs.declared.party.Party.{Party}
-use Rattle.channel_world_runs.specs.WorldState.{name_state_of, parties_of, parts_in, lefts_in, StandsIn, LedByStep}
-use Rattle.channel_world_runs.specs.WorldInvariant.{WorldInvariant}
-use Rattle.channel_world_runs.specs.Left.{calls_of_others, wanted_of, left_of}
-use Rattle.channel_world_runs.specs.Owners.{NameStatus, status, All, AllDiffer, Differ, Owned, Together}
-use Rattle.channel_world_runs.specs.NameTable.{is_at_work}
-use Rattle.channel_world_runs.specs.Run.{NameState}
-use Rattle.channel_world_runs.specs.Runs.{Moment, ComesNearer, LeadsBy, moment_of}
-use Rattle.channel_world_runs.specs.declared.world_state.WorldState.{WorldState}
-use Rattle.channel_world_runs.specs.Calls.{Agent}
-use Rattle.channel_world_runs.specs.declared.step.Entry.{Entry}
-use Rattle.channel_world_runs.specs.declared.step.PartyId.{PartyId}
-use Rattle.channel_world_runs.specs.declared.step.Step.{Step}
-use Rattle.channel_world_runs.specs.declared.step.Step.TheVariants as step
+use Rattle.std.specs.Prelude.{◌≡◌, ◌≤◌, ◌==◌, if◌then◌else◌, ◌∷◌, ◌++◌}
+use Rattle.channel_world_runs.proofs.Lemmas.{eq-eqb, ne_eqb, arith, ℕ, suc, nat_eq, Bool, true, false, List, [], map, length, slice_get, Option, None, Some, refl, sym, ap, ◌∙◌, subst, length-map, Channel, Parts, Reply, Waiter, party_left, all_left, left_at, most_left, most_wanted, hold_still, ActiveCall, Configuration, ActiveCallWitness, OthersQuiet, Represents, Steps, sees, does, active_call_of, unless_ended, wanted_at, parties_in, ChannelEntry, Party, name_state_of, parties_of, parts_in, lefts_in, StandsIn, LedByStep, WorldInvariant, calls_of_others, wanted_of, left_of, NameStatus, status, All, AllDiffer, Differ, Owned, Together, is_at_work, NameState, Moment, ComesNearer, LeadsBy, moment_of, WorldState, Agent, Entry, PartyId, Step}
 use Rattle.channel_world_runs.proofs.OwnerSteps.{not_this, other_number}
 
 module _ {T : Type 0} where
@@ -54,8 +31,7 @@ module _ {T : Type 0} where
   none_at_work statuses p (a ∷ more) (u ∷ us) t idle =
       let first = not_this (nat_eq a.party p) (is_at_work p more) idle in
       (λ e. other_number a.party p first.0 (t.0.party ∙ e), none_at_work statuses p more us t.1 first.1)
-  none_at_work statuses p [] (u ∷ us) t idle = absurd t
-  none_at_work statuses p (a ∷ more) [] t idle = absurd t
+  none_at_work statuses p more us t idle = absurd t
 
   others_are : (p : ℕ) (us : List (ActiveCall T Waiter)) (mine : ActiveCall T Waiter) (vs : List (ActiveCall T Waiter)) → NoneIs p us → mine.party ≡ p
       → calls_of_others p (us ++ (mine ∷ vs)) ≡ us ++ vs
@@ -140,14 +116,14 @@ module _ {T : Type 0} where
         (hold_still s p e names t n (subst (λ (us : List (ActiveCall T Waiter)). OthersQuiet s.now us) others_before handle_entry))
 
   -- where the others of a call are quiet, they are still so after a step of its own
-  pub nobody_still : (m : Moment T) (p : PartyId) (e : Entry T) (n : Moment T) → WorldInvariant m.name_state m.configuration → LeadsBy m (step.Step p) e n
+  pub nobody_still : (m : Moment T) (p : PartyId) (e : Entry T) (n : Moment T) → WorldInvariant m.name_state m.configuration → LeadsBy m (Step.Step p) e n
       → e.reply ≡ None → OthersQuiet m.configuration.now (calls_of_others p.0 m.configuration.under_way) → OthersQuiet n.configuration.now (calls_of_others p.0 n.configuration.under_way)
   nobody_still m p e n k l goes_on handle_entry = still_free m.name_state m.configuration k.owned p.0 _ e.woken.items n.configuration l.made.next goes_on handle_entry
 
   pub comes_nearer : (x : Step T) (f g : WorldState T) (e : Entry T) (s : Configuration T Waiter) → StandsIn f s → (t : LedByStep x f e g s)
       → ComesNearer (moment_of f s) x e (moment_of g t.after)
-  comes_nearer (step.Begin p c) f g e s k t = tt
-  comes_nearer (step.Step p) f g e s k t = λ goes_on handle_entry.
+  comes_nearer (Step.Begin p c) f g e s k t = tt
+  comes_nearer (Step.Step p) f g e s k t = λ goes_on handle_entry.
       let n = t.made.next in
       let u = t.after in
       let o = k.kept.owned in

@@ -1,3 +1,5 @@
+pub mod Lemmas
+pub mod Words
 pub mod LruLemmas
 pub mod NoLonger
 pub mod RefusalLemmas

@@ -1,45 +1,12 @@
 -- A call made alone, by names: what its code does, and what is kept.
-use Rattle.std.proofs.Common.{arith, ◌≡◌, ◌+◌, ◌-◌, ◌≤◌, ◌^◌, min, ℕ, Bool, true, false, List, [], ◌∷◌, map, length, drop, Option, None, Result, Ok, Err, IfOk, OnErr, ◌⊎◌, inl, inr, refl, sym, ap, ◌∙◌, subst, vec_len, vec_capacity}
-use Rattle.std.specs.Global.{Vec}
-use Rattle.channel_calls.specs.Moves.{Channel}
-use Rattle.channel_calls.specs.declared.ask.ChannelAsk.{ChannelAsk}
-use Rattle.channel_calls.specs.declared.reply.Reply.{Reply}
-use Rattle.channel_steps.specs.solo.Alone.{Alone}
+use Rattle.std.specs.Prelude.{◌≡◌, ◌+◌, ◌-◌, ◌≤◌, ◌^◌, ◌∷◌, ◌⊎◌}
+use Rattle.channel_world_runs.proofs.Lemmas.{arith, min, ℕ, Bool, true, false, List, [], map, length, drop, Option, None, Result, Ok, Err, IfOk, OnErr, inl, inr, refl, sym, ap, ◌∙◌, subst, vec_len, vec_capacity, Vec, Channel, ChannelAsk, Reply, Alone, LoneRun, Call, Waiter, Answered, FitsAt, ActiveCall, Configuration, ActiveCallWitness, active_call_of, all_seats, Represents, asks, BeginsByName, parties_of, agents_of, parts_in, name_state_of, AreCounted, HasOnePlace, Shown, IsQuiet, IsSame, LeadsOn, activity_of, WorldInvariant, All, BringsWithin, CallsAlone, FinishesAlone, WakesAtMost, brings, accepted_by, is_one_place, yet_in, begin_refusal, NameState, Reaches, reply_of, WakeOrder, order_begun, Begun, NameTable, WorldState, agent_of, CallUnderWay, Sink, none_read, no_accounts, run_accounts, Admitted, admitted, came_most, counted_alone, has_position, no_way, lone_way, all_heard, drop_front}
 use Rattle.channel_steps.specs.solo.Run.{HasNextPosition, IsAtRest}
-use Rattle.channel_steps.specs.solo.Configurations.{LoneRun}
-use Rattle.channel_world_model.specs.declared.call.Call.{Call}
-use Rattle.channel_world_model.specs.declared.name.Waiter.{Waiter}
-use Rattle.channel_world_model.specs.declared.run.Done.{Done as Answered}
-use Rattle.concurrent_queue.specs.Step.{FitsAt}
-use Rattle.channel_steps.specs.Configuration.{ActiveCall, Configuration, ActiveCallWitness, active_call_of, all_seats, Represents}
-use Rattle.channel_world_runs.specs.Bookkeeping.{asks, BeginsByName}
-use Rattle.channel_world_runs.specs.WorldState.{parties_of, agents_of, parts_in, name_state_of, AreCounted, HasOnePlace, Shown, IsQuiet, IsSame, LeadsOn}
 use Rattle.channel_world_runs.specs.WorldState as place
-use Rattle.channel_world_runs.specs.Activity.{activity_of}
-use Rattle.channel_world_runs.specs.WorldInvariant.{WorldInvariant}
-use Rattle.channel_world_runs.specs.Owners.{All}
-use Rattle.channel_world_runs.specs.Lone.{BringsWithin, CallsAlone, FinishesAlone, WakesAtMost}
-use Rattle.channel_world_runs.specs.Positions.{brings, accepted_by, is_one_place, yet_in}
-use Rattle.channel_world_runs.specs.Refusal.{begin_refusal}
-use Rattle.channel_world_runs.specs.Run.{NameState}
-use Rattle.channel_world_runs.specs.Reaches.{Reaches, reply_of}
-use Rattle.channel_world_runs.specs.Order.{WakeOrder, order_begun}
-use Rattle.channel_world_runs.specs.declared.beginning.Begun.{Begun}
-use Rattle.channel_world_runs.specs.declared.name_table.NameTable.{NameTable}
-use Rattle.channel_world_runs.specs.declared.world_state.WorldState.{WorldState}
-use Rattle.channel_world_runs.specs.Calls.{agent_of}
-use Rattle.channel_world_runs.specs.declared.calls.CallUnderWay.{CallUnderWay}
-use Rattle.channel_world_runs.specs.declared.woken.Woken.{Woken as Sink}
 use Rattle.channel_world_runs.proofs.WorldInvariant.{kept_alone}
-use Rattle.channel_world_runs.proofs.CallFacts.{none_read}
-use Rattle.channel_world_runs.proofs.AccountFacts.{no_accounts, run_accounts}
 use Rattle.channel_world_runs.proofs.ActivityFacts.{TookFew}
-use Rattle.channel_world_runs.proofs.OwnerBegins.{Admitted, admitted}
 use Rattle.channel_world_runs.proofs.WorldStateFacts.{stands_in, stands_same}
-use Rattle.channel_world_runs.proofs.PlaceFacts.{Counted, came_most, counted_alone}
-use Rattle.channel_world_runs.proofs.ShownFacts.{has_position}
-use Rattle.channel_world_runs.proofs.ReachesFacts.{no_way, lone_way}
-use Rattle.channel_world_runs.proofs.WokenFacts.{all_heard, drop_front}
+use Rattle.channel_world_runs.proofs.PlaceFacts.{Counted}
 
 module _ {T : Type 0} where
   -- a configuration that is shown has none then

@@ -1,13 +1,7 @@
 -- The names in the kit's list of recent use and those of them that are marked, as one is put in front, goes last or is taken out.
-use Rattle.std.proofs.Common.{arith, ◌≡◌, ◌-◌, ◌^◌, ◌<◌, ◌≤◌, ◌++◌, ◌&&◌, Bool, List, [], ◌∷◌, length, true, false, if◌then◌else◌, Option, None, Some, is_some, refl, sym, ap, ◌∙◌, subst, inl, inr}
-use Rattle.std.specs.List.{IsDistinct, count_by}
-use Rattle.std.specs.Map.{keys_of, lookup, lookup_entry, remove_entry}
-use Rattle.std.proofs.lemmas.List.{take_all, map-append}
-use Rattle.lru.specs.LruCache.{LruCache, put_entries, demoted}
-use Rattle.channel_world_model.specs.Lines.{same_waiter, is_among, without_waiter}
-use Rattle.channel_world_model.specs.declared.name.Waiter.{Waiter}
-use Rattle.channel_world_model.proofs.WaiterLemmas.{decided, same_sound, or_false, without_absent, first_apart, rest_apart, entry_is, keys_without}
-use Rattle.channel_world_runs.specs.Order.{marked_places}
+use Rattle.std.specs.Prelude.{◌≡◌, ◌-◌, ◌^◌, ◌<◌, ◌≤◌, ◌++◌, ◌&&◌, ◌∷◌, if◌then◌else◌}
+use Rattle.channel_world_runs.proofs.Lemmas.{arith, Bool, List, [], length, true, false, Option, None, Some, is_some, refl, sym, ap, ◌∙◌, subst, inl, inr, count_by, keys_of, lookup, lookup_entry, remove_entry, take_all, map-append, LruCache, put_entries, demoted, same_waiter, is_among, without_waiter, Waiter, decided, same_sound, or_false, without_absent, first_apart, rest_apart, entry_is, keys_without, marked_places}
+use Rattle.std.specs.List.{IsDistinct}
 use Rattle.channel_world_runs.proofs.OwedCounts.{count_first}
 
 -- how many are marked

@@ -1,10 +1,6 @@
 -- No more names in one list than in another: where all of the first, none of them twice, stand in the second.
-use Rattle.std.proofs.Common.{arith, ◌≡◌, ◌+◌, ◌≤◌, true, false, List, [], ◌∷◌, length, inl, inr, refl}
-use Rattle.channel_world_model.proofs.Counting.{among_counts, among_self, count_without_other, or_right}
-use Rattle.channel_world_model.proofs.WaiterLemmas.{decided}
-use Rattle.channel_world_model.specs.Awake.{times}
-use Rattle.channel_world_model.specs.Lines.{same_waiter, is_among, without_waiter}
-use Rattle.channel_world_model.specs.declared.name.Waiter.{Waiter}
+use Rattle.std.specs.Prelude.{◌≡◌, ◌+◌, ◌≤◌, ◌∷◌}
+use Rattle.channel_world_runs.proofs.Words.{arith, true, false, List, [], length, inl, inr, refl, among_counts, among_self, count_without_other, or_right, decided, times, same_waiter, is_among, without_waiter, Waiter}
 
 taken_out : (w : Waiter) (ws : List Waiter) → length (without_waiter w ws) + times w ws ≡ length ws
 taken_out w [] = refl

@@ -1,49 +1,9 @@
 -- One that is pending and was woken holds a listener that is on its list, so that its poll, made alone, is refused no memory.
-use Rattle.std.proofs.Common.{cond, ◌≡◌, nat_eq, ℕ, Bool, true, false, if◌then◌else◌, List, [], ◌∷◌, Option, None, Some, is_some, inl, inr, refl, sym, ap, ◌∙◌, subst}
-use Rattle.std.specs.Map.{lookup, keys_of}
-use Rattle.std.specs.Option.{option_map, option_map_or}
-use Rattle.concurrent_queue.specs.Capacity.{capacity_of}
-use Rattle.concurrent_queue.proofs.Interface.{shows}
-use Rattle.event_listener.specs.Lists.{Notice, kind_of, told_as, waits_as, same_key}
-use Rattle.event_listener.specs.declared.key.Key.{Key}
-use Rattle.channel_calls.specs.Moves.{Channel}
-use Rattle.channel_calls.specs.Parts.{Parts, Listeners, WaitLists, listeners}
-use Rattle.channel_calls.specs.declared.ask.ChannelAsk.{ChannelAsk}
-use Rattle.channel_calls.specs.declared.reply.Reply.{Reply}
-use Rattle.channel_calls.specs.declared.stage.ListenerRef.{ListenerRef}
-use Rattle.channel_calls.specs.declared.stage.WaitList.{WaitList}
-use Rattle.channel_calls.specs.declared.stage.WaitList.TheVariants.{Sends, Receives, Streams, Closings}
+use Rattle.std.specs.Prelude.{◌≡◌, if◌then◌else◌, ◌∷◌}
+use Rattle.channel_world_runs.proofs.Lemmas.{cond, nat_eq, ℕ, Bool, true, false, List, [], Option, None, Some, is_some, inl, inr, refl, sym, ap, ◌∙◌, subst, lookup, keys_of, option_map, option_map_or, capacity_of, shows, Notice, kind_of, told_as, waits_as, same_key, Key, Channel, Parts, Listeners, WaitLists, listeners, ChannelAsk, Reply, ListenerRef, WaitList, Sends, Receives, Streams, Closings, poll_asked, at, poll_of, HandleId, HandleKind, OpId, Operation, Waiter, Op, Stream, Configuration, all_seats, asks, parts_in, name_state_of, Shown, Stands, WorldInvariant, IsTold, IsMarked, IsAmong, free, retired, invalid, rests, waits, polled, no_stream_status, stream_status, operation_status, status_by, status, key_of, names_of, held_of, WorldState, HandleEntry, OperationEntry, PollState, Rests, Waits, IsPolled, NameTable, Call, same_self, operation_at, among_is}
 use Rattle.channel_steps.specs.solo.Ample.{lacks_memory, IsOnList, HasNode}
 use Rattle.channel_steps.specs.every_run.Unlisted.{NoSendListens}
-use Rattle.channel_world_model.specs.Asked.{poll_asked}
-use Rattle.channel_world_model.specs.Names.{at}
-use Rattle.channel_world_model.specs.Settling.{poll_of}
-use Rattle.channel_world_model.specs.declared.call.Call.TheVariants as call
-use Rattle.channel_world_model.specs.declared.name.HandleId.{HandleId}
-use Rattle.channel_world_model.specs.declared.name.HandleKind.{HandleKind}
-use Rattle.channel_world_model.specs.declared.name.HandleKind.TheVariants as handle_kind
-use Rattle.channel_world_model.specs.declared.name.OpId.{OpId}
-use Rattle.channel_world_model.specs.declared.name.Operation.{Operation}
-use Rattle.channel_world_model.specs.declared.name.Operation.TheVariants as live
-use Rattle.channel_world_model.specs.declared.name.Waiter.{Waiter}
-use Rattle.channel_world_model.specs.declared.name.Waiter.TheVariants.{Op, Stream}
-use Rattle.channel_steps.specs.Configuration.{Configuration, all_seats}
-use Rattle.channel_world_runs.specs.Bookkeeping.{asks}
-use Rattle.channel_world_runs.specs.WorldState.{parts_in, name_state_of, Shown, Stands}
-use Rattle.channel_world_runs.specs.WorldInvariant.{WorldInvariant}
-use Rattle.channel_world_runs.specs.OwnerWoken.{IsTold, IsMarked}
-use Rattle.channel_world_runs.specs.Owners.{IsAmong, free, retired, invalid, rests, waits, polled, no_stream_status, stream_status, operation_status, status_by, status}
-use Rattle.channel_world_runs.specs.NameTable.{key_of, names_of, held_of}
 use Rattle.channel_world_runs.specs.Settle.{IsWoken}
-use Rattle.channel_world_runs.specs.declared.world_state.WorldState.{WorldState}
-use Rattle.channel_world_runs.specs.declared.names.HandleEntry.{HandleEntry}
-use Rattle.channel_world_runs.specs.declared.names.OperationEntry.{OperationEntry}
-use Rattle.channel_world_runs.specs.declared.names.PollState.{PollState}
-use Rattle.channel_world_runs.specs.declared.names.PollState.TheVariants.{Rests, Waits, IsPolled}
-use Rattle.channel_world_runs.specs.declared.name_table.NameTable.{NameTable}
-use Rattle.channel_world_runs.proofs.OwnerLists.{same_self}
-use Rattle.channel_world_runs.proofs.RefusalLemmas.{operation_at}
-use Rattle.channel_world_runs.proofs.OwnerOrderNames.{among_is}
 
 -- one that was told is listed
 told_there : (key : Key) (xs : List (Key × Notice Unit)) → IsAmong key (keys_of xs) → is_some (lookup (same_key key) xs) ≡ true
@@ -84,25 +44,25 @@ module _ {T : Type 0} where
   module _ (p : Parts T Waiter) (h : ListenerRef) (there : IsThere h p.wait_lists) (bound : MayWait h p) where
     by_operation : (key : Option Key) (op : OpId) (x : Operation T) (s : PollState) → key ≡ key_of s → operation_status x s ≡ waits h
         → HasNode (poll_asked key op (Some x)) p
-    by_operation key op (live.Send g None) Rests e f = absurd (let no : rests Sends ≡ waits h = f in cc)
-    by_operation key op (live.Send g None) (Waits own) e f = absurd (let no : invalid ≡ waits h = f in cc)
-    by_operation key op (live.Send g None) (IsPolled z) e f = absurd (let no : polled Sends ≡ waits h = f in cc)
-    by_operation key op (live.Send g (Some m)) Rests e f = absurd (let no : rests Sends ≡ waits h = f in cc)
-    by_operation key op (live.Send g (Some m)) (IsPolled z) e f = absurd (let no : polled Sends ≡ waits h = f in cc)
-    by_operation key op (live.Send g (Some m)) (Waits own) e f =
+    by_operation key op (Operation.Send g None) Rests e f = absurd (let no : rests Sends ≡ waits h = f in cc)
+    by_operation key op (Operation.Send g None) (Waits own) e f = absurd (let no : invalid ≡ waits h = f in cc)
+    by_operation key op (Operation.Send g None) (IsPolled z) e f = absurd (let no : polled Sends ≡ waits h = f in cc)
+    by_operation key op (Operation.Send g (Some m)) Rests e f = absurd (let no : rests Sends ≡ waits h = f in cc)
+    by_operation key op (Operation.Send g (Some m)) (IsPolled z) e f = absurd (let no : polled Sends ≡ waits h = f in cc)
+    by_operation key op (Operation.Send g (Some m)) (Waits own) e f =
         let same = same_held Sends own h f in
         (rw e (subst (λ (x : ListenerRef). IsThere x p.wait_lists) (sym same) there), bound (ap (λ (x : ListenerRef). x.line) (sym same)))
-    by_operation key op (live.Receive g) Rests e f = absurd (let no : rests Receives ≡ waits h = f in cc)
-    by_operation key op (live.Receive g) (IsPolled z) e f = absurd (let no : polled Receives ≡ waits h = f in cc)
-    by_operation key op (live.Receive g) (Waits own) e f =
+    by_operation key op (Operation.Receive g) Rests e f = absurd (let no : rests Receives ≡ waits h = f in cc)
+    by_operation key op (Operation.Receive g) (IsPolled z) e f = absurd (let no : polled Receives ≡ waits h = f in cc)
+    by_operation key op (Operation.Receive g) (Waits own) e f =
         rw e (subst (λ (x : ListenerRef). IsThere x p.wait_lists) (sym (same_held Receives own h f)) there)
-    by_operation key op (live.Closing g) Rests e f = absurd (let no : rests Closings ≡ waits h = f in cc)
-    by_operation key op (live.Closing g) (IsPolled z) e f = absurd (let no : polled Closings ≡ waits h = f in cc)
-    by_operation key op (live.Closing g) (Waits own) e f =
+    by_operation key op (Operation.Closing g) Rests e f = absurd (let no : rests Closings ≡ waits h = f in cc)
+    by_operation key op (Operation.Closing g) (IsPolled z) e f = absurd (let no : polled Closings ≡ waits h = f in cc)
+    by_operation key op (Operation.Closing g) (Waits own) e f =
         rw e (subst (λ (x : ListenerRef). IsThere x p.wait_lists) (sym (same_held Closings own h f)) there)
 
     operation_node : (r : NameTable T) (op : OpId) (o : Option (Option (OperationEntry T))) → lookup (nat_eq op.0) r.operations ≡ o
-        → status_by (λ (x : OperationEntry T). operation_status x.operation x.poll_state) o ≡ waits h → HasNode (asks r (call.Poll op)) p
+        → status_by (λ (x : OperationEntry T). operation_status x.operation x.poll_state) o ≡ waits h → HasNode (asks r (Call.Poll op)) p
     operation_node r op None e f = absurd (let no : free ≡ waits h = f in cc)
     operation_node r op (Some None) e f = absurd (let no : retired ≡ waits h = f in cc)
     operation_node r op (Some (Some x)) e f =
@@ -115,14 +75,14 @@ module _ {T : Type 0} where
     -- a receiver that is pending as a stream
     by_stream : (k : HandleKind) (s : PollState) (key : Option Key) → key ≡ key_of s → stream_status k s ≡ waits h
         → IsOnList Streams key p.wait_lists
-    by_stream handle_kind.Receiver Rests key e f = absurd (let no : rests Streams ≡ waits h = f in cc)
-    by_stream handle_kind.Receiver (IsPolled z) key e f = absurd (let no : polled Streams ≡ waits h = f in cc)
-    by_stream handle_kind.Receiver (Waits own) key e f =
+    by_stream HandleKind.Receiver Rests key e f = absurd (let no : rests Streams ≡ waits h = f in cc)
+    by_stream HandleKind.Receiver (IsPolled z) key e f = absurd (let no : polled Streams ≡ waits h = f in cc)
+    by_stream HandleKind.Receiver (Waits own) key e f =
         rw e (subst (λ (x : ListenerRef). IsThere x p.wait_lists) (sym (same_held Streams own h f)) there)
     by_stream x s key e f = absurd (no_stream s h f)
 
     stream_node : (r : NameTable T) (receiver : HandleId) (o : Option (Option HandleEntry)) → lookup (nat_eq receiver.0) r.handles ≡ o
-        → status_by (λ (x : HandleEntry). stream_status x.handle.kind x.poll_state) o ≡ waits h → HasNode (asks r (call.PollNext receiver)) p
+        → status_by (λ (x : HandleEntry). stream_status x.handle.kind x.poll_state) o ≡ waits h → HasNode (asks r (Call.PollNext receiver)) p
     stream_node r receiver None e f = absurd (let no : free ≡ waits h = f in cc)
     stream_node r receiver (Some None) e f = absurd (let no : retired ≡ waits h = f in cc)
     stream_node r receiver (Some (Some x)) e f =

@@ -1,47 +1,12 @@
 -- What is owed in a configuration that is shown, a world owes as it is.
-use Rattle.std.proofs.Common.{arith, ◌≡◌, ℕ, zero, suc, ◌+◌, ◌-◌, ◌^◌, ◌≤◌, ◌<◌, min, Bool, true, false, ◌||◌, List, [], ◌∷◌, ◌++◌, map, length, Option, ◌⊎◌, inl, inr, refl, sym, ap, ◌∙◌, subst}
-use Rattle.std.specs.List.{count_by}
-use Rattle.concurrent_queue.proofs.Interface.{shows}
-use Rattle.concurrent_queue.specs.Capacity.{capacity_of}
-use Rattle.concurrent_queue.specs.Queue.{Queue, Phase}
-use Rattle.concurrent_queue.specs.Step.{closed_in}
+use Rattle.std.specs.Prelude.{◌≡◌, ◌+◌, ◌-◌, ◌^◌, ◌≤◌, ◌<◌, ◌||◌, ◌∷◌, ◌++◌, ◌⊎◌}
+use Rattle.channel_world_runs.proofs.Lemmas.{arith, ℕ, zero, suc, min, Bool, true, false, List, [], map, length, Option, inl, inr, refl, sym, ap, ◌∙◌, subst, count_by, shows, capacity_of, Queue, Phase, closed_in, Channel, phase, Mark, Close, parts_of, Sends, Stage, Working, Leave, HasClosed, HasPlaces, WakeInvariant, Waiter, ToldAt, MarkedMoment, ActiveCall, Configuration, ActiveCallWitness, AllKnown, active_call_of, all_seats, Telling, takings, owed_takings, owed_besides, Party, is_close, any_close, activity_of, parties_of, activities_of, name_state_of, parts_in, observation_of, AreCounted, HasOnePlace, Shown, IsSame, Observation, Owed, is_sending, is_receiving, unannounced, all_unannounced, woken_on, WakeOrder, All, AnyOf, Owned, WokenSound, NameState, unless_told, freed_by, all_freed, observation_at, Activity, CallUnderWay, WorldState, NameTable, OwedIn, balanced_in, capacity_is, one_slot}
 use Rattle.concurrent_queue.specs.declared.queue_call.QueueCall.{QueueCall}
-use Rattle.channel_calls.specs.Moves.{Channel, phase}
-use Rattle.channel_calls.specs.declared.mark.Mark.{Mark}
-use Rattle.channel_calls.specs.declared.mark.Mark.TheVariants.{Close}
 use Rattle.channel_calls.specs.declared.plain.PlainChannel.{PlainChannel}
-use Rattle.channel_calls.specs.Plain.{parts_of}
-use Rattle.channel_calls.specs.declared.stage.WaitList.TheVariants.{Sends}
-use Rattle.channel_calls.specs.declared.stage.Stage.{Stage}
-use Rattle.channel_calls.specs.declared.stage.Stage.TheVariants.{Working}
-use Rattle.channel_calls.specs.declared.stage.ListStep.TheVariants.{Leave}
-use Rattle.channel_steps.specs.every_run.Closings.{HasClosed}
-use Rattle.channel_steps.specs.every_run.Sends.{HasPlaces}
-use Rattle.channel_steps.specs.every_run.Sound.{WakeInvariant}
-use Rattle.channel_world_model.specs.declared.name.Waiter.{Waiter}
-use Rattle.channel_steps.specs.Known.{ToldAt}
-use Rattle.channel_steps.specs.Moments.{MarkedMoment}
-use Rattle.channel_steps.specs.Configuration.{ActiveCall, Configuration, ActiveCallWitness, AllKnown, active_call_of, all_seats}
-use Rattle.channel_steps.specs.Tellings.{Telling, takings, owed_takings, owed_besides}
-use Rattle.channel_steps.specs.declared.party.Party.{Party}
-use Rattle.channel_world_runs.specs.Activity.{is_close, any_close, activity_of}
-use Rattle.channel_world_runs.specs.WorldState.{parties_of, activities_of, name_state_of, parts_in, observation_of, AreCounted, HasOnePlace, Shown, IsSame}
-use Rattle.channel_world_runs.specs.Owed.{Observation, Owed, is_sending, is_receiving, unannounced, all_unannounced, woken_on}
-use Rattle.channel_world_runs.specs.Order.{WakeOrder}
-use Rattle.channel_world_runs.specs.Owners.{All, AnyOf, Owned}
-use Rattle.channel_world_runs.specs.OwnerWoken.{WokenSound}
-use Rattle.channel_world_runs.specs.Run.{NameState}
-use Rattle.channel_world_runs.specs.ObservationAt.{unless_told, freed_by, all_freed, observation_at}
-use Rattle.channel_world_runs.specs.declared.activity.Activity.{Activity}
-use Rattle.channel_world_runs.specs.declared.calls.CallUnderWay.{CallUnderWay}
-use Rattle.channel_world_runs.specs.declared.world_state.WorldState.{WorldState}
-use Rattle.channel_world_runs.specs.declared.name_table.NameTable.{NameTable}
 use Rattle.channel_world_runs.proofs.ActivityFacts.{TookFew}
 use Rattle.channel_world_runs.proofs.OwedCounts.{one_if, count_first}
 use Rattle.channel_world_runs.proofs.OwedFacts.{places, owed}
-use Rattle.channel_world_runs.proofs.OwedConfigurations.{OwedIn}
 use Rattle.channel_world_runs.proofs.OwedConfigurations as configurations
-use Rattle.channel_world_runs.proofs.ShownFacts.{balanced_in, capacity_is, one_slot}
 
 -- ---- what was told
 

@@ -1,20 +1,7 @@
 -- What is owed, said of a configuration: that is proved first, and of the world by it.
-use Rattle.std.specs.Prelude.{◌≡◌, ℕ, ◌+◌, ◌≤◌, Bool, true, [], length, ◌⊎◌}
-use Rattle.std.specs.List.{count_by}
-use Rattle.channel_calls.specs.declared.ask.ChannelAsk.{ChannelAsk}
-use Rattle.channel_calls.specs.declared.stage.WaitList.{WaitList}
-use Rattle.channel_calls.specs.declared.stage.WaitList.TheVariants.{Sends, Receives, Streams}
-use Rattle.channel_world_model.specs.declared.name.Waiter.{Waiter}
-use Rattle.channel_steps.specs.Moments.{Open, Shut}
-use Rattle.channel_steps.specs.Configuration.{ActiveCall, Configuration}
-use Rattle.channel_steps.specs.every_run.Closings.{HasClosed}
-use Rattle.channel_steps.specs.every_run.Sends.{HasPlaces}
-use Rattle.channel_world_runs.specs.Activity.{role_of}
-use Rattle.channel_world_runs.specs.Owed.{IsUnwoken, woken_on}
+use Rattle.std.specs.Prelude.{◌≡◌, ◌+◌, ◌≤◌, ◌⊎◌}
+use Rattle.channel_world_runs.proofs.Words.{ℕ, Bool, true, [], length, count_by, ChannelAsk, WaitList, Sends, Receives, Streams, Waiter, Open, Shut, ActiveCall, Configuration, HasClosed, HasPlaces, role_of, IsUnwoken, woken_on, AnyOf, NameState, all_freed}
 use Rattle.channel_world_runs.specs.Owed as world
-use Rattle.channel_world_runs.specs.Owners.{AnyOf}
-use Rattle.channel_world_runs.specs.Run.{NameState}
-use Rattle.channel_world_runs.specs.ObservationAt.{all_freed}
 
 module _ {T : Type 0} where
   abbrev pub is_sending : ChannelAsk T Waiter → Bool

@@ -1,48 +1,11 @@
 -- How many are told: no more than those whose names are pending and woken, and the calls that have a listener in hand.
-use Rattle.std.proofs.Common.{zero, arith, ◌≡◌, ℕ, suc, ◌+◌, ◌≤◌, Bool, true, false, cond, if◌then◌else◌, List, [], ◌∷◌, ◌++◌, length, length-append, Option, None, Some, inl, inr, refl, sym, ap, ◌∙◌, subst}
-use Rattle.std.proofs.lemmas.List.Sums.{sum_by-cons}
-use Rattle.std.specs.List.{count_by}
-use Rattle.std.specs.Map.{keys_of}
-use Rattle.concurrent_queue.specs.Queue.{Phase, Stage, trying, displaced, appended, taken}
-use Rattle.concurrent_queue.specs.declared.call.QueueAsk.{QueueAsk}
-use Rattle.concurrent_queue.specs.declared.call.QueueAsk.TheVariants as queue
-use Rattle.event_listener.specs.declared.key.Key.{Key}
-use Rattle.channel_calls.specs.Moves.{Channel}
-use Rattle.channel_calls.specs.declared.mark.Mark.{Mark}
-use Rattle.channel_calls.specs.declared.mark.Mark.TheVariants.{Append, Replace, Close}
-use Rattle.channel_calls.specs.Parts.{Listeners, listeners}
-use Rattle.channel_calls.specs.declared.ask.ChannelAsk.{ChannelAsk}
-use Rattle.channel_calls.specs.declared.ask.ChannelAsk.TheVariants as ask
-use Rattle.channel_calls.specs.declared.stage.Purpose.TheVariants as purpose
-use Rattle.channel_calls.specs.declared.stage.ListenerRef.{ListenerRef}
-use Rattle.channel_calls.specs.declared.stage.WaitList.{WaitList}
-use Rattle.channel_calls.specs.declared.stage.WaitList.TheVariants.{Sends, Receives, Streams, Closings}
+use Rattle.std.specs.Prelude.{◌≡◌, ◌+◌, ◌≤◌, if◌then◌else◌, ◌∷◌, ◌++◌}
+use Rattle.channel_world_runs.proofs.Lemmas.{zero, arith, ℕ, suc, Bool, true, false, cond, List, [], length, length-append, Option, None, Some, inl, inr, refl, sym, ap, ◌∙◌, subst, sum_by-cons, count_by, keys_of, Phase, trying, displaced, appended, taken, QueueAsk, Key, Channel, Mark, Append, Replace, Close, Listeners, listeners, ChannelAsk, ListenerRef, WaitList, Sends, Receives, Streams, Closings, Trying, Working, TellReceive, TellSend, TellSends, line_sound, line_refl, is_line, line_at, same_line, Waiter, TryAt, HasTaken, StageAt, ToldAt, MarkedMoment, TookAll, ActiveCall, Configuration, AllKnown, Telling, one_of, more_of, all_of, owed_for, owed_takings, with_taking, takings, owed_besides, is_trying, is_trying_anew, total, has_appended, is_to_tell_receive, counts_for_receives, has_taken, has_displaced, is_to_tell_send, is_on_its_way, counts_for_sends, names_of, woken_on, IsMarked, WokenSound, IsAmong, NoneTwice, AnyOf, NameStatus, waits, status, holding, line_asked, Together, HoldsIn, Holder, named, calling, Owned, NameState, Agent, NameTable, unless_told, all_freed, Purpose, at_it, to_send, among_left, among_right, among_of, none_parts, line_is}
+use Rattle.concurrent_queue.specs.Queue.{Stage}
 use Rattle.channel_calls.specs.declared.stage.Stage as stage
-use Rattle.channel_calls.specs.declared.stage.Stage.TheVariants.{Trying, Working}
-use Rattle.channel_calls.specs.declared.stage.ListStep.TheVariants.{TellReceive, TellSend, TellSends}
-use Rattle.channel_world_model.proofs.Awake.{line_sound, line_refl}
-use Rattle.channel_world_model.specs.Laws.{is_line, line_at, same_line}
-use Rattle.channel_world_model.specs.declared.name.Waiter.{Waiter}
-use Rattle.channel_steps.specs.Known.{TryAt, HasTaken, StageAt, ToldAt}
-use Rattle.channel_steps.specs.Moments.{MarkedMoment, TookAll}
-use Rattle.channel_steps.specs.Configuration.{ActiveCall, Configuration, AllKnown}
-use Rattle.channel_steps.specs.Tellings.{Telling, one_of, more_of, all_of, owed_for, owed_takings, with_taking, takings, owed_besides}
-use Rattle.channel_steps.specs.every_run.Amounts.{is_trying, is_trying_anew, total}
-use Rattle.channel_steps.specs.every_run.Receives.{has_appended, is_to_tell_receive, counts_for_receives}
-use Rattle.channel_steps.specs.every_run.Sends.{has_taken, has_displaced, is_to_tell_send, is_on_its_way, counts_for_sends}
-use Rattle.channel_world_runs.specs.NameTable.{names_of}
-use Rattle.channel_world_runs.specs.Owed.{woken_on}
-use Rattle.channel_world_runs.specs.OwnerWoken.{IsMarked, WokenSound}
-use Rattle.channel_world_runs.specs.Owners.{IsAmong, NoneTwice, AnyOf, NameStatus, waits, status, holding, line_asked, Together, HoldsIn, Holder, named, calling, Owned}
-use Rattle.channel_world_runs.specs.Run.{NameState}
-use Rattle.channel_world_runs.specs.Calls.{Agent}
-use Rattle.channel_world_runs.specs.declared.name_table.NameTable.{NameTable}
-use Rattle.channel_world_runs.specs.ObservationAt.{unless_told, all_freed}
-use Rattle.channel_world_runs.proofs.OwedConfigurations.{is_sending, is_receiving, at_it, to_send}
-use Rattle.channel_world_runs.proofs.OwnerLists.{among_left, among_right, among_of, none_parts}
+use Rattle.channel_world_runs.proofs.OwedConfigurations.{is_sending, is_receiving}
 use Rattle.channel_world_runs.proofs.OwnerTogether.{HasIt}
 use Rattle.channel_world_runs.proofs.OwnerWokenLists.{key_of_entry}
-use Rattle.channel_world_runs.proofs.rest.Names.{line_is}
 
 -- ---- keys without repeats that are among others are no more than these
 
@@ -123,13 +86,12 @@ hand_most line (Some h) = one_most (same_line line h.line)
 abbrev Lined : Option WaitList → Option ListenerRef → Type 0
 Lined l o = (h : ListenerRef) → o ≡ Some h → l ≡ Some h.line
 
-no_hand : (line : WaitList) (l : Option WaitList) (o : Option ListenerRef) → Lined l o → (l ≡ Some line → ⊥) → in_hand line o ≡ 0
-no_hand line l None f g = refl
-no_hand line l (Some h) f g = by (same_line line h.line) refl
-  where
-    by : (t : Bool) → same_line line h.line ≡ t → one_if (same_line line h.line) ≡ 0
-    by true e = absurd (g (f h refl ∙ ap (λ (x : WaitList). let o : Option WaitList = Some x in o) (sym (line_sound line h.line e))))
-    by false e = ap one_if e
+-- of this list no more than one, and none if the call is of another
+hand_by : (line : WaitList) (l : Option WaitList) (o : Option ListenerRef) → Lined l o → in_hand line o ≤ one_if (is_line line l)
+hand_by line l None f = omega arith
+hand_by line l (Some h) f =
+    let same : one_if (is_line line l) ≡ one_if (same_line line h.line) = ap (λ (x : Option WaitList). one_if (is_line line x)) (f h refl) in
+    omega (arith, same)
 
 -- ---- what was taken and not announced
 
@@ -254,7 +216,7 @@ module _ {T : Type 0} where
   trying_most x = omega arith
 
   anew : (line : WaitList) (at : stage.Stage (Phase T) T Waiter) → is_trying_anew at + in_hand line (holding at) ≤ 1
-  anew line (Trying f (purpose.Poll l None task)) = omega (arith, trying_most f.stage)
+  anew line (Trying f (Purpose.Poll l None task)) = omega (arith, trying_most f.stage)
   anew line at = let h = hand_most line (holding at) in omega (arith, h)
 
   appended_most : (x : Stage T) → has_appended x ≤ 1
@@ -279,24 +241,13 @@ module _ {T : Type 0} where
 
   -- beside the told receives a call counts for no more than one, and for none if it neither sends nor receives
   receive_weight : (a : ChannelAsk T Waiter) (at : stage.Stage (Phase T) T Waiter) → Lined (line_asked a) (holding at) → counts_for_receives a at + in_hand Receives (holding at) ≤ May a
-  receive_weight (ask.TrySend m) at f = let h = no_hand Receives None (holding at) f (λ e. absurd (let no : None ≡ Some Receives = e in cc)) in let k = tells_receive at in omega (arith, h, k)
-  receive_weight (ask.ForceSend m) at f = let h = no_hand Receives None (holding at) f (λ e. absurd (let no : None ≡ Some Receives = e in cc)) in let k = tells_receive at in omega (arith, h, k)
-  receive_weight (ask.PollSend m key task) at f = let h = no_hand Receives (Some Sends) (holding at) f (λ e. absurd (let no : Some Sends ≡ Some Receives = e in cc)) in let k = tells_receive at in omega (arith, h, k)
-  receive_weight (ask.PollRecv key task) at f = let k = anew Receives at in omega (arith, k)
-  receive_weight ask.TryRecv at f = let h = hand_most Receives (holding at) in omega (arith, h)
-  receive_weight (ask.PollNext key task) at f = let h = hand_most Receives (holding at) in omega (arith, h)
-  receive_weight ask.PollFinishedSend at f = let h = hand_most Receives (holding at) in omega (arith, h)
-  receive_weight (ask.RefusePoll Sends m key) at f = let h = hand_most Receives (holding at) in omega (arith, h)
-  receive_weight (ask.RefusePoll Receives m key) at f = let h = hand_most Receives (holding at) in omega (arith, h)
-  receive_weight (ask.RefusePoll Streams m key) at f = let h = no_hand Receives (Some Streams) (holding at) f (λ e. absurd (let no : Some Streams ≡ Some Receives = e in cc)) in omega (arith, h)
-  receive_weight (ask.RefusePoll Closings m key) at f = let h = no_hand Receives (Some Closings) (holding at) f (λ e. absurd (let no : Some Closings ≡ Some Receives = e in cc)) in omega (arith, h)
-  receive_weight (ask.GiveUp Sends m key) at f = let h = hand_most Receives (holding at) in omega (arith, h)
-  receive_weight (ask.GiveUp Receives m key) at f = let h = hand_most Receives (holding at) in omega (arith, h)
-  receive_weight (ask.GiveUp Streams m key) at f = let h = no_hand Receives (Some Streams) (holding at) f (λ e. absurd (let no : Some Streams ≡ Some Receives = e in cc)) in omega (arith, h)
-  receive_weight (ask.GiveUp Closings m key) at f = let h = no_hand Receives (Some Closings) (holding at) f (λ e. absurd (let no : Some Closings ≡ Some Receives = e in cc)) in omega (arith, h)
-  receive_weight (ask.PollClosed key task) at f = let h = no_hand Receives (Some Closings) (holding at) f (λ e. absurd (let no : Some Closings ≡ Some Receives = e in cc)) in omega (arith, h)
-  receive_weight (ask.DropReceiver key) at f = let h = no_hand Receives (Some Streams) (holding at) f (λ e. absurd (let no : Some Streams ≡ Some Receives = e in cc)) in omega (arith, h)
-  receive_weight a at f = let h = no_hand Receives None (holding at) f (λ e. absurd (let no : None ≡ Some Receives = e in cc)) in omega (arith, h)
+  receive_weight (ChannelAsk.TrySend m) at f = let h = hand_by Receives None (holding at) f in let k = tells_receive at in omega (arith, h, k)
+  receive_weight (ChannelAsk.ForceSend m) at f = let h = hand_by Receives None (holding at) f in let k = tells_receive at in omega (arith, h, k)
+  receive_weight (ChannelAsk.PollSend m key task) at f = let h = hand_by Receives (Some Sends) (holding at) f in let k = tells_receive at in omega (arith, h, k)
+  receive_weight (ChannelAsk.PollRecv key task) at f = let k = anew Receives at in omega (arith, k)
+  receive_weight (ChannelAsk.RefusePoll Sends m key) at f = let h = hand_by Receives (Some Sends) (holding at) f in omega (arith, h)
+  receive_weight (ChannelAsk.GiveUp Sends m key) at f = let h = hand_by Receives (Some Sends) (holding at) f in omega (arith, h)
+  receive_weight a at f = let h = hand_by Receives (line_asked a) (holding at) f in omega (arith, h)
 
   -- ---- what was taken and not announced
 
@@ -319,17 +270,16 @@ module _ {T : Type 0} where
 
   takings_both : (before mine : List (MarkedMoment T Waiter)) (taken : List T) → TookAll before taken → takings (before ++ mine) ≡ length taken + takings mine
   takings_both [] mine [] h = omega arith
-  takings_both [] mine (v ∷ vs) h = absurd h
-  takings_both (d ∷ before) mine [] h = absurd h
   takings_both (d ∷ before) mine (v ∷ vs) h =
       let one : takings ((d ∷ before) ++ mine) ≡ suc (takings (before ++ mine)) = ap (λ (m : Mark). with_taking m (takings (before ++ mine))) h.0 in
       let rest = takings_both before mine vs h.2 in
       omega (arith, one, rest)
+  takings_both before mine vs h = absurd h
 
   try_takes : (now : Channel T Waiter) (a : QueueAsk T) (x : Stage T) (ds : List (MarkedMoment T Waiter)) (seen : List (Channel T Waiter)) → TryAt now a x ds seen → has_taken x ≤ takings ds
-  try_takes now queue.Pop (taken v) [] seen h = absurd h
-  try_takes now queue.Pop (taken v) (d ∷ []) seen h = let one : with_taking d.mark 0 ≡ 1 = ap (λ (m : Mark). with_taking m 0) h.0 in omega (arith, one)
-  try_takes now queue.Pop (taken v) (d ∷ e ∷ ds) seen h = absurd h
+  try_takes now QueueAsk.Pop (taken v) [] seen h = absurd h
+  try_takes now QueueAsk.Pop (taken v) (d ∷ []) seen h = let one : with_taking d.mark 0 ≡ 1 = ap (λ (m : Mark). with_taking m 0) h.0 in omega (arith, one)
+  try_takes now QueueAsk.Pop (taken v) (d ∷ e ∷ ds) seen h = absurd h
   try_takes now a (taken v) ds seen h = absurd h
   try_takes now a x ds seen h = omega arith
 
@@ -344,7 +294,7 @@ module _ {T : Type 0} where
   -- no more are to be told than were taken and not announced
   announces : (now : Channel T Waiter) (a : ChannelAsk T Waiter) (at : stage.Stage (Phase T) T Waiter) (told : List Telling) (ds : List (MarkedMoment T Waiter)) (seen : List (Channel T Waiter))
       → StageAt now a at ds seen → ToldAt told at ds → is_to_tell_send at ≤ unless_told told (takings ds)
-  announces now a (Trying f (purpose.RecvMany g)) told ds seen h k = untold _ (takings ds) told k (let t = h.1 in tries_take now g.taken f.ask f.stage ds t.0 seen t.1 t.2)
+  announces now a (Trying f (Purpose.RecvMany g)) told ds seen h k = untold _ (takings ds) told k (let t = h.1 in tries_take now g.taken f.ask f.stage ds t.0 seen t.1 t.2)
   announces now a (Trying f y) told ds seen h k = untold _ (takings ds) told k (try_takes now f.ask f.stage ds seen h.1)
   announces now a (Working (TellSend x)) told ds seen h k = to_announce 1 (takings ds) told ds k
   announces now a (Working (TellSends n x)) told ds seen h k = to_announce n (takings ds) told ds k
@@ -354,25 +304,15 @@ module _ {T : Type 0} where
     -- beside the told sends a sending call counts for no more than one, and any other for what it has not announced
     send_weight : (a : ChannelAsk T Waiter) → StageAt now a at ds seen → ToldAt told at ds → Lined (line_asked a) (holding at)
         → counts_for_sends a at + in_hand Sends (holding at) ≤ one_if (is_sending a) + unless_told told (takings ds)
-    send_weight ask.TryRecv s t f = let h = no_hand Sends None (holding at) f (λ e. absurd (let no : None ≡ Some Sends = e in cc)) in let k = announces now ask.TryRecv at told ds seen s t in omega (arith, h, k)
-    send_weight (ask.RecvMany n) s t f = let h = no_hand Sends None (holding at) f (λ e. absurd (let no : None ≡ Some Sends = e in cc)) in let k = announces now (ask.RecvMany n) at told ds seen s t in omega (arith, h, k)
-    send_weight (ask.ForceSend m) s t f = let h = no_hand Sends None (holding at) f (λ e. absurd (let no : None ≡ Some Sends = e in cc)) in let k = on_way at in omega (arith, h, k)
-    send_weight (ask.PollRecv key task) s t f = let h = no_hand Sends (Some Receives) (holding at) f (λ e. absurd (let no : Some Receives ≡ Some Sends = e in cc)) in let k = announces now (ask.PollRecv key task) at told ds seen s t in omega (arith, h, k)
-    send_weight (ask.PollNext key task) s t f = let h = no_hand Sends (Some Streams) (holding at) f (λ e. absurd (let no : Some Streams ≡ Some Sends = e in cc)) in let k = announces now (ask.PollNext key task) at told ds seen s t in omega (arith, h, k)
-    send_weight (ask.PollSend m key task) s t f = let k = anew Sends at in omega (arith, k)
-    send_weight (ask.TrySend m) s t f = let h = hand_most Sends (holding at) in omega (arith, h)
-    send_weight ask.PollFinishedSend s t f = let h = hand_most Sends (holding at) in omega (arith, h)
-    send_weight (ask.RefusePoll Sends m key) s t f = let h = hand_most Sends (holding at) in omega (arith, h)
-    send_weight (ask.RefusePoll Receives m key) s t f = let h = no_hand Sends (Some Receives) (holding at) f (λ e. absurd (let no : Some Receives ≡ Some Sends = e in cc)) in omega (arith, h)
-    send_weight (ask.RefusePoll Streams m key) s t f = let h = no_hand Sends (Some Streams) (holding at) f (λ e. absurd (let no : Some Streams ≡ Some Sends = e in cc)) in omega (arith, h)
-    send_weight (ask.RefusePoll Closings m key) s t f = let h = no_hand Sends (Some Closings) (holding at) f (λ e. absurd (let no : Some Closings ≡ Some Sends = e in cc)) in omega (arith, h)
-    send_weight (ask.GiveUp Sends m key) s t f = let h = hand_most Sends (holding at) in omega (arith, h)
-    send_weight (ask.GiveUp Receives m key) s t f = let h = no_hand Sends (Some Receives) (holding at) f (λ e. absurd (let no : Some Receives ≡ Some Sends = e in cc)) in omega (arith, h)
-    send_weight (ask.GiveUp Streams m key) s t f = let h = no_hand Sends (Some Streams) (holding at) f (λ e. absurd (let no : Some Streams ≡ Some Sends = e in cc)) in omega (arith, h)
-    send_weight (ask.GiveUp Closings m key) s t f = let h = no_hand Sends (Some Closings) (holding at) f (λ e. absurd (let no : Some Closings ≡ Some Sends = e in cc)) in omega (arith, h)
-    send_weight (ask.PollClosed key task) s t f = let h = no_hand Sends (Some Closings) (holding at) f (λ e. absurd (let no : Some Closings ≡ Some Sends = e in cc)) in omega (arith, h)
-    send_weight (ask.DropReceiver key) s t f = let h = no_hand Sends (Some Streams) (holding at) f (λ e. absurd (let no : Some Streams ≡ Some Sends = e in cc)) in omega (arith, h)
-    send_weight a s t f = let h = no_hand Sends None (holding at) f (λ e. absurd (let no : None ≡ Some Sends = e in cc)) in omega (arith, h)
+    send_weight ChannelAsk.TryRecv s t f = let h = hand_by Sends None (holding at) f in let k = announces now ChannelAsk.TryRecv at told ds seen s t in omega (arith, h, k)
+    send_weight (ChannelAsk.RecvMany n) s t f = let h = hand_by Sends None (holding at) f in let k = announces now (ChannelAsk.RecvMany n) at told ds seen s t in omega (arith, h, k)
+    send_weight (ChannelAsk.ForceSend m) s t f = let h = hand_by Sends None (holding at) f in let k = on_way at in omega (arith, h, k)
+    send_weight (ChannelAsk.PollRecv key task) s t f = let h = hand_by Sends (Some Receives) (holding at) f in let k = announces now (ChannelAsk.PollRecv key task) at told ds seen s t in omega (arith, h, k)
+    send_weight (ChannelAsk.PollNext key task) s t f = let h = hand_by Sends (Some Streams) (holding at) f in let k = announces now (ChannelAsk.PollNext key task) at told ds seen s t in omega (arith, h, k)
+    send_weight (ChannelAsk.PollSend m key task) s t f = let k = anew Sends at in omega (arith, k)
+    send_weight (ChannelAsk.RefusePoll Sends m key) s t f = let h = hand_by Sends (Some Sends) (holding at) f in omega (arith, h)
+    send_weight (ChannelAsk.GiveUp Sends m key) s t f = let h = hand_by Sends (Some Sends) (holding at) f in omega (arith, h)
+    send_weight a s t f = let h = hand_by Sends (line_asked a) (holding at) f in omega (arith, h)
 
   -- all calls under way
   abbrev Weighs : WaitList → (ChannelAsk T Waiter → stage.Stage (Phase T) T Waiter → ℕ) → Type 0
@@ -389,8 +329,7 @@ module _ {T : Type 0} where
       let sending = count_first (λ (v : ActiveCall T Waiter). is_sending v.ask) u us in
       let receiving = count_first (λ (v : ActiveCall T Waiter). is_receiving v.ask) u us in
       omega (arith, one, rest, sending, receiving)
-  all_weigh line weigh f p [] (u ∷ us) t = absurd t
-  all_weigh line weigh f p (a ∷ more) [] t = absurd t
+  all_weigh line weigh f p more us t = absurd t
 
   pub receives_weigh : (b : NameState T) (s : Configuration T Waiter) → Owned b s → total counts_for_receives s.under_way + hands Receives s.under_way ≤ at_it s
   receives_weigh b s o = all_weigh Receives counts_for_receives receive_weight (status b.name_table) b.agents s.under_way o.together
@@ -405,8 +344,7 @@ module _ {T : Type 0} where
       let rest = all_send now p more us t.1 k.1 in
       let sending = count_first (λ (v : ActiveCall T Waiter). is_sending v.ask) u us in
       omega (arith, one, rest, sending)
-  all_send now p [] (u ∷ us) t k = absurd t
-  all_send now p (a ∷ more) [] t k = absurd t
+  all_send now p more us t k = absurd t
 
   pub sends_weigh : (b : NameState T) (s : Configuration T Waiter) → Owned b s → AllKnown s.now s.under_way → total counts_for_sends s.under_way + hands Sends s.under_way ≤ to_send s
   sends_weigh b s o k = all_send s.now (status b.name_table) b.agents s.under_way o.together k

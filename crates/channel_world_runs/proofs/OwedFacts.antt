@@ -1,32 +1,8 @@
 -- What is owed in a configuration to those that are pending, by what is owed to those that wait and by who owns whose listener.
-use Rattle.std.proofs.Common.{arith, ◌≡◌, ℕ, ◌+◌, ◌≤◌, true, false, List, [], ◌∷◌, length, Option, None, Some, ◌⊎◌, inl, inr, refl, sym, ap, ◌∙◌}
-use Rattle.concurrent_queue.specs.Queue.{Phase}
-use Rattle.event_listener.specs.declared.key.Key.{Key}
-use Rattle.channel_calls.specs.Parts.{listeners}
-use Rattle.channel_calls.specs.declared.ask.ChannelAsk.{ChannelAsk}
-use Rattle.channel_calls.specs.declared.ask.ChannelAsk.TheVariants as ask
-use Rattle.channel_calls.specs.declared.stage.Purpose.TheVariants as purpose
-use Rattle.channel_calls.specs.declared.stage.ListenerRef.{ListenerRef}
-use Rattle.channel_calls.specs.declared.stage.WaitList.{WaitList}
-use Rattle.channel_calls.specs.declared.stage.WaitList.TheVariants.{Sends, Receives, Streams}
-use Rattle.channel_calls.specs.declared.stage.Stage.{Stage}
-use Rattle.channel_calls.specs.declared.stage.Stage.TheVariants.{Trying, Working}
-use Rattle.channel_calls.specs.declared.stage.ListStep.TheVariants.{TellReceive, TellStreams, TellSend, Leave}
-use Rattle.channel_world_model.specs.declared.name.Waiter.{Waiter}
-use Rattle.channel_steps.specs.Moments.{Open, Shut}
-use Rattle.channel_steps.specs.Configuration.{ActiveCall, Configuration}
-use Rattle.channel_steps.specs.every_run.Amounts.{HoldsListener, total}
-use Rattle.channel_steps.specs.every_run.Closings.{HasClosed, LooksAgain, AnswersClosed}
-use Rattle.channel_steps.specs.every_run.Receives.{counts_for_receives, MessagesAreFew}
-use Rattle.channel_steps.specs.every_run.Sends.{HasPlaces, counts_for_sends, PlacesAreFew}
-use Rattle.channel_steps.specs.every_run.Sound.{WakeInvariant}
-use Rattle.channel_steps.specs.every_run.Streams.{IsSending, HasInHand, AnswersFor}
-use Rattle.channel_steps.specs.every_run.Waits.{IsIn, Waits, Any}
-use Rattle.channel_world_runs.specs.Owed.{IsUnwoken, woken_on}
-use Rattle.channel_world_runs.specs.OwnerWoken.{IsMarked, WokenSound}
-use Rattle.channel_world_runs.specs.Owners.{IsAmong, AnyOf, holding, named, calling, Owned}
-use Rattle.channel_world_runs.specs.Run.{NameState}
-use Rattle.channel_world_runs.proofs.OwedConfigurations.{is_sending, at_it, to_send, OwedIn}
+use Rattle.std.specs.Prelude.{◌≡◌, ◌+◌, ◌≤◌, ◌∷◌, ◌⊎◌}
+use Rattle.channel_world_runs.proofs.Lemmas.{arith, ℕ, true, false, List, [], length, Option, None, Some, inl, inr, refl, sym, ap, ◌∙◌, Phase, Key, listeners, ChannelAsk, ListenerRef, WaitList, Sends, Receives, Streams, Stage, Trying, Working, TellReceive, TellStreams, TellSend, Leave, Waiter, Open, Shut, ActiveCall, Configuration, HoldsListener, total, HasClosed, LooksAgain, AnswersClosed, counts_for_receives, MessagesAreFew, HasPlaces, counts_for_sends, PlacesAreFew, WakeInvariant, IsSending, HasInHand, AnswersFor, IsIn, IsUnwoken, woken_on, IsMarked, WokenSound, IsAmong, AnyOf, holding, named, calling, Owned, NameState, Purpose, at_it, to_send, OwedIn}
+use Rattle.channel_steps.specs.every_run.Waits.{Waits, Any}
+use Rattle.channel_world_runs.proofs.OwedConfigurations.{is_sending}
 use Rattle.channel_world_runs.proofs.OwedCounts.{told_few, receives_weigh, sends_weigh}
 use Rattle.channel_world_runs.proofs.OwnerSteps.{apart}
 use Rattle.channel_world_runs.proofs.OwnerTogether.{HasIt}
@@ -50,7 +26,7 @@ module _ {T : Type 0} where
   -- ---- what is in hand
 
   listener_held : (line : WaitList) (key : Key) (at : Stage (Phase T) T Waiter) → HoldsListener line key at → holding at ≡ Some (this line key)
-  listener_held line key (Trying f (purpose.Poll l (Some k) task)) h = both l line k key h.0 h.1
+  listener_held line key (Trying f (Purpose.Poll l (Some k) task)) h = both l line k key h.0 h.1
   listener_held line key (Working (TellReceive x)) h = h
   listener_held line key (Working (TellStreams x)) h = h
   listener_held line key (Working (TellSend x)) h = h
@@ -58,13 +34,13 @@ module _ {T : Type 0} where
   listener_held line key at h = absurd h
 
   looks_held : (line : WaitList) (key : Key) (at : Stage (Phase T) T Waiter) → LooksAgain line key at → holding at ≡ Some (this line key)
-  looks_held line key (Trying f (purpose.Poll l (Some k) task)) h = both l line k key h.0 h.1
+  looks_held line key (Trying f (Purpose.Poll l (Some k) task)) h = both l line k key h.0 h.1
   looks_held line key (Working (TellSend x)) h = h
   looks_held line key (Working (Leave x)) h = h
   looks_held line key at h = absurd h
 
   stream_held : (key : Key) (at : Stage (Phase T) T Waiter) → HasInHand key at → holding at ≡ Some (this Streams key)
-  stream_held key (Trying f (purpose.Poll Streams (Some k) task)) h = both Streams Streams k key refl h
+  stream_held key (Trying f (Purpose.Poll Streams (Some k) task)) h = both Streams Streams k key refl h
   stream_held key (Working (TellSend x)) h = h
   stream_held key (Working (Leave x)) h = h
   stream_held key at h = absurd h
@@ -89,9 +65,9 @@ module _ {T : Type 0} where
       by (inr j) = inr (inr j)
 
   sending_is : (a : ChannelAsk T Waiter) → IsSending a → is_sending a ≡ true
-  sending_is (ask.TrySend m) h = refl
-  sending_is (ask.ForceSend m) h = refl
-  sending_is (ask.PollSend m key task) h = refl
+  sending_is (ChannelAsk.TrySend m) h = refl
+  sending_is (ChannelAsk.ForceSend m) h = refl
+  sending_is (ChannelAsk.PollSend m key task) h = refl
   sending_is a h = absurd h
 
   module _ (b : NameState T) (s : Configuration T Waiter) (o : Owned b s) (k : WokenSound b s) (sound : WakeInvariant s) where

@@ -1,34 +1,8 @@
 -- What wrong bodies would do, step by step from the opening of a channel of five places, and the owed lines say no of.
-use Rattle.std.proofs.Common.{arith, ◌≤◌, ◌<◌, ◌||◌, ℕ, Bool, true, false, List, [], ◌∷◌, ◌++◌, slice_set, slice_index_or, Option, None, Some, Ok, Err, inl, inr, ◌≡◌, ap, refl}
-use Rattle.std.specs.List.{count_by, remove, sum_by}
-use Rattle.event_listener.specs.declared.key.Key.{Key}
-use Rattle.futures.specs.declared.task.Poll.TheVariants.{Pending, Ready}
-use Rattle.channel_calls.specs.Turns.{leaving}
-use Rattle.channel_calls.specs.declared.error.Refused.TheVariants as refused
-use Rattle.channel_calls.specs.declared.mark.Mark.{Mark}
-use Rattle.channel_calls.specs.declared.mark.Mark.TheVariants.{Nothing, Append, Take, Close}
-use Rattle.channel_calls.specs.declared.reply.Reply.{Reply}
-use Rattle.channel_calls.specs.declared.reply.Reply.TheVariants as reply
-use Rattle.channel_calls.specs.declared.stage.Returned.{Returned}
-use Rattle.channel_calls.specs.declared.stage.WaitList.TheVariants.{Receives}
-use Rattle.channel_world_model.specs.declared.call.Call.{Call}
-use Rattle.channel_world_model.specs.declared.call.Call.TheVariants as call
-use Rattle.channel_world_model.specs.declared.name.HandleId.{HandleId}
-use Rattle.channel_world_model.specs.declared.name.OpId.{OpId}
-use Rattle.channel_world_model.specs.declared.name.Waiter.{Waiter}
-use Rattle.channel_world_model.specs.declared.name.Waiter.TheVariants.{Op, Stream}
-use Rattle.channel_steps.specs.Count.{counted}
-use Rattle.channel_world_runs.specs.Bookkeeping.{asks}
-use Rattle.channel_world_runs.specs.Activity.{is_close, activity_begun, activity_after}
-use Rattle.channel_world_runs.specs.Owed.{Observation, Owed, is_sending, is_receiving}
-use Rattle.channel_world_runs.specs.NameTable.{first_name_table}
-use Rattle.channel_world_runs.specs.Order.{no_places}
-use Rattle.channel_world_runs.specs.Owners.{IsAmong}
-use Rattle.channel_world_runs.specs.Run.{NameState, name_state_begun, name_state_ended, with_woken}
-use Rattle.channel_world_runs.specs.declared.activity.Activity.{Activity}
+use Rattle.std.specs.Prelude.{◌≤◌, ◌<◌, ◌||◌, ◌∷◌, ◌++◌, ◌≡◌}
+use Rattle.channel_world_runs.proofs.Words.{arith, ℕ, Bool, true, false, List, [], slice_set, slice_index_or, Option, None, Some, Ok, Err, inl, inr, ap, refl, count_by, remove, sum_by, Key, Pending, Ready, leaving, Mark, Append, Take, Close, Reply, Returned, Receives, Call, HandleId, OpId, Waiter, Op, Stream, counted, asks, is_close, activity_begun, activity_after, Observation, Owed, is_sending, is_receiving, first_name_table, no_places, IsAmong, NameState, name_state_begun, name_state_ended, with_woken, Activity, Agent, Refused, OnReturn}
+use Rattle.channel_calls.specs.declared.mark.Mark.TheVariants.{Nothing}
 use Rattle.channel_world_runs.specs.declared.activity.Role.TheVariants.{Other}
-use Rattle.channel_world_runs.specs.Calls.{Agent}
-use Rattle.channel_world_runs.specs.declared.names.OnReturn.TheVariants as on_return
 
 -- ---- steps
 
@@ -51,7 +25,7 @@ abbrev opened : Played
 opened = record { name_state = record { name_table = first_name_table; order = no_places; agents = [] }; activities = []; messages = 0; closed = false }
 
 abbrev nobody : Agent ℕ
-nobody = record { party = 0; on_return = on_return.Nothing }
+nobody = record { party = 0; on_return = OnReturn.Nothing }
 
 abbrev idle : Activity
 idle = record { role = Other; has_closed = false; taken = 0 }
@@ -79,7 +53,7 @@ after (steps k m names) w = record {
   closed = w.closed || is_close m;
 }
 after (ends k x key) w = answered k x (leaving key None) w
-after (keeps k key m) w = answered k (reply.SendPoll Pending) (leaving (Some key) (Some m)) w
+after (keeps k key m) w = answered k (Reply.SendPoll Pending) (leaving (Some key) (Some m)) w
 
 abbrev play : List Act → Played → Played
 play [] w = w
@@ -109,16 +83,16 @@ handle n = record { 0 = n }
 
 -- a receive is made
 abbrev made : ℕ → List Act
-made n = begins 0 (call.NewRecv (op n) (handle 1)) ∷ ends 0 reply.Made None ∷ []
+made n = begins 0 (Call.NewRecv (op n) (handle 1)) ∷ ends 0 Reply.Made None ∷ []
 
 -- and polled with nobody beside it, finds nothing, and is pending
 abbrev pends : ℕ → Key → List Act
-pends n key = begins 0 (call.Poll (op n)) ∷ steps 0 Nothing [] ∷ ends 0 (reply.RecvPoll Pending) (Some key) ∷ []
+pends n key = begins 0 (Call.Poll (op n)) ∷ steps 0 Nothing [] ∷ ends 0 (Reply.RecvPoll Pending) (Some key) ∷ []
 
 -- a send with nobody beside it, which tells these
 abbrev sends : ℕ → List Waiter → List Act
 sends m names =
-    begins 0 (call.TrySend (handle 0) m) ∷ steps 0 Append [] ∷ steps 0 Nothing names ∷ ends 0 (reply.TrySend (Ok tt)) None ∷ []
+    begins 0 (Call.TrySend (handle 0) m) ∷ steps 0 Append [] ∷ steps 0 Nothing names ∷ ends 0 (Reply.TrySend (Ok tt)) None ∷ []
 
 -- ---- what they lead to
 
@@ -130,9 +104,9 @@ not_first (inr i) = i
 -- A send that tells before it pushes: the receive that it woke is polled, finds nothing and pends again, and then the message comes.
 tells_before_it_pushes : (a b : Key)
     → Owed (shown (play
-    (made 0 ++ (pends 0 a ++ (begins 0 (call.TrySend (handle 0) 7) ∷ steps 0 Nothing (Op (op 0) ∷ []) ∷
-    begins 1 (call.Poll (op 0)) ∷ steps 1 Nothing [] ∷ ends 1 (reply.RecvPoll Pending) (Some b) ∷
-    steps 0 Append [] ∷ ends 0 (reply.TrySend (Ok tt)) None ∷ []))) opened)) → ⊥
+    (made 0 ++ (pends 0 a ++ (begins 0 (Call.TrySend (handle 0) 7) ∷ steps 0 Nothing (Op (op 0) ∷ []) ∷
+    begins 1 (Call.Poll (op 0)) ∷ steps 1 Nothing [] ∷ ends 1 (Reply.RecvPoll Pending) (Some b) ∷
+    steps 0 Append [] ∷ ends 0 (Reply.TrySend (Ok tt)) None ∷ []))) opened)) → ⊥
 tells_before_it_pushes a b owed = let few : 1 ≤ 0 = owed.receives (Op (op 0)) (b, refl, λ i. i) in omega (arith, few)
 
 -- A send that tells by the default, which counts those already told: three pend, and two messages woke one.
@@ -145,45 +119,45 @@ tells_by_the_default a b c owed = let few : 2 ≤ 1 = owed.receives (Op (op 1)) 
 -- A receive that listens and pends without a second try: the message and its notification came before the listening.
 pends_without_a_second_try : (a : Key)
     → Owed (shown (play
-    (made 0 ++ (begins 0 (call.Poll (op 0)) ∷ steps 0 Nothing [] ∷
-    begins 1 (call.TrySend (handle 0) 7) ∷ steps 1 Append [] ∷ steps 1 Nothing [] ∷ ends 1 (reply.TrySend (Ok tt)) None ∷
-    steps 0 Nothing [] ∷ ends 0 (reply.RecvPoll Pending) (Some a) ∷ [])) opened)) → ⊥
+    (made 0 ++ (begins 0 (Call.Poll (op 0)) ∷ steps 0 Nothing [] ∷
+    begins 1 (Call.TrySend (handle 0) 7) ∷ steps 1 Append [] ∷ steps 1 Nothing [] ∷ ends 1 (Reply.TrySend (Ok tt)) None ∷
+    steps 0 Nothing [] ∷ ends 0 (Reply.RecvPoll Pending) (Some a) ∷ [])) opened)) → ⊥
 pends_without_a_second_try a owed = let few : 1 ≤ 0 = owed.receives (Op (op 0)) (a, refl, λ i. i) in omega (arith, few)
 
 -- A woken receive that is given up and drops its notification: the other one still waits beside the message.
 drops_its_notice : (a b : Key)
     → Owed (shown (play
     (made 0 ++ (pends 0 a ++ (made 1 ++ (pends 1 b ++ (sends 7 (Op (op 0) ∷ []) ++
-    (begins 0 (call.GiveUp (op 0)) ∷ steps 0 Nothing [] ∷ ends 0 (reply.GivenUp None) None ∷ [])))))) opened)) → ⊥
+    (begins 0 (Call.GiveUp (op 0)) ∷ steps 0 Nothing [] ∷ ends 0 (Reply.GivenUp None) None ∷ [])))))) opened)) → ⊥
 drops_its_notice a b owed = let few : 1 ≤ 0 = owed.receives (Op (op 1)) (b, refl, λ i. i) in omega (arith, few)
 
 -- A close that tells first and marks afterwards: a receive that begins to pend in between is told by nobody.
 closes_after_it_told : (a : Key)
     → Owed (shown (play
-    (made 0 ++ (begins 0 (call.Close (handle 0)) ∷ steps 0 Nothing [] ∷
-    begins 1 (call.Poll (op 0)) ∷ steps 1 Nothing [] ∷ ends 1 (reply.RecvPoll Pending) (Some a) ∷
-    steps 0 Close [] ∷ ends 0 (reply.Closed true) None ∷ [])) opened)) → ⊥
+    (made 0 ++ (begins 0 (Call.Close (handle 0)) ∷ steps 0 Nothing [] ∷
+    begins 1 (Call.Poll (op 0)) ∷ steps 1 Nothing [] ∷ ends 1 (Reply.RecvPoll Pending) (Some a) ∷
+    steps 0 Close [] ∷ ends 0 (Reply.Closed true) None ∷ [])) opened)) → ⊥
 closes_after_it_told a owed = let some : 0 < 0 = owed.closing Receives (Op (op 0)) (a, refl, λ i. i) refl in omega (arith, some)
 
 -- A refused poll that leaves its told listener on the list: it is pending no more, and the other one still waits beside the message.
 keeps_its_told_listener : (a b : Key)
     → Owed (shown (play
     (made 0 ++ (pends 0 a ++ (made 1 ++ (pends 1 b ++ (sends 7 (Op (op 0) ∷ []) ++
-    (begins 0 (call.PollRefused (op 0)) ∷ ends 0 (reply.RecvPoll (Ready (Err (refused.NoMemory tt)))) None ∷ [])))))) opened)) → ⊥
+    (begins 0 (Call.PollRefused (op 0)) ∷ ends 0 (Reply.RecvPoll (Ready (Err (Refused.NoMemory tt)))) None ∷ [])))))) opened)) → ⊥
 keeps_its_told_listener a b owed = let few : 1 ≤ 0 = owed.receives (Op (op 1)) (b, refl, λ i. i) in omega (arith, few)
 
 -- A stream that is always pending: the message that woke it is still there once it was polled again.
 stays_pending : (a b : Key)
     → Owed (shown (play
-    (begins 0 (call.PollNext (handle 1)) ∷ ends 0 (reply.Next Pending) (Some a) ∷ (sends 7 (Stream (handle 1) ∷ []) ++
-    (begins 0 (call.PollNext (handle 1)) ∷ steps 0 Nothing [] ∷ ends 0 (reply.Next Pending) (Some b) ∷ []))) opened)) → ⊥
+    (begins 0 (Call.PollNext (handle 1)) ∷ ends 0 (Reply.Next Pending) (Some a) ∷ (sends 7 (Stream (handle 1) ∷ []) ++
+    (begins 0 (Call.PollNext (handle 1)) ∷ steps 0 Nothing [] ∷ ends 0 (Reply.Next Pending) (Some b) ∷ []))) opened)) → ⊥
 stays_pending a b owed = let some : 0 < 0 = owed.streams (Stream (handle 1)) (b, refl, λ i. i) (omega (arith)) in omega (arith, some)
 
 -- A receive that takes a message and tells no send: the one that pends for a place still waits beside the place that is free now.
 tells_no_send : (a : Key)
     → Owed (shown (play
     (sends 1 [] ++ (sends 2 [] ++ (sends 3 [] ++ (sends 4 [] ++ (sends 5 [] ++
-    (begins 0 (call.NewSend (op 0) (handle 0) 6) ∷ ends 0 reply.Made None ∷
-    begins 0 (call.Poll (op 0)) ∷ steps 0 Nothing [] ∷ keeps 0 a 6 ∷
-    begins 0 (call.TryRecv (handle 1)) ∷ steps 0 Take [] ∷ ends 0 (reply.TryRecv (Ok 1)) None ∷ [])))))) opened)) → ⊥
+    (begins 0 (Call.NewSend (op 0) (handle 0) 6) ∷ ends 0 Reply.Made None ∷
+    begins 0 (Call.Poll (op 0)) ∷ steps 0 Nothing [] ∷ keeps 0 a 6 ∷
+    begins 0 (Call.TryRecv (handle 1)) ∷ steps 0 Take [] ∷ ends 0 (Reply.TryRecv (Ok 1)) None ∷ [])))))) opened)) → ⊥
 tells_no_send a owed = let few : 5 ≤ 4 = owed.sends (Op (op 0)) (a, refl, λ i. i) refl in omega (arith, few)

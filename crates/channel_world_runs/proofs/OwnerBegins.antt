@@ -1,45 +1,7 @@
 -- What a call that begins takes over from the names.
-use Rattle.std.proofs.Common.{◌≡◌, ℕ, nat_eq, Bool, true, false, not, if◌then◌else◌, Option, None, Some, is_some, ◌⊎◌, inl, inr, refl, sym, ap, ◌∙◌, subst}
-use Rattle.std.specs.Bool.{then_some}
-use Rattle.std.specs.Map.{lookup}
-use Rattle.std.specs.Option.{option_map, option_map_or, option_or}
-use Rattle.event_listener.specs.declared.key.Key.{Key}
-use Rattle.channel_calls.specs.Turns.{held_on}
-use Rattle.channel_calls.specs.declared.ask.ChannelAsk.{ChannelAsk}
-use Rattle.channel_calls.specs.declared.stage.ListenerRef.{ListenerRef}
-use Rattle.channel_calls.specs.declared.stage.WaitList.{WaitList}
-use Rattle.channel_calls.specs.declared.stage.WaitList.TheVariants.{Sends, Receives, Closings}
-use Rattle.channel_world_model.specs.Asked.{poll_asked}
-use Rattle.channel_world_model.specs.Names.{Directory, at, is_taken, own_message, with_message, waits_in}
-use Rattle.channel_world_model.proofs.LawSteps.{second_reason}
-use Rattle.channel_world_model.specs.Plan.{plan_of}
-use Rattle.channel_world_model.specs.Refusal.{handle_fits, unfit_handle, unfit_operation, through_refusal, planned_refusal}
-use Rattle.channel_world_model.specs.declared.call.Call.{Call}
-use Rattle.channel_world_model.specs.declared.call.Call.TheVariants as call
-use Rattle.channel_world_model.specs.declared.name.HandleId.{HandleId}
-use Rattle.channel_world_model.specs.declared.name.OpId.{OpId}
-use Rattle.channel_world_model.specs.declared.name.Operation.{Operation}
-use Rattle.channel_world_model.specs.declared.name.Operation.TheVariants as live
-use Rattle.channel_world_model.specs.declared.name.Waiter.{Waiter}
-use Rattle.channel_world_model.specs.declared.name.Waiter.TheVariants.{Op}
-use Rattle.channel_world_model.specs.declared.plan.Plan.{Plan}
-use Rattle.channel_world_model.specs.declared.plan.Plan.TheVariants as plan
-use Rattle.channel_world_model.specs.declared.plan.Wanted.{Wanted}
-use Rattle.channel_world_model.specs.declared.plan.Wanted.TheVariants.{Receiver, Any}
-use Rattle.channel_world_model.specs.declared.refusal.WorldRefusal.{WorldRefusal}
-use Rattle.channel_world_model.specs.declared.refusal.WorldRefusal.TheVariants.{WrongKind, OpUnderWay, NameTaken}
-use Rattle.channel_world_runs.specs.Bookkeeping.{asks, names_begun, lent_to_poll, with_operation}
-use Rattle.channel_world_runs.specs.Order.{WakeOrder, placed, without_place}
-use Rattle.channel_world_runs.specs.Owners.{NameStatus, free, retired, invalid, rests, waits, polled, status_on, status_by, operation_status, status, wait_of, subject, Suits}
-use Rattle.channel_world_runs.specs.Refusal.{under_way_in, begin_refusal, again_planned, takes_again}
-use Rattle.channel_world_runs.specs.NameTable.{key_of, is_polled, names_of, held_of}
-use Rattle.channel_world_runs.specs.declared.names.OnReturn.{OnReturn}
-use Rattle.channel_world_runs.specs.declared.names.OnReturn.TheVariants as on_return
-use Rattle.channel_world_runs.specs.declared.names.HandleEntry.{HandleEntry}
-use Rattle.channel_world_runs.specs.declared.names.OperationEntry.{OperationEntry}
-use Rattle.channel_world_runs.specs.declared.names.PollState.{PollState}
-use Rattle.channel_world_runs.specs.declared.names.PollState.TheVariants.{Rests, Waits, IsPolled}
-use Rattle.channel_world_runs.specs.declared.name_table.NameTable.{NameTable}
+use Rattle.std.specs.Prelude.{◌≡◌, if◌then◌else◌, ◌⊎◌}
+use Rattle.channel_world_runs.proofs.Words.{ℕ, nat_eq, Bool, true, false, not, Option, None, Some, is_some, inl, inr, refl, sym, ap, ◌∙◌, subst, then_some, lookup, option_map, option_map_or, option_or, Key, held_on, ChannelAsk, ListenerRef, WaitList, Sends, Receives, Closings, poll_asked, Directory, at, is_taken, own_message, with_message, waits_in, second_reason, plan_of, handle_fits, unfit_handle, unfit_operation, through_refusal, planned_refusal, Call, HandleId, OpId, Operation, Waiter, Op, Plan, Wanted, Any, WorldRefusal, WrongKind, OpUnderWay, NameTaken, asks, names_begun, lent_to_poll, with_operation, WakeOrder, placed, without_place, NameStatus, free, retired, invalid, rests, waits, polled, status_on, status_by, operation_status, status, wait_of, subject, Suits, under_way_in, begin_refusal, again_planned, takes_again, key_of, is_polled, names_of, held_of, OnReturn, HandleEntry, OperationEntry, PollState, Rests, Waits, IsPolled, NameTable}
+use Rattle.channel_world_model.specs.declared.plan.Wanted.TheVariants.{Receiver}
 use Rattle.channel_world_runs.proofs.AskStarts.{ask_holds}
 use Rattle.channel_world_runs.proofs.OwnerNames.{Sets, Same, op_status, found, op_changed}
 use Rattle.channel_world_runs.proofs.RefusalLemmas as seen
@@ -101,7 +63,7 @@ on_line line (IsPolled b) e = absurd (let no : true ≡ false = e in cc)
 on_line line x e = (refl, tt)
 
 lent_polled : {T : Type 0} (x : Operation T) (b : Bool) → operation_status (with_message None x) (IsPolled b) ≡ polled (waits_in x)
-lent_polled (live.Send h m) b = refl
+lent_polled (Operation.Send h m) b = refl
 lent_polled x b = refl
 
 module _ {T : Type 0} where
@@ -143,10 +105,10 @@ module _ {T : Type 0} where
 
   -- what a call polls, or takes for good
   abbrev pub Finds : NameTable T → Plan → Type 0
-  Finds r (plan.Polls op) = IsFree r op
-  Finds r (plan.GivesUp op) = IsFree r op
-  Finds r (plan.Streams receiver) = IsFitting r Receiver receiver
-  Finds r (plan.Drops handle) = IsFitting r Any handle
+  Finds r (Plan.Polls op) = IsFree r op
+  Finds r (Plan.GivesUp op) = IsFree r op
+  Finds r (Plan.Streams receiver) = IsFitting r Receiver receiver
+  Finds r (Plan.Drops handle) = IsFitting r Any handle
   Finds r p = Unit {0}
 
   -- a call that is not refused, or only since it takes what is borrowed
@@ -161,16 +123,16 @@ module _ {T : Type 0} where
   free_found (Some x) e = (x, refl, second_reason None (is_polled x.poll_state) OpUnderWay e)
 
   finds_planned : (r : NameTable T) (p : Plan) → planned_refusal (under_way_in r) (names_of r) p ≡ None → Finds r p
-  finds_planned r (plan.Polls op) e = free_found (at op.0 r.operations) (seen.polling_seen r op ∙ e)
-  finds_planned r (plan.GivesUp op) e = free_found (at op.0 r.operations) (seen.polling_seen r op ∙ e)
-  finds_planned r (plan.Streams receiver) e = fitting_found Receiver (at receiver.0 r.handles) (seen.through_seen r Receiver receiver ∙ first_none _ _ e)
-  finds_planned r (plan.Drops handle) e = fitting_found Any (at handle.0 r.handles) (seen.through_seen r Any handle ∙ first_none _ _ e)
+  finds_planned r (Plan.Polls op) e = free_found (at op.0 r.operations) (seen.polling_seen r op ∙ e)
+  finds_planned r (Plan.GivesUp op) e = free_found (at op.0 r.operations) (seen.polling_seen r op ∙ e)
+  finds_planned r (Plan.Streams receiver) e = fitting_found Receiver (at receiver.0 r.handles) (seen.through_seen r Receiver receiver ∙ first_none _ _ e)
+  finds_planned r (Plan.Drops handle) e = fitting_found Any (at handle.0 r.handles) (seen.through_seen r Any handle ∙ first_none _ _ e)
   finds_planned r p e = tt
 
   takes_new : (r : NameTable T) (p : Plan) → planned_refusal (under_way_in r) (names_of r) p ≡ None → again_planned r p ≡ false
-  takes_new r (plan.Makes wanted handle op kind) e =
+  takes_new r (Plan.Makes wanted handle op kind) e =
       seen.operation_taken r op ∙ second_reason (through_refusal (under_way_in r) (names_of r) wanted handle) _ NameTaken e
-  takes_new r (plan.Mints wanted from new to) e =
+  takes_new r (Plan.Mints wanted from new to) e =
       seen.handle_taken r new ∙ second_reason (through_refusal (under_way_in r) (names_of r) wanted from) _ NameTaken e
   takes_new r p e = refl
 
@@ -184,28 +146,28 @@ module _ {T : Type 0} where
 
   pub op_held : (x : Operation T) (s : PollState) → Free x s
       → (held_on (waits_in x) (key_of s) ≡ held_in (operation_status x s)) × IsLoose (operation_status x s)
-  op_held (live.Send h None) Rests f = (refl, tt)
-  op_held (live.Send h None) (Waits key) f = absurd (f.1 refl)
-  op_held (live.Send h None) (IsPolled b) f = absurd (let no : true ≡ false = f.0 in cc)
-  op_held (live.Send h (Some m)) s f = on_line Sends s f.0
-  op_held (live.Receive h) s f = on_line Receives s f.0
-  op_held (live.Closing h) s f = on_line Closings s f.0
+  op_held (Operation.Send h None) Rests f = (refl, tt)
+  op_held (Operation.Send h None) (Waits key) f = absurd (f.1 refl)
+  op_held (Operation.Send h None) (IsPolled b) f = absurd (let no : true ≡ false = f.0 in cc)
+  op_held (Operation.Send h (Some m)) s f = on_line Sends s f.0
+  op_held (Operation.Receive h) s f = on_line Receives s f.0
+  op_held (Operation.Closing h) s f = on_line Closings s f.0
 
   poll_holds : (op : OpId) (x : Operation T) (s : PollState) → Free x s
       → ask_holds (poll_asked (key_of s) op (Some x)) ≡ held_on (waits_in x) (key_of s)
-  poll_holds op (live.Send h None) Rests f = refl
-  poll_holds op (live.Send h None) (Waits key) f = absurd (f.1 refl)
-  poll_holds op (live.Send h None) (IsPolled b) f = absurd (let no : true ≡ false = f.0 in cc)
-  poll_holds op (live.Send h (Some m)) s f = refl
-  poll_holds op (live.Receive h) s f = refl
-  poll_holds op (live.Closing h) s f = refl
+  poll_holds op (Operation.Send h None) Rests f = refl
+  poll_holds op (Operation.Send h None) (Waits key) f = absurd (f.1 refl)
+  poll_holds op (Operation.Send h None) (IsPolled b) f = absurd (let no : true ≡ false = f.0 in cc)
+  poll_holds op (Operation.Send h (Some m)) s f = refl
+  poll_holds op (Operation.Receive h) s f = refl
+  poll_holds op (Operation.Closing h) s f = refl
 
   poll_waits : (op : OpId) (x : Operation T) (key : Option Key)
       → (wait_of (poll_asked key op (Some x)) ≡ None) ⊎ (wait_of (poll_asked key op (Some x)) ≡ Some (waits_in x, Op op))
-  poll_waits op (live.Send h None) key = inl refl
-  poll_waits op (live.Send h (Some m)) key = inr refl
-  poll_waits op (live.Receive h) key = inr refl
-  poll_waits op (live.Closing h) key = inr refl
+  poll_waits op (Operation.Send h None) key = inl refl
+  poll_waits op (Operation.Send h (Some m)) key = inr refl
+  poll_waits op (Operation.Receive h) key = inr refl
+  poll_waits op (Operation.Closing h) key = inr refl
 
   -- what is known of an operation that a call begins to poll, or gives up
   pub record Found (r : NameTable T) (op : OpId) : Type 0 where
@@ -244,7 +206,7 @@ module _ {T : Type 0} where
   pub polls_with : (r : NameTable T) (op : OpId) (f : Found r op) (a : ChannelAsk T Waiter)
       → ask_holds a ≡ held_on (waits_in f.operation.operation) (key_of f.operation.poll_state)
       → (wait_of a ≡ None) ⊎ (wait_of a ≡ Some (waits_in f.operation.operation, Op op))
-      → Touches (status r) (status (with_operation lent_to_poll op r)) (Some (Op op)) (on_return.Poll op) a (placed (Op op))
+      → Touches (status r) (status (with_operation lent_to_poll op r)) (Some (Op op)) (OnReturn.Poll op) a (placed (Op op))
   polls_with r op f a holds for_it =
       let s = now_polled r op f in
       record {
@@ -266,12 +228,12 @@ module _ {T : Type 0} where
   seen_is r op f = seen.operation_at r op.0 ∙ ap (option_map (λ (x : OperationEntry T). x.operation)) f.is
 
   pub polls : (r : NameTable T) (op : OpId) → Found r op
-      → Touches (status r) (status (names_begun r (call.Poll op))) (Some (Op op)) (on_return.Poll op) (asks r (call.Poll op)) (placed (Op op))
+      → Touches (status r) (status (names_begun r (Call.Poll op))) (Some (Op op)) (OnReturn.Poll op) (asks r (Call.Poll op)) (placed (Op op))
   polls r op f =
       let o = f.operation in
-      let same : asks r (call.Poll op) ≡ poll_asked (key_of o.poll_state) op (Some o.operation) =
+      let same : asks r (Call.Poll op) ≡ poll_asked (key_of o.poll_state) op (Some o.operation) =
       ap (λ (x : Option (Operation T)). poll_asked (held_of r (Op op)) op x) (seen_is r op f)
       ∙ ap (λ (key : Option Key). poll_asked key op (Some o.operation)) (key_is r op o f.is) in
-      polls_with r op f (asks r (call.Poll op)) (ap ask_holds same ∙ poll_holds op o.operation o.poll_state f.loose)
+      polls_with r op f (asks r (Call.Poll op)) (ap ask_holds same ∙ poll_holds op o.operation o.poll_state f.loose)
       (subst (λ (a : ChannelAsk T Waiter). (wait_of a ≡ None) ⊎ (wait_of a ≡ Some (waits_in o.operation, Op op))) (sym same)
       (poll_waits op o.operation (key_of o.poll_state)))

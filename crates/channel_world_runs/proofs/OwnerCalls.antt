@@ -1,47 +1,9 @@
 -- What each call takes over from the names as it begins.
-use Rattle.std.proofs.Common.{◌≡◌, nat_eq, true, false, Option, None, Some, is_some, ◌⊎◌, inl, inr, refl, sym, ap, ◌∙◌, subst}
-use Rattle.std.specs.Map.{lookup}
-use Rattle.std.specs.Option.{option_map, option_map_or}
-use Rattle.event_listener.specs.declared.key.Key.{Key}
-use Rattle.channel_calls.specs.Turns.{held_on}
-use Rattle.channel_calls.specs.declared.ask.ChannelAsk.{ChannelAsk}
-use Rattle.channel_calls.specs.declared.ask.ChannelAsk.TheVariants as ask
-use Rattle.channel_calls.specs.declared.stage.ListenerRef.{ListenerRef}
-use Rattle.channel_calls.specs.declared.stage.WaitList.{WaitList}
-use Rattle.channel_calls.specs.declared.stage.WaitList.TheVariants.{Streams}
-use Rattle.channel_world_model.specs.Answer.{weak_of, strong_of}
-use Rattle.channel_world_model.specs.Asked.{refusal_asked, giving_up_asked, drop_asked, keeper_in, stream_of}
-use Rattle.channel_world_model.specs.Names.{at, borrowed_by, is_taken, own_message, waits_in, without_name}
-use Rattle.channel_world_model.specs.Refusal.{handle_fits}
-use Rattle.channel_world_model.specs.declared.call.Call.{Call}
-use Rattle.channel_world_model.specs.declared.call.Call.TheVariants as call
-use Rattle.channel_world_model.specs.declared.name.Handle.{Handle}
-use Rattle.channel_world_model.specs.declared.name.HandleId.{HandleId}
-use Rattle.channel_world_model.specs.declared.name.HandleKind.{HandleKind}
-use Rattle.channel_world_model.specs.declared.name.HandleKind.TheVariants as handle_kind
-use Rattle.channel_world_model.specs.declared.name.OpId.{OpId}
-use Rattle.channel_world_model.specs.declared.name.Operation.{Operation}
-use Rattle.channel_world_model.specs.declared.name.Waiter.{Waiter}
-use Rattle.channel_world_model.specs.declared.name.Waiter.TheVariants.{Op, Stream}
-use Rattle.channel_world_model.specs.declared.plan.Wanted.{Wanted}
-use Rattle.channel_world_model.specs.declared.plan.Wanted.TheVariants.{Receiver, Any}
-use Rattle.channel_world_runs.specs.Bookkeeping.{asks, on_return_of, names_begun, lent_by, handed_over_by, leave_handle_of, new_from, operation_named, handle_named}
-use Rattle.channel_world_runs.specs.Order.{placed, without_place, order_begun}
-use Rattle.channel_world_model.specs.Plan.{plan_of}
-use Rattle.channel_world_runs.specs.Owners.{NameStatus, free, retired, invalid, polled, status_on, no_stream_status, stream_status, status_by, status, wait_of, subject, Suits}
-use Rattle.channel_world_runs.specs.NameTable.{key_of, is_polled, names_of, held_of, with_lent, with_borrowed, with_poll_state}
-use Rattle.channel_world_runs.specs.declared.names.OnReturn.{OnReturn}
-use Rattle.channel_world_runs.specs.declared.names.OnReturn.TheVariants as on_return
-use Rattle.channel_world_runs.specs.declared.names.HandleEntry.{HandleEntry}
-use Rattle.channel_world_runs.specs.declared.names.OperationEntry.{OperationEntry}
-use Rattle.channel_world_runs.specs.declared.names.PollState.{PollState}
-use Rattle.channel_world_runs.specs.declared.names.PollState.TheVariants.{Rests, IsPolled}
-use Rattle.channel_world_runs.specs.declared.name_table.NameTable.{NameTable}
-use Rattle.channel_world_runs.proofs.AskFacts.{of_cloned, of_upgraded}
-use Rattle.channel_world_runs.proofs.AskStarts.{ask_holds}
-use Rattle.channel_world_runs.proofs.OwnerBegins.{IsLoose, held_in, Keeps, Quiet, Touches, Admitted, IsFitting, untaken, on_line, Sane, Found, find, seen_is, key_is, held_is, loose_is, polls_with, polls}
-use Rattle.channel_world_runs.proofs.OwnerNames.{Sets, Same, same_both, sets_same, op_status, handle_entry_status, found, op_set, op_spent, handle_set, handle_spent, handle_changed, lent_same, borrowed_same, handed_over_same}
-use Rattle.channel_world_runs.proofs.RefusalLemmas.{handle_through}
+use Rattle.std.specs.Prelude.{◌≡◌, ◌⊎◌}
+use Rattle.channel_world_runs.proofs.Lemmas.{nat_eq, true, false, Option, None, Some, is_some, inl, inr, refl, sym, ap, ◌∙◌, subst, lookup, option_map, option_map_or, Key, held_on, ChannelAsk, ListenerRef, WaitList, Streams, weak_of, strong_of, refusal_asked, giving_up_asked, drop_asked, keeper_in, stream_of, at, borrowed_by, is_taken, own_message, waits_in, without_name, handle_fits, Call, Handle, HandleId, HandleKind, OpId, Operation, Waiter, Op, Stream, Wanted, Any, asks, on_return_of, names_begun, lent_by, handed_over_by, leave_handle_of, new_from, operation_named, handle_named, placed, without_place, order_begun, plan_of, NameStatus, free, retired, invalid, polled, status_on, no_stream_status, stream_status, status_by, status, wait_of, subject, Suits, key_of, is_polled, names_of, held_of, with_lent, with_borrowed, with_poll_state, OnReturn, HandleEntry, OperationEntry, PollState, Rests, IsPolled, NameTable, of_cloned, of_upgraded, ask_holds, IsLoose, held_in, Keeps, Quiet, Touches, Admitted, IsFitting, Sane, find, seen_is, key_is, held_is, loose_is, polls_with, polls, Sets, Same, same_both, sets_same, op_status, handle_entry_status, op_set, op_spent, handle_set, handle_spent, handle_changed, lent_same, borrowed_same, handed_over_same, handle_through}
+use Rattle.channel_world_model.specs.declared.plan.Wanted.TheVariants.{Receiver}
+use Rattle.channel_world_runs.proofs.OwnerBegins.{untaken, on_line, Found}
+use Rattle.channel_world_runs.proofs.OwnerNames.{found}
 use Rattle.channel_world_runs.proofs.RefusalLemmas as seen
 
 abbrev Idle : HandleKind → PollState → Type 0
@@ -52,22 +14,22 @@ no_stream_held : (s : PollState) → (no_stream_status s ≡ invalid → ⊥)
 no_stream_held Rests f = (refl, tt)
 no_stream_held s f = absurd (f refl)
 
-is_receiver : (k : HandleKind) → handle_fits Receiver k ≡ true → k ≡ handle_kind.Receiver
-is_receiver handle_kind.Receiver e = refl
+is_receiver : (k : HandleKind) → handle_fits Receiver k ≡ true → k ≡ HandleKind.Receiver
+is_receiver HandleKind.Receiver e = refl
 is_receiver k e = absurd (let no : false ≡ true = e in cc)
 
 module _ (T : Type 0) where
   abbrev drop_is : HandleKind → Option Key → ChannelAsk T Waiter
   drop_is k key = elim k [
-    | handle_kind.Sender ↦ ask.DropSender
-    | handle_kind.Receiver ↦ ask.DropReceiver key
-    | handle_kind.WeakSender ↦ ask.DropWeak
-    | handle_kind.WeakReceiver ↦ ask.DropWeak
+    | HandleKind.Sender ↦ ChannelAsk.DropSender
+    | HandleKind.Receiver ↦ ChannelAsk.DropReceiver key
+    | HandleKind.WeakSender ↦ ChannelAsk.DropWeak
+    | HandleKind.WeakReceiver ↦ ChannelAsk.DropWeak
   ]
 
   drop_held : (k : HandleKind) (s : PollState) → Idle k s → (ask_holds (drop_is k (key_of s)) ≡ held_in (stream_status k s))
       × IsLoose (stream_status k s)
-  drop_held handle_kind.Receiver s f = on_line Streams s f.0
+  drop_held HandleKind.Receiver s f = on_line Streams s f.0
   drop_held k s f = no_stream_held s f.1
 
   -- it keeps the listener of a receiver, and of no other handle, which isn't pending
@@ -76,13 +38,13 @@ module _ (T : Type 0) where
   drop_keeps handle h s f = by h.kind f
     where
       by : (k : HandleKind) → Idle k s → Keeps (stream_of handle (Some (record h { kind = k }))) (Stream handle) (stream_status k s)
-      by handle_kind.Receiver f = inl refl
-      by handle_kind.Sender f = inr (refl, sym (no_stream_held s f.1).0)
-      by handle_kind.WeakSender f = inr (refl, sym (no_stream_held s f.1).0)
-      by handle_kind.WeakReceiver f = inr (refl, sym (no_stream_held s f.1).0)
+      by HandleKind.Receiver f = inl refl
+      by HandleKind.Sender f = inr (refl, sym (no_stream_held s f.1).0)
+      by HandleKind.WeakSender f = inr (refl, sym (no_stream_held s f.1).0)
+      by HandleKind.WeakReceiver f = inr (refl, sym (no_stream_held s f.1).0)
 
   drop_waits : (k : HandleKind) (key : Option Key) → wait_of (drop_is k key) ≡ None
-  drop_waits handle_kind.Sender key = refl
+  drop_waits HandleKind.Sender key = refl
   drop_waits k key = refl
 
   new_whose : (from new : HandleId) (k : HandleKind → HandleKind) (o : Option Handle)
@@ -112,19 +74,19 @@ module _ {T : Type 0} where
   -- ---- operations
 
   refuses : (r : NameTable T) (op : OpId) → Found r op
-      → Touches (status r) (status (names_begun r (call.PollRefused op))) (Some (Op op)) (on_return.Poll op) (asks r (call.PollRefused op)) (placed (Op op))
+      → Touches (status r) (status (names_begun r (Call.PollRefused op))) (Some (Op op)) (OnReturn.Poll op) (asks r (Call.PollRefused op)) (placed (Op op))
   refuses r op f =
       let o = f.operation in
-      let same : asks r (call.PollRefused op) ≡ ask.RefusePoll (waits_in o.operation) (own_message o.operation) (key_of o.poll_state) =
+      let same : asks r (Call.PollRefused op) ≡ ChannelAsk.RefusePoll (waits_in o.operation) (own_message o.operation) (key_of o.poll_state) =
       ap (λ (x : Option (Operation T)). refusal_asked (held_of r (Op op)) x) (seen_is r op f)
       ∙ ap (λ (key : Option Key). refusal_asked key (Some o.operation)) (key_is r op o f.is) in
-      polls_with r op f (asks r (call.PollRefused op)) (ap ask_holds same) (inl (ap wait_of same))
+      polls_with r op f (asks r (Call.PollRefused op)) (ap ask_holds same) (inl (ap wait_of same))
 
   gives_up : (r : NameTable T) (op : OpId) → Found r op
-      → Touches (status r) (status (names_begun r (call.GiveUp op))) (Some (Op op)) (on_return_of r (call.GiveUp op)) (asks r (call.GiveUp op)) (without_place (Op op))
+      → Touches (status r) (status (names_begun r (Call.GiveUp op))) (Some (Op op)) (on_return_of r (Call.GiveUp op)) (asks r (Call.GiveUp op)) (without_place (Op op))
   gives_up r op f =
       let o = f.operation in
-      let same : asks r (call.GiveUp op) ≡ ask.GiveUp (waits_in o.operation) (own_message o.operation) (key_of o.poll_state) =
+      let same : asks r (Call.GiveUp op) ≡ ChannelAsk.GiveUp (waits_in o.operation) (own_message o.operation) (key_of o.poll_state) =
       ap (λ (x : Option (Operation T)). giving_up_asked (held_of r (Op op)) x) (seen_is r op f)
       ∙ ap (λ (key : Option Key). giving_up_asked key (Some o.operation)) (key_is r op o f.is) in
       let looked : is_some (lookup (nat_eq op.0) r.operations) ≡ true = ap (λ x. is_some x) (found op.0 r.operations o f.is) in
@@ -137,7 +99,7 @@ module _ {T : Type 0} where
         busy = tt;
         loose = loose_is r op f;
         takes = ap ask_holds same ∙ held_is r op f;
-        suits = leaves_suit (status (names_begun r (call.GiveUp op))) (at op.0 r.operations) (wait_of (asks r (call.GiveUp op)))
+        suits = leaves_suit (status (names_begun r (Call.GiveUp op))) (at op.0 r.operations) (wait_of (asks r (Call.GiveUp op)))
             (ap wait_of same);
         whose = inl (leaves_nobody (at op.0 r.operations));
         works = λ line i. absurd (let no : retired ≡ polled line = i in cc);
@@ -164,11 +126,11 @@ module _ {T : Type 0} where
 
   names_operation : (r : NameTable T) (op : OpId) (handle : HandleId) (o : OperationEntry T) → o.poll_state ≡ Rests
       → is_taken op.0 r.operations ≡ false
-      → Touches (status r) (status (with_borrowed handle (operation_named op r))) None (on_return.Make op o) ask.Make (λ ws. ws)
+      → Touches (status r) (status (with_borrowed handle (operation_named op r))) None (OnReturn.Make op o) ChannelAsk.Make (λ ws. ws)
   names_operation r op handle o new untook =
       let s = sets_same (status r) (status (operation_named op r)) (status (with_borrowed handle (operation_named op r))) (Op op) retired
       (op_spent r op) (borrowed_same (operation_named op r) handle) in
-      names_new (status r) (status (with_borrowed handle (operation_named op r))) (Op op) (on_return.Make op o) ask.Make s
+      names_new (status r) (status (with_borrowed handle (operation_named op r))) (Op op) (OnReturn.Make op o) ChannelAsk.Make s
       (untaken op_status op.0 r.operations untook) refl (s.there, new, refl) (inr refl)
 
   lent_by_same : (r : NameTable T) (o : Option (OperationEntry T)) → Same (status r) (status (lent_by o r))
@@ -196,15 +158,15 @@ module _ {T : Type 0} where
   stream_key r handle h e = ap (λ x. option_map_or (λ (h : HandleEntry). key_of h.poll_state) x None) e
 
   drops : (r : NameTable T) (handle : HandleId) → Seen r handle
-      → Touches (status r) (status (names_begun r (call.Drop handle))) (keeper_in (names_of r) (call.Drop handle)) on_return.Nothing
-      (asks r (call.Drop handle)) (without_place (Stream handle))
+      → Touches (status r) (status (names_begun r (Call.Drop handle))) (keeper_in (names_of r) (Call.Drop handle)) OnReturn.Nothing
+      (asks r (Call.Drop handle)) (without_place (Stream handle))
   drops r handle f =
       let h = f.handle_entry in
-      let same : asks r (call.Drop handle) ≡ drop_is T h.handle.kind (key_of h.poll_state) =
+      let same : asks r (Call.Drop handle) ≡ drop_is T h.handle.kind (key_of h.poll_state) =
       ap (λ (x : Option Handle). drop_asked (held_of r (Stream handle)) x) (seen.handle_at r handle.0 ∙ ap (option_map (λ (h : HandleEntry). h.handle)) f.is)
       ∙ ap (λ (key : Option Key). drop_is T h.handle.kind key) (stream_key r handle h f.is) in
       let held = drop_held T h.handle.kind h.poll_state f.idle in
-      let kept : keeper_in (names_of r) (call.Drop handle) ≡ stream_of handle (Some h.handle) =
+      let kept : keeper_in (names_of r) (Call.Drop handle) ≡ stream_of handle (Some h.handle) =
       ap (stream_of handle) (seen.handle_at r handle.0 ∙ ap (option_map (λ (h : HandleEntry). h.handle)) f.is) in
       let looked : is_some (lookup (nat_eq handle.0) r.handles) ≡ true = ap (λ x. is_some x) (found handle.0 r.handles h f.is) in
       record {
@@ -223,8 +185,8 @@ module _ {T : Type 0} where
         order = inr (inr (refl, λ ws. refl));
       }
 
-  streams : (r : NameTable T) (handle : HandleId) (f : Seen r handle) → f.handle_entry.handle.kind ≡ handle_kind.Receiver
-      → Touches (status r) (status (names_begun r (call.PollNext handle))) (Some (Stream handle)) (on_return.PollNext handle) (asks r (call.PollNext handle)) (placed (Stream handle))
+  streams : (r : NameTable T) (handle : HandleId) (f : Seen r handle) → f.handle_entry.handle.kind ≡ HandleKind.Receiver
+      → Touches (status r) (status (names_begun r (Call.PollNext handle))) (Some (Stream handle)) (OnReturn.PollNext handle) (asks r (Call.PollNext handle)) (placed (Stream handle))
   streams r handle f receiver =
       let h = f.handle_entry in
       let lent = with_poll_state (IsPolled false) handle r in
@@ -276,30 +238,30 @@ module _ {T : Type 0} where
       record { same = same; keeps = refl; nobody = nobody; patient = plain.0; empty = plain.1; order = λ ws. refl }
 
   pub begins_so : (r : NameTable T) (c : Call T) → Sane r → Admitted r c → BeginsSo r c
-  begins_so r (call.NewSend op sender msg) sane a = inr (names_operation r op sender _ refl a.new)
-  begins_so r (call.NewRecv op receiver) sane a = inr (names_operation r op receiver _ refl a.new)
-  begins_so r (call.NewClosed op sender) sane a = inr (names_operation r op sender _ refl a.new)
-  begins_so r (call.Poll op) sane a = inr (polls r op (find r op sane a.finds))
-  begins_so r (call.PollRefused op) sane a = inr (refuses r op (find r op sane a.finds))
-  begins_so r (call.GiveUp op) sane a = inr (gives_up r op (find r op sane a.finds))
-  begins_so r (call.SendIsTerminated op) sane a = inl
+  begins_so r (Call.NewSend op sender msg) sane a = inr (names_operation r op sender _ refl a.new)
+  begins_so r (Call.NewRecv op receiver) sane a = inr (names_operation r op receiver _ refl a.new)
+  begins_so r (Call.NewClosed op sender) sane a = inr (names_operation r op sender _ refl a.new)
+  begins_so r (Call.Poll op) sane a = inr (polls r op (find r op sane a.finds))
+  begins_so r (Call.PollRefused op) sane a = inr (refuses r op (find r op sane a.finds))
+  begins_so r (Call.GiveUp op) sane a = inr (gives_up r op (find r op sane a.finds))
+  begins_so r (Call.SendIsTerminated op) sane a = inl
       (passes r (lent_by (at op.0 r.operations) r) (leave_handle_of (at op.0 r.operations)) _ (lent_by_same r (at op.0 r.operations))
       (leaves_nobody (at op.0 r.operations)) (refl, refl))
-  begins_so r (call.PollNext receiver) sane a =
+  begins_so r (Call.PollNext receiver) sane a =
       let h = a.finds in inr (streams r receiver (see r Receiver receiver sane h) (is_receiver h.0.handle.kind h.3))
-  begins_so r (call.Drop handle) sane a = inr (drops r handle (see r Any handle sane a.finds))
-  begins_so r (call.TryClone handle new) sane a =
+  begins_so r (Call.Drop handle) sane a = inr (drops r handle (see r Any handle sane a.finds))
+  begins_so r (Call.TryClone handle new) sane a =
       let p = of_cloned (Plain T) (refl, refl) (λ side. (refl, refl)) (at handle.0 (names_of r).handles) in
       inr (names_handle r handle new (λ k. k) (at handle.0 (names_of r).handles) _ a.new p.0 p.1)
-  begins_so r (call.Downgrade handle new) sane a =
-      inr (names_handle r handle new weak_of (at handle.0 (names_of r).handles) ask.Make a.new refl refl)
-  begins_so r (call.Upgrade weak new) sane a =
+  begins_so r (Call.Downgrade handle new) sane a =
+      inr (names_handle r handle new weak_of (at handle.0 (names_of r).handles) ChannelAsk.Make a.new refl refl)
+  begins_so r (Call.Upgrade weak new) sane a =
       let p = of_upgraded (Plain T) (refl, refl) (λ side. (refl, refl)) (at weak.0 (names_of r).handles) in
       inr (names_handle r weak new strong_of (at weak.0 (names_of r).handles) _ a.new p.0 p.1)
-  begins_so r (call.SameChannel x y) sane a = inl
-      (passes r (with_lent y (with_lent x r)) (on_return.LeaveBoth x y) _
+  begins_so r (Call.SameChannel x y) sane a = inl
+      (passes r (with_lent y (with_lent x r)) (OnReturn.LeaveBoth x y) _
       (same_both (status r) (status (with_lent x r)) (status (with_lent y (with_lent x r))) (lent_same r x) (lent_same (with_lent x r) y))
       refl (refl, refl))
   begins_so r c sane a =
       let handle = handle_through (plan_of c) in
-      inl (passes r (with_lent handle r) (on_return.Leave handle) _ (lent_same r handle) refl (refl, refl))
+      inl (passes r (with_lent handle r) (OnReturn.Leave handle) _ (lent_same r handle) refl (refl, refl))

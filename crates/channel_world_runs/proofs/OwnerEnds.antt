@@ -1,38 +1,6 @@
 -- What a call that ends gives back to the names.
-use Rattle.std.proofs.Common.{◌≡◌, ℕ, nat_eq, true, Option, None, Some, is_some, Err, ◌⊎◌, inl, inr, refl, sym, ap, ◌∙◌, subst}
-use Rattle.std.specs.Map.{lookup}
-use Rattle.std.specs.Option.{option_map_or}
-use Rattle.event_listener.specs.declared.key.Key.{Key}
-use Rattle.futures.specs.declared.task.Poll.TheVariants.{Ready, Pending}
-use Rattle.channel_calls.specs.Turns.{leaving}
-use Rattle.channel_calls.specs.declared.ask.ChannelAsk.{ChannelAsk}
-use Rattle.channel_calls.specs.declared.ask.ChannelAsk.TheVariants as ask
-use Rattle.channel_calls.specs.declared.error.Refused.TheVariants as refused
-use Rattle.channel_calls.specs.declared.reply.Reply.{Reply}
-use Rattle.channel_calls.specs.declared.reply.Reply.TheVariants as reply
-use Rattle.channel_calls.specs.declared.stage.Returned.{Returned}
-use Rattle.channel_calls.specs.declared.stage.WaitList.{WaitList}
-use Rattle.channel_calls.specs.declared.stage.WaitList.TheVariants.{Sends, Receives, Streams, Closings}
-use Rattle.channel_steps.specs.Answers.{PollKeeps, Keeps}
-use Rattle.channel_world_model.specs.Names.{Directory, at, waits_in, with_message}
-use Rattle.channel_world_model.specs.declared.name.HandleId.{HandleId}
-use Rattle.channel_world_model.specs.declared.name.HandleKind.{HandleKind}
-use Rattle.channel_world_model.specs.declared.name.HandleKind.TheVariants as handle_kind
-use Rattle.channel_world_model.specs.declared.name.OpId.{OpId}
-use Rattle.channel_world_model.specs.declared.name.Operation.{Operation}
-use Rattle.channel_world_model.specs.declared.name.Operation.TheVariants as live
-use Rattle.channel_world_model.specs.declared.name.Waiter.{Waiter}
-use Rattle.channel_world_model.specs.declared.name.Waiter.TheVariants.{Op, Stream}
-use Rattle.channel_world_runs.specs.Bookkeeping.{restored, installed, written_back}
-use Rattle.channel_world_runs.specs.Owners.{NameStatus, free, retired, invalid, rests, waits, polled, status_on, no_stream_status, stream_status, status_by, operation_status, status, wait_of, subject, Suits}
-use Rattle.channel_world_runs.specs.NameTable.{poll_state_with, unused, with_given_back, with_poll_state}
-use Rattle.channel_world_runs.specs.declared.names.OnReturn.{OnReturn}
-use Rattle.channel_world_runs.specs.declared.names.OnReturn.TheVariants as on_return
-use Rattle.channel_world_runs.specs.declared.names.HandleEntry.{HandleEntry}
-use Rattle.channel_world_runs.specs.declared.names.OperationEntry.{OperationEntry}
-use Rattle.channel_world_runs.specs.declared.names.PollState.{PollState}
-use Rattle.channel_world_runs.specs.declared.names.PollState.TheVariants.{Rests, Waits, IsPolled}
-use Rattle.channel_world_runs.specs.declared.name_table.NameTable.{NameTable}
+use Rattle.std.specs.Prelude.{◌≡◌, ◌⊎◌}
+use Rattle.channel_world_runs.proofs.Words.{ℕ, nat_eq, true, Option, None, Some, is_some, Err, inl, inr, refl, sym, ap, ◌∙◌, subst, lookup, option_map_or, Key, Ready, Pending, leaving, ChannelAsk, Reply, Returned, WaitList, Sends, Receives, Streams, Closings, PollKeeps, Keeps, Directory, at, waits_in, with_message, HandleId, HandleKind, OpId, Operation, Waiter, Op, Stream, restored, installed, written_back, NameStatus, free, retired, invalid, rests, waits, polled, status_on, no_stream_status, stream_status, status_by, operation_status, status, wait_of, subject, Suits, poll_state_with, unused, with_given_back, with_poll_state, OnReturn, HandleEntry, OperationEntry, PollState, Rests, Waits, IsPolled, NameTable, Refused}
 use Rattle.channel_world_runs.proofs.OwnerNames.{Sets, Same, same_both, sets_same, same_sets, op_status, handle_entry_status, op_set, op_changed, handle_set, handle_changed, given_back_same}
 
 -- neither pending nor amiss
@@ -79,12 +47,12 @@ no_stream : (l : WaitList) (s : PollState) → no_stream_status s ≡ polled l �
 no_stream l Rests e = no_busy (rests Streams) l e
 no_stream l x e = no_busy invalid l e
 
-stream_is : (k : HandleKind) (l : WaitList) (s : PollState) → stream_status k s ≡ polled l → (k ≡ handle_kind.Receiver) × (Streams ≡ l)
-stream_is handle_kind.Receiver l s e = (refl, on_line Streams l s e)
+stream_is : (k : HandleKind) (l : WaitList) (s : PollState) → stream_status k s ≡ polled l → (k ≡ HandleKind.Receiver) × (Streams ≡ l)
+stream_is HandleKind.Receiver l s e = (refl, on_line Streams l s e)
 stream_is x l s e = absurd (no_stream l s e)
 
 calm_stream : (k : HandleKind) → IsCalm (stream_status k Rests)
-calm_stream handle_kind.Receiver = tt
+calm_stream HandleKind.Receiver = tt
 calm_stream x = tt
 
 -- the wait is that of the name
@@ -100,18 +68,18 @@ own_wait wait line l w task (inr some) e =
 
 module _ {T : Type 0} where
   op_line : (x : Operation T) (l : WaitList) (s : PollState) → operation_status x s ≡ polled l → waits_in x ≡ l
-  op_line (live.Send h None) l Rests e = absurd (no_busy (rests Sends) l e)
-  op_line (live.Send h None) l (Waits key) e = absurd (no_busy invalid l e)
-  op_line (live.Send h None) l (IsPolled b) e = polled_is Sends l e
-  op_line (live.Send h (Some m)) l s e = on_line Sends l s e
-  op_line (live.Receive h) l s e = on_line Receives l s e
-  op_line (live.Closing h) l s e = on_line Closings l s e
+  op_line (Operation.Send h None) l Rests e = absurd (no_busy (rests Sends) l e)
+  op_line (Operation.Send h None) l (Waits key) e = absurd (no_busy invalid l e)
+  op_line (Operation.Send h None) l (IsPolled b) e = polled_is Sends l e
+  op_line (Operation.Send h (Some m)) l s e = on_line Sends l s e
+  op_line (Operation.Receive h) l s e = on_line Receives l s e
+  op_line (Operation.Closing h) l s e = on_line Closings l s e
 
   calm_op : (x : Operation T) → IsCalm (operation_status x Rests)
-  calm_op (live.Send h None) = tt
-  calm_op (live.Send h (Some m)) = tt
-  calm_op (live.Receive h) = tt
-  calm_op (live.Closing h) = tt
+  calm_op (Operation.Send h None) = tt
+  calm_op (Operation.Send h (Some m)) = tt
+  calm_op (Operation.Receive h) = tt
+  calm_op (Operation.Closing h) = tt
 
   -- a send that waits has its message
   abbrev pub Carries : WaitList → Option T → Type 0
@@ -119,10 +87,10 @@ module _ {T : Type 0} where
 
   waiting_op : (x : Operation T) (m : Option T) (key : Key) → Carries (waits_in x) m
       → operation_status (with_message m x) (Waits key) ≡ waits (record { line = waits_in x; key = key })
-  waiting_op (live.Send h n) None key c = absurd (let f = c refl in let no : None ≡ Some f.0 = f.1 in cc)
-  waiting_op (live.Send h n) (Some m) key c = refl
-  waiting_op (live.Receive h) m key c = refl
-  waiting_op (live.Closing h) m key c = refl
+  waiting_op (Operation.Send h n) None key c = absurd (let f = c refl in let no : None ≡ Some f.0 = f.1 in cc)
+  waiting_op (Operation.Send h n) (Some m) key c = refl
+  waiting_op (Operation.Receive h) m key c = refl
+  waiting_op (Operation.Closing h) m key c = refl
 
   -- ---- what is left
 
@@ -169,15 +137,15 @@ module _ {T : Type 0} where
       subst (λ (y : Waiter). IsCalm (p y)) (some_is w v (sym whose ∙ s)) (subst IsCalm (sym is) calm)
 
   makes : (r : NameTable T) (op : OpId) (o : OperationEntry T) (y : Reply T) (kept : Returned T) (wait : Option (WaitList × Waiter))
-      → IsLeft kept wait → Suits {T = T} (status r) (on_return.Make op o) wait
-      → Settles (status r) (status (written_back (on_return.Make op o) y kept r)) (on_return.Make op o) kept wait
+      → IsLeft kept wait → Suits {T = T} (status r) (OnReturn.Make op o) wait
+      → Settles (status r) (status (written_back (OnReturn.Make op o) y kept r)) (OnReturn.Make op o) kept wait
   makes r op o y kept wait l f =
       let s = op_set r op (Some o) (vacant_taken op_status (lookup (nat_eq op.0) r.operations) f.0) in
       let calm : IsCalm (op_status o) =
       subst (λ (z : PollState). IsCalm (operation_status o.operation z)) (sym f.1) (calm_op o.operation) in
-      set (status r) (status (written_back (on_return.Make op o) y kept r)) (on_return.Make op o) kept wait (Op op) (op_status o) refl s
-      (no_wait (status (written_back (on_return.Make op o) y kept r)) (on_return.Make op o) kept wait l f.2
-      (calm_at (status (written_back (on_return.Make op o) y kept r)) (on_return.Make op o) (Op op) (op_status o) refl s.there calm))
+      set (status r) (status (written_back (OnReturn.Make op o) y kept r)) (OnReturn.Make op o) kept wait (Op op) (op_status o) refl s
+      (no_wait (status (written_back (OnReturn.Make op o) y kept r)) (OnReturn.Make op o) kept wait l f.2
+      (calm_at (status (written_back (OnReturn.Make op o) y kept r)) (OnReturn.Make op o) (Op op) (op_status o) refl s.there calm))
 
   -- the end of a poll: the name stands by the listener that is left
   comes : (after : Waiter → NameStatus) (e : OnReturn T) (w : Waiter) (x : Option Key → NameStatus) (line : WaitList) (kept : Returned T)
@@ -200,22 +168,22 @@ module _ {T : Type 0} where
       )
 
   polls : (r : NameTable T) (op : OpId) (y : Reply T) (kept : Returned T) (wait : Option (WaitList × Waiter)) → IsLeft kept wait
-      → Suits {T = T} (status r) (on_return.Poll op) wait
-      → Settles (status r) (status (written_back (on_return.Poll op) y kept r)) (on_return.Poll op) kept wait
+      → Suits {T = T} (status r) (OnReturn.Poll op) wait
+      → Settles (status r) (status (written_back (OnReturn.Poll op) y kept r)) (OnReturn.Poll op) kept wait
   polls r op y kept wait l f =
       let there = polled_there op_status op.0 r.operations f.0 f.1 in
       let o = there.0 in
       let s = op_changed r op (restored kept) o there.1 in
       let line = op_line o.operation f.0 o.poll_state there.2 in
-      set (status r) (status (written_back (on_return.Poll op) y kept r)) (on_return.Poll op) kept wait (Op op) _ refl s
-      (comes (status (written_back (on_return.Poll op) y kept r)) (on_return.Poll op) (Op op)
+      set (status r) (status (written_back (OnReturn.Poll op) y kept r)) (OnReturn.Poll op) kept wait (Op op) _ refl s
+      (comes (status (written_back (OnReturn.Poll op) y kept r)) (OnReturn.Poll op) (Op op)
       (λ k. operation_status (with_message kept.message o.operation) (poll_state_with k)) f.0 kept wait refl s.there (calm_op (with_message kept.message o.operation))
       (λ key c. waiting_op o.operation kept.message key (λ sends. c (sym line ∙ sends))
       ∙ ap (λ (x : WaitList). waits (record { line = x; key = key })) line) f.2 l)
 
   nexts : (r : NameTable T) (receiver : HandleId) (y : Reply T) (kept : Returned T) (wait : Option (WaitList × Waiter)) → IsLeft kept wait
-      → Suits {T = T} (status r) (on_return.PollNext receiver) wait
-      → Settles (status r) (status (written_back (on_return.PollNext receiver) y kept r)) (on_return.PollNext receiver) kept wait
+      → Suits {T = T} (status r) (OnReturn.PollNext receiver) wait
+      → Settles (status r) (status (written_back (OnReturn.PollNext receiver) y kept r)) (OnReturn.PollNext receiver) kept wait
   nexts r receiver y kept wait l f =
       let there = polled_there handle_entry_status receiver.0 r.handles f.0 f.1 in
       let h = there.0 in
@@ -224,15 +192,15 @@ module _ {T : Type 0} where
       let s = handle_changed r receiver (λ (x : HandleEntry). record x { poll_state = poll_state_with kept.key }) h there.1 in
       let all = sets_same (status r) (status put) (status (with_given_back receiver put)) (Stream receiver) _ s
       (given_back_same put receiver) in
-      set (status r) (status (written_back (on_return.PollNext receiver) y kept r)) (on_return.PollNext receiver) kept wait (Stream receiver) _ refl all
-      (comes (status (written_back (on_return.PollNext receiver) y kept r)) (on_return.PollNext receiver) (Stream receiver)
+      set (status r) (status (written_back (OnReturn.PollNext receiver) y kept r)) (OnReturn.PollNext receiver) kept wait (Stream receiver) _ refl all
+      (comes (status (written_back (OnReturn.PollNext receiver) y kept r)) (OnReturn.PollNext receiver) (Stream receiver)
       (λ k. status_on Streams (poll_state_with k)) f.0 kept wait refl (all.there ∙ ap (λ k. stream_status k (poll_state_with kept.key)) is.0) tt
       (λ key c. ap (λ (x : WaitList). waits (record { line = x; key = key })) is.1) f.2 l)
 
   -- a new handle lives, or doesn't
   installs : (r : NameTable T) (new : HandleId) (k : HandleKind) (y : Reply T) → status r (Stream new) ≡ retired
       → (x : NameStatus) × IsCalm x × Sets (status r) (status (installed new k y r)) (Stream new) x
-  installs r new k reply.Made v = (
+  installs r new k Reply.Made v = (
     stream_status k Rests,
     calm_stream k,
     handle_set r new (Some (unused k))
@@ -241,30 +209,30 @@ module _ {T : Type 0} where
   installs r new k y v = (retired, tt, record { there = v; others = λ w other. refl })
 
   news : (r : NameTable T) (from new : HandleId) (k : HandleKind) (y : Reply T) (kept : Returned T) (wait : Option (WaitList × Waiter))
-      → IsLeft kept wait → Suits {T = T} (status r) (on_return.New from new k) wait
-      → Settles (status r) (status (written_back (on_return.New from new k) y kept r)) (on_return.New from new k) kept wait
+      → IsLeft kept wait → Suits {T = T} (status r) (OnReturn.New from new k) wait
+      → Settles (status r) (status (written_back (OnReturn.New from new k) y kept r)) (OnReturn.New from new k) kept wait
   news r from new k y kept wait l f =
       let back = with_given_back from r in
       let back_same = given_back_same r from in
       let i = installs back new k y (back_same (Stream new) ∙ f.0) in
       let all = same_sets (status r) (status back) (status (installed new k y back)) (Stream new) i.0 back_same i.2 in
-      set (status r) (status (written_back (on_return.New from new k) y kept r)) (on_return.New from new k) kept wait (Stream new) i.0 refl all
-      (no_wait (status (written_back (on_return.New from new k) y kept r)) (on_return.New from new k) kept wait l f.1
-      (calm_at (status (written_back (on_return.New from new k) y kept r)) (on_return.New from new k) (Stream new) i.0 refl all.there i.1))
+      set (status r) (status (written_back (OnReturn.New from new k) y kept r)) (OnReturn.New from new k) kept wait (Stream new) i.0 refl all
+      (no_wait (status (written_back (OnReturn.New from new k) y kept r)) (OnReturn.New from new k) kept wait l f.1
+      (calm_at (status (written_back (OnReturn.New from new k) y kept r)) (OnReturn.New from new k) (Stream new) i.0 refl all.there i.1))
 
   pub settles : (r : NameTable T) (e : OnReturn T) (y : Reply T) (kept : Returned T) (wait : Option (WaitList × Waiter)) → IsLeft kept wait
       → Suits {T = T} (status r) e wait → Settles (status r) (status (written_back e y kept r)) e kept wait
-  settles r on_return.Nothing y kept wait l f = plain (status r) (status r) on_return.Nothing kept wait l f refl (λ v. refl)
-  settles r (on_return.Leave handle) y kept wait l f =
-      plain (status r) (status (with_given_back handle r)) (on_return.Leave handle) kept wait l f refl (given_back_same r handle)
-  settles r (on_return.LeaveBoth a b) y kept wait l f =
-      plain (status r) (status (with_given_back b (with_given_back a r))) (on_return.LeaveBoth a b) kept wait l f refl
+  settles r OnReturn.Nothing y kept wait l f = plain (status r) (status r) OnReturn.Nothing kept wait l f refl (λ v. refl)
+  settles r (OnReturn.Leave handle) y kept wait l f =
+      plain (status r) (status (with_given_back handle r)) (OnReturn.Leave handle) kept wait l f refl (given_back_same r handle)
+  settles r (OnReturn.LeaveBoth a b) y kept wait l f =
+      plain (status r) (status (with_given_back b (with_given_back a r))) (OnReturn.LeaveBoth a b) kept wait l f refl
       (same_both (status r) (status (with_given_back a r)) (status (with_given_back b (with_given_back a r))) (given_back_same r a)
       (given_back_same (with_given_back a r) b))
-  settles r (on_return.Make op o) y kept wait l f = makes r op o y kept wait l f
-  settles r (on_return.Poll op) y kept wait l f = polls r op y kept wait l f
-  settles r (on_return.PollNext receiver) y kept wait l f = nexts r receiver y kept wait l f
-  settles r (on_return.New from new k) y kept wait l f = news r from new k y kept wait l f
+  settles r (OnReturn.Make op o) y kept wait l f = makes r op o y kept wait l f
+  settles r (OnReturn.Poll op) y kept wait l f = polls r op y kept wait l f
+  settles r (OnReturn.PollNext receiver) y kept wait l f = nexts r receiver y kept wait l f
+  settles r (OnReturn.New from new k) y kept wait l f = news r from new k y kept wait l f
 
   -- ---- what a send keeps
 
@@ -272,21 +240,21 @@ module _ {T : Type 0} where
   nothing_left k m key e f = absurd (let no : None ≡ Some key = sym (ap (λ (x : Returned T). x.key) e) ∙ f in cc)
 
   poll_carries : (m : Option T) (y : Reply T) (k : Returned T) (key : Key) → PollKeeps m y k → k.key ≡ Some key → k.message ≡ m
-  poll_carries m (reply.SendPoll Pending) k key h e = h.1
-  poll_carries m (reply.RecvPoll Pending) k key h e = h.1
-  poll_carries m (reply.ClosedPoll Pending) k key h e = h.1
-  poll_carries m (reply.Next Pending) k key h e = h.1
-  poll_carries m (reply.SendPoll (Ready (Err (refused.NoMemory u)))) k key h e = absurd (nothing_left k m key h e)
-  poll_carries m (reply.SendPoll (Ready (Err (refused.SerialsUsedUp u)))) k key h e = absurd (nothing_left k m key h e)
+  poll_carries m (Reply.SendPoll Pending) k key h e = h.1
+  poll_carries m (Reply.RecvPoll Pending) k key h e = h.1
+  poll_carries m (Reply.ClosedPoll Pending) k key h e = h.1
+  poll_carries m (Reply.Next Pending) k key h e = h.1
+  poll_carries m (Reply.SendPoll (Ready (Err (Refused.NoMemory u)))) k key h e = absurd (nothing_left k m key h e)
+  poll_carries m (Reply.SendPoll (Ready (Err (Refused.SerialsUsedUp u)))) k key h e = absurd (nothing_left k m key h e)
   poll_carries m y k key h e = absurd (nothing_left k None key h e)
 
   pub carries : (a : ChannelAsk T Waiter) (y : Reply T) (k : Returned T) (key : Key) (line : WaitList) (task : Waiter) → Keeps a y k
       → k.key ≡ Some key → wait_of a ≡ Some (line, task) → Carries line k.message
-  carries (ask.PollSend m o t) y k key line task h e w sends = (m, poll_carries (Some m) y k key h e)
-  carries (ask.PollRecv o t) y k key line task h e w sends =
+  carries (ChannelAsk.PollSend m o t) y k key line task h e w sends = (m, poll_carries (Some m) y k key h e)
+  carries (ChannelAsk.PollRecv o t) y k key line task h e w sends =
       absurd (let no : Receives ≡ Sends = ap (λ (x : WaitList × Waiter). x.0) (some_is _ _ w) ∙ sends in cc)
-  carries (ask.PollClosed o t) y k key line task h e w sends =
+  carries (ChannelAsk.PollClosed o t) y k key line task h e w sends =
       absurd (let no : Closings ≡ Sends = ap (λ (x : WaitList × Waiter). x.0) (some_is _ _ w) ∙ sends in cc)
-  carries (ask.PollNext o t) y k key line task h e w sends =
+  carries (ChannelAsk.PollNext o t) y k key line task h e w sends =
       absurd (let no : Streams ≡ Sends = ap (λ (x : WaitList × Waiter). x.0) (some_is _ _ w) ∙ sends in cc)
   carries a y k key line task h e w sends = absurd (let no : None ≡ Some (line, task) = w in cc)

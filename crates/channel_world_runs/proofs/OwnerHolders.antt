@@ -1,9 +1,6 @@
 -- Listeners on lists, and who holds them, after one of these passed from one to another, came or went.
-use Rattle.std.proofs.Common.{◌≡◌, List, Option, None, Some, ◌⊎◌, inl, inr, sym, ◌∙◌}
-use Rattle.channel_calls.specs.Moves.{Channel}
-use Rattle.channel_calls.specs.declared.stage.ListenerRef.{ListenerRef}
-use Rattle.channel_world_runs.specs.Owners.{Holder, IsListed, NoneListedTwice}
-use Rattle.channel_world_runs.proofs.OwnerKeys.{IsGone}
+use Rattle.std.specs.Prelude.{◌≡◌, ◌⊎◌}
+use Rattle.channel_world_runs.proofs.Lemmas.{List, Option, None, Some, inl, inr, sym, ◌∙◌, Channel, ListenerRef, Holder, IsListed, NoneListedTwice, IsGone}
 use Rattle.channel_world_runs.proofs.OwnerMoves.{Lists}
 
 module _ {T W : Type 0} where

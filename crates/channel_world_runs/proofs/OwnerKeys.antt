@@ -1,13 +1,7 @@
 -- What a section on a list does to the listeners on it, beside the one that the call has in hand.
-use Rattle.std.proofs.Common.{◌≡◌, ℕ, zero, suc, ◌≤◌, Bool, true, false, cond, if◌then◌else◌, List, [], ◌∷◌, ◌++◌, map, length, take, drop, Option, None, Some, is_some, not, ◌⊎◌, inl, inr, refl, sym, ap, ◌∙◌, subst, arith, append_assoc}
-use Rattle.std.specs.Map.{lookup, keys_of}
-use Rattle.std.proofs.lemmas.Map.{keys-set_value}
-use Rattle.event_listener.specs.Lists.{Notice, same_key, told_as, waits_as, kind_of, without, with_task, told_with, moved, notified, listened, passed, passed_wakes, registration, removed, removed_wakes}
-use Rattle.event_listener.specs.declared.key.Key.{Key}
-use Rattle.channel_calls.specs.Parts.{Listeners, told_one, told_one_wakes, told_more, told_more_wakes, told_all, told_all_wakes, waits}
-use Rattle.channel_calls.specs.declared.stage.ListenerRef.{ListenerRef}
-use Rattle.channel_calls.specs.declared.stage.WaitList.{WaitList}
-use Rattle.channel_world_runs.specs.Owners.{IsAmong, NoneTwice, keys}
+use Rattle.std.specs.Prelude.{◌≡◌, ◌≤◌, if◌then◌else◌, ◌∷◌, ◌++◌, ◌⊎◌}
+use Rattle.channel_world_runs.proofs.Words.{ℕ, zero, suc, Bool, true, false, cond, List, [], map, length, take, drop, Option, None, Some, is_some, not, inl, inr, refl, sym, ap, ◌∙◌, subst, arith, append_assoc, lookup, keys_of, keys-set_value, Notice, same_key, told_as, waits_as, kind_of, without, with_task, told_with, moved, notified, listened, passed, passed_wakes, registration, removed, removed_wakes, Key, Listeners, told_one, told_one_wakes, told_more, told_more_wakes, told_all, told_all_wakes, ListenerRef, WaitList, IsAmong, NoneTwice, keys}
+use Rattle.channel_calls.specs.Parts.{waits}
 use Rattle.channel_world_runs.proofs.OwnerLists.{among_left, among_right, among_of, Joined, none_parts, none_more, among_cut, Fewer, fewer_both, same_is, told_apart, same_or_not, entry_stays, key_stays, fewer_keys, key_gone, entry_set, value_now, among_tasks}
 
 abbrev pub on : WaitList → Key → Option ListenerRef

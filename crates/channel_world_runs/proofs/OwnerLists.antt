@@ -1,10 +1,6 @@
 -- What stands on a list, and that none stands there twice.
-use Rattle.std.proofs.Common.{◌≡◌, ℕ, zero, suc, Bool, true, false, cond, List, [], ◌∷◌, ◌++◌, take, drop, Option, None, Some, ◌⊎◌, inl, inr, refl, sym, ap, ◌∙◌, subst, arith}
-use Rattle.std.proofs.lemmas.Bool.Decides.{nat_tests}
-use Rattle.std.specs.Map.{remove_entry, set_value, keys_of}
-use Rattle.event_listener.specs.Lists.{same_key, tasks_of}
-use Rattle.event_listener.specs.declared.key.Key.{Key}
-use Rattle.channel_world_runs.specs.Owners.{IsAmong, NoneTwice}
+use Rattle.std.specs.Prelude.{◌≡◌, ◌∷◌, ◌++◌, ◌⊎◌}
+use Rattle.channel_world_runs.proofs.Words.{ℕ, zero, suc, Bool, true, false, cond, List, [], take, drop, Option, None, Some, inl, inr, refl, sym, ap, ◌∙◌, subst, arith, nat_tests, remove_entry, set_value, keys_of, same_key, tasks_of, Key, IsAmong, NoneTwice}
 
 module _ {A : Type 0} where
   pub among_left : (x : A) (xs ys : List A) → IsAmong x xs → IsAmong x (xs ++ ys)

@@ -1,40 +1,9 @@
 -- What a step of a call does to the listeners, and what it has in hand then.
-use Rattle.std.proofs.Common.{◌≡◌, ℕ, ◌+◌, ◌-◌, Bool, true, false, if◌then◌else◌, List, [], Option, None, Some, ◌⊎◌, inl, inr, refl, sym, ap, ◌∙◌, subst}
-use Rattle.concurrent_queue.specs.Queue.{Phase, Continues, Answers}
-use Rattle.concurrent_queue.specs.declared.call.QueueReply.{QueueReply}
-use Rattle.channel_calls.specs.Answered.{answered_next}
-use Rattle.channel_calls.specs.declared.stage.Purpose.{Purpose}
-use Rattle.event_listener.specs.Lists.{listened, registration, removed, removed_wakes}
-use Rattle.event_listener.specs.declared.key.Key.{Key}
-use Rattle.channel_calls.specs.Marks.{up}
-use Rattle.channel_calls.specs.Moves.{Channel, Effect, queued, untouched, on_line, on_count, leaves, Turned, TakesRoomFor, Inserts, Worked, Moves}
-use Rattle.channel_calls.specs.Parts.{WaitLists, Listeners, listeners, with_listeners, with_count, count, is_raised, told_one, told_one_wakes, told_more, told_more_wakes, told_all, told_all_wakes, waits}
-use Rattle.channel_calls.specs.Turns.{line_of, leaving, again, pends_by, unlistened, room_next, roomless, lowered_next}
-use Rattle.channel_calls.specs.declared.ask.ChannelAsk.{ChannelAsk}
-use Rattle.channel_calls.specs.declared.ask.ChannelAsk.TheVariants as ask
-use Rattle.channel_calls.specs.declared.reply.Reply.{Reply}
-use Rattle.channel_calls.specs.declared.reply.Reply.TheVariants as reply
-use Rattle.channel_calls.specs.declared.stage.Ending.{Ending}
-use Rattle.channel_calls.specs.declared.stage.ListenerRef.{ListenerRef}
-use Rattle.channel_calls.specs.declared.stage.Returned.{Returned}
-use Rattle.channel_calls.specs.declared.stage.WaitList.{WaitList}
-use Rattle.channel_calls.specs.declared.stage.WaitList.TheVariants.{Sends, Receives, Streams, Closings}
-use Rattle.channel_calls.specs.declared.stage.Side.{Side}
-use Rattle.channel_calls.specs.declared.stage.Side.TheVariants.{Senders, Receivers}
-use Rattle.channel_calls.specs.declared.stage.Stage.{Stage}
-use Rattle.channel_calls.specs.declared.stage.Stage.TheVariants.{Trying, Working, Finished}
-use Rattle.channel_calls.specs.declared.stage.NextStep.{NextStep}
-use Rattle.channel_calls.specs.declared.stage.NextStep.TheVariants.{Tries, Works, Ends}
-use Rattle.channel_calls.specs.declared.stage.Waiting.{Waiting}
-use Rattle.channel_calls.specs.declared.stage.Waiting.TheVariants as waiting
-use Rattle.channel_calls.specs.declared.stage.ListStep.{ListStep}
-use Rattle.channel_calls.specs.declared.stage.ListStep.TheVariants.{TellReceive, TellStreams, TellSend, TellSends, TakeRoom, TellAll, Insert, Register, Leave, Lower, Count, Load, Raise}
-use Rattle.channel_steps.specs.Moments.{MarkedMoment}
-use Rattle.channel_steps.specs.Known.{IsFor, StageAt}
-use Rattle.channel_world_runs.specs.Owners.{IsAmong, holding, task_at, work_holds, work_task, wait_of, Bears, WaitsToWake}
-use Rattle.channel_world_runs.proofs.OwnerKeys.{on}
+use Rattle.std.specs.Prelude.{◌≡◌, ◌+◌, ◌-◌, if◌then◌else◌, ◌⊎◌}
+use Rattle.channel_world_runs.proofs.Lemmas.{ℕ, Bool, true, false, List, [], Option, None, Some, inl, inr, refl, sym, ap, ◌∙◌, subst, Phase, Continues, QueueReply, answered_next, Purpose, listened, registration, removed, removed_wakes, Key, up, Channel, Effect, queued, untouched, on_line, on_count, leaves, Turned, TakesRoomFor, Inserts, Worked, Moves, WaitLists, Listeners, listeners, with_listeners, with_count, count, is_raised, told_one, told_one_wakes, told_more, told_more_wakes, told_all, told_all_wakes, line_of, leaving, again, pends_by, unlistened, room_next, roomless, lowered_next, ChannelAsk, Reply, Ending, ListenerRef, Returned, WaitList, Sends, Receives, Streams, Closings, Side, Senders, Receivers, Stage, Trying, Working, Finished, NextStep, Tries, Works, Ends, WaitingStep as Waiting, ListStep, TellReceive, TellStreams, TellSend, TellSends, TakeRoom, TellAll, Insert, Register, Leave, Lower, Count, Load, Raise, MarkedMoment, IsFor, StageAt, IsAmong, holding, task_at, work_holds, work_task, wait_of, Bears, WaitsToWake, on, MayBear, Has, ends_has, told_all_has, room_has, lowered_has, loaded_has, raised_has, answered_has}
+use Rattle.concurrent_queue.specs.Queue.{Answers}
+use Rattle.channel_calls.specs.Parts.{waits}
 use Rattle.channel_world_runs.proofs.OwnerKeys as list
-use Rattle.channel_world_runs.proofs.OwnerTurns.{MayBear, Has, ends_has, told_all_has, room_has, lowered_has, loaded_has, raised_has, answered_has}
 
 -- ---- the four lists
 
@@ -66,13 +35,10 @@ module _ {W : Type 0} where
 
   pub counted_list : (line : WaitList) (side : Side) (n : ℕ) (r : WaitLists W) → listeners line (with_count side n r) ≡ listeners line r
   counted_list Sends Senders n r = refl
-  counted_list Sends Receivers n r = refl
   counted_list Receives Senders n r = refl
-  counted_list Receives Receivers n r = refl
   counted_list Streams Senders n r = refl
-  counted_list Streams Receivers n r = refl
   counted_list Closings Senders n r = refl
-  counted_list Closings Receivers n r = refl
+  counted_list line side n r = refl
 
   -- each list after a step
   abbrev pub Lists : WaitLists W → WaitLists W → List W → Option ListenerRef → Option ListenerRef → Type 0
@@ -213,10 +179,10 @@ module _ (T W : Type 0) where
 
     -- whom the ask waits for, on the list of its operation
     waits_there : (w : Waiting T) (y : ChannelAsk T W) → IsFor y w → (task : W) × (wait_of y ≡ Some (line_of w, task))
-    waits_there (waiting.Send v) (ask.PollSend m k t) h = (t, refl)
-    waits_there waiting.Receive (ask.PollRecv k t) h = (t, refl)
-    waits_there waiting.Stream (ask.PollNext k t) h = (t, refl)
-    waits_there waiting.Closing (ask.PollClosed k t) h = (t, refl)
+    waits_there (Waiting.Send v) (ChannelAsk.PollSend m k t) h = (t, refl)
+    waits_there Waiting.Receive (ChannelAsk.PollRecv k t) h = (t, refl)
+    waits_there Waiting.Stream (ChannelAsk.PollNext k t) h = (t, refl)
+    waits_there Waiting.Closing (ChannelAsk.PollClosed k t) h = (t, refl)
     waits_there w y h = absurd h
 
     own_task : (w : Waiting T) (task : W) → IsFor x w → Bears (Some task) (wait_of x) → wait_of x ≡ Some (line_of w, task)
@@ -337,7 +303,7 @@ module _ (T W : Type 0) where
         (on_it_goes (Working (Lower side key)) r s _ _ (counts side (count side c.wait_lists - 1) c.wait_lists [] _) h.1
         (lowers side key (count side c.wait_lists)))
     works (Count side) e r s ds seen k b h = as_it (Working (Count side)) r s e _ h.0
-        (on_it_goes (Working (Count side)) r s (untouched c) (Ends (reply.Count (count side c.wait_lists)) (leaving None None))
+        (on_it_goes (Working (Count side)) r s (untouched c) (Ends (Reply.Count (count side c.wait_lists)) (leaving None None))
         (still c.wait_lists [] None) h.1 (refl, refl))
     works (Load side making) e r s ds seen k b h = as_it (Working (Load side making)) r s e _ h.0
         (on_it_goes (Working (Load side making)) r s (untouched c) _ (still c.wait_lists [] None) h.1

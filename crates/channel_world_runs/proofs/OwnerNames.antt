@@ -1,25 +1,7 @@
 -- How names stand after what calls do to them.
-use Rattle.std.proofs.Common.{arith, ◌≡◌, ℕ, nat_eq, Bool, true, false, cond, Option, None, Some, is_some, ◌⊎◌, inl, inr, refl, sym, ap, ◌∙◌, subst}
-use Rattle.std.proofs.lemmas.Bool.{false_from_ne_true}
-use Rattle.std.proofs.lemmas.Bool.Decides.{nat_tests}
-use Rattle.std.proofs.lemmas.Cmp.{nat_eq_equiv}
-use Rattle.std.proofs.lemmas.Map.{lookup-set_value}
-use Rattle.channel_world_model.proofs.DirectoryLemmas.{set_absent, no_value}
-use Rattle.channel_world_model.proofs.WaiterLemmas.{decided}
+use Rattle.std.specs.Prelude.{◌≡◌, ◌⊎◌}
+use Rattle.channel_world_runs.proofs.Words.{arith, ℕ, nat_eq, Bool, true, false, cond, Option, None, Some, is_some, inl, inr, refl, sym, ap, ◌∙◌, subst, false_from_ne_true, nat_tests, nat_eq_equiv, lookup-set_value, set_absent, no_value, decided, lookup, set_value, option_map_or, Directory, at, borrowed_by, with_spent, with_changed, HandleId, OpId, Waiter, Op, Stream, with_operation, handed_over_by, operation_named, handle_named, NameStatus, retired, stream_status, status_by, operation_status, status, used_more, used_less, borrowed_more, handed_over, with_handle, with_lent, with_given_back, with_borrowed, HandleEntry, OperationEntry, NameTable}
 pub use Rattle.channel_world_model.proofs.WaiterLemmas.{same_number}
-use Rattle.std.specs.Map.{lookup, set_value}
-use Rattle.std.specs.Option.{option_map_or}
-use Rattle.channel_world_model.specs.Names.{Directory, at, borrowed_by, with_spent, with_changed}
-use Rattle.channel_world_model.specs.declared.name.HandleId.{HandleId}
-use Rattle.channel_world_model.specs.declared.name.OpId.{OpId}
-use Rattle.channel_world_model.specs.declared.name.Waiter.{Waiter}
-use Rattle.channel_world_model.specs.declared.name.Waiter.TheVariants.{Op, Stream}
-use Rattle.channel_world_runs.specs.Bookkeeping.{with_operation, handed_over_by, operation_named, handle_named}
-use Rattle.channel_world_runs.specs.Owners.{NameStatus, retired, stream_status, status_by, operation_status, status}
-use Rattle.channel_world_runs.specs.NameTable.{used_more, used_less, borrowed_more, handed_over, with_handle, with_lent, with_given_back, with_borrowed}
-use Rattle.channel_world_runs.specs.declared.names.HandleEntry.{HandleEntry}
-use Rattle.channel_world_runs.specs.declared.names.OperationEntry.{OperationEntry}
-use Rattle.channel_world_runs.specs.declared.name_table.NameTable.{NameTable}
 
 pub own_number : (a : ℕ) → nat_eq a a ≡ true
 own_number a = grind (arith, nat_tests)

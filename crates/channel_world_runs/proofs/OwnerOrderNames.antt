@@ -1,17 +1,6 @@
 -- Names in the order of waking: which have a place, which were woken, and that none was woken twice.
-use Rattle.std.proofs.Common.{◌≡◌, Bool, true, false, ◌||◌, if◌then◌else◌, List, [], ◌∷◌, ◌++◌, Option, None, Some, ◌⊎◌, inl, inr, refl, sym, ap, ◌∙◌, subst}
-use Rattle.event_listener.specs.declared.key.Key.{Key}
-use Rattle.channel_world_model.specs.Lines.{same_waiter, is_among, without_waiter}
-use Rattle.channel_world_model.specs.declared.name.Waiter.{Waiter}
-use Rattle.channel_world_model.specs.declared.name.Waiter.TheVariants.{Op, Stream}
-use Rattle.channel_world_model.proofs.Counting.{or_right}
-use Rattle.channel_world_model.proofs.WaiterLemmas.{decided, left_among, none_left, same_refl, same_sound, or_true}
-use Rattle.channel_world_runs.specs.NameTable.{is_name_pending}
-use Rattle.channel_world_runs.specs.Order.{WakeOrder, placed, without_place, all_woken, kept_place, order_settled}
-use Rattle.channel_world_runs.specs.Owners.{IsAmong, NoneTwice, subject}
-use Rattle.channel_world_runs.specs.declared.name_table.NameTable.{NameTable}
-use Rattle.channel_world_runs.specs.declared.names.OnReturn.{OnReturn}
-use Rattle.channel_world_runs.specs.declared.names.OnReturn.TheVariants as on_return
+use Rattle.std.specs.Prelude.{◌≡◌, ◌||◌, if◌then◌else◌, ◌∷◌, ◌++◌, ◌⊎◌}
+use Rattle.channel_world_runs.proofs.Words.{Bool, true, false, List, [], Option, None, Some, inl, inr, refl, sym, ap, ◌∙◌, subst, Key, same_waiter, is_among, without_waiter, Waiter, Op, Stream, or_right, decided, left_among, none_left, same_refl, same_sound, or_true, is_name_pending, WakeOrder, placed, without_place, all_woken, kept_place, order_settled, IsAmong, NoneTwice, subject, NameTable, OnReturn}
 use Rattle.channel_world_runs.proofs.OwnerLists.{among_left, among_right, among_of, none_more}
 use Rattle.channel_world_runs.proofs.OwnerNames.{waiter_or}
 
@@ -168,30 +157,30 @@ apart_from v w other same = other (ap (λ (x : Waiter). let o : Option Waiter = 
 module _ {T : Type 0} where
   pub settled_places : (e : OnReturn T) (key : Option Key) (v : Waiter) (o : WakeOrder) → (subject e ≡ Some v → ⊥) → IsAmong v o.places
       → IsAmong v (order_settled e key o).places
-  settled_places (on_return.Poll op) key v o other i = kept_places key (Op op) v o (apart_from v (Op op) other) i
-  settled_places (on_return.PollNext receiver) key v o other i = kept_places key (Stream receiver) v o (apart_from v (Stream receiver) other) i
+  settled_places (OnReturn.Poll op) key v o other i = kept_places key (Op op) v o (apart_from v (Op op) other) i
+  settled_places (OnReturn.PollNext receiver) key v o other i = kept_places key (Stream receiver) v o (apart_from v (Stream receiver) other) i
   settled_places e key v o other i = i
 
   -- with a listener left, each that has a place keeps it
   pub settled_keeps : (e : OnReturn T) (key : Key) (v : Waiter) (o : WakeOrder) → IsAmong v o.places → IsAmong v (order_settled e (Some key) o).places
-  settled_keeps (on_return.Poll op) key v o i = i
-  settled_keeps (on_return.PollNext receiver) key v o i = i
+  settled_keeps (OnReturn.Poll op) key v o i = i
+  settled_keeps (OnReturn.PollNext receiver) key v o i = i
   settled_keeps e key v o i = i
 
   pub settled_woken : (e : OnReturn T) (key : Option Key) (v : Waiter) (o : WakeOrder) → (subject e ≡ Some v → ⊥) → IsAmong v o.woken
       → IsAmong v (order_settled e key o).woken
-  settled_woken (on_return.Poll op) key v o other i = kept_woken key (Op op) v o (apart_from v (Op op) other) i
-  settled_woken (on_return.PollNext receiver) key v o other i = kept_woken key (Stream receiver) v o (apart_from v (Stream receiver) other) i
+  settled_woken (OnReturn.Poll op) key v o other i = kept_woken key (Op op) v o (apart_from v (Op op) other) i
+  settled_woken (OnReturn.PollNext receiver) key v o other i = kept_woken key (Stream receiver) v o (apart_from v (Stream receiver) other) i
   settled_woken e key v o other i = i
 
   pub settled_back : (e : OnReturn T) (key : Option Key) (v : Waiter) (o : WakeOrder) → IsAmong v (order_settled e key o).woken → IsAmong v o.woken
-  settled_back (on_return.Poll op) key v o i = kept_back key (Op op) v o i
-  settled_back (on_return.PollNext receiver) key v o i = kept_back key (Stream receiver) v o i
+  settled_back (OnReturn.Poll op) key v o i = kept_back key (Op op) v o i
+  settled_back (OnReturn.PollNext receiver) key v o i = kept_back key (Stream receiver) v o i
   settled_back e key v o i = i
 
   pub settled_once : (e : OnReturn T) (key : Option Key) (o : WakeOrder) → NoneTwice o.woken → NoneTwice (order_settled e key o).woken
-  settled_once (on_return.Poll op) key o h = kept_once key (Op op) o h
-  settled_once (on_return.PollNext receiver) key o h = kept_once key (Stream receiver) o h
+  settled_once (OnReturn.Poll op) key o h = kept_once key (Op op) o h
+  settled_once (OnReturn.PollNext receiver) key o h = kept_once key (Stream receiver) o h
   settled_once e key o h = h
 
 -- ---- as a call begins

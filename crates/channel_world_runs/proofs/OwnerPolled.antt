@@ -1,24 +1,8 @@
 -- Where a poll of a name is under way, a party at work works there. So where nobody is at work, nobody is polled.
-use Rattle.std.proofs.Common.{◌≡◌, List, [], ◌∷◌, ◌++◌, Option, None, Some, ◌⊎◌, inl, inr, refl, sym, ap, ◌∙◌, subst}
-use Rattle.channel_calls.specs.declared.mark.Mark.{Mark}
-use Rattle.channel_calls.specs.declared.reply.Reply.{Reply}
-use Rattle.channel_calls.specs.declared.stage.Returned.{Returned}
-use Rattle.channel_calls.specs.declared.stage.WaitList.{WaitList}
-use Rattle.channel_world_model.specs.declared.call.Call.{Call}
-use Rattle.channel_world_model.specs.declared.name.Waiter.{Waiter}
-use Rattle.channel_steps.specs.Configuration.{Configuration, Steps, AllKnown}
-use Rattle.channel_world_runs.specs.Bookkeeping.{names_begun, on_return_of, written_back}
+use Rattle.std.specs.Prelude.{◌≡◌, ◌∷◌, ◌++◌, ◌⊎◌}
+use Rattle.channel_world_runs.proofs.Lemmas.{List, [], Option, None, Some, inl, inr, refl, sym, ap, ◌∙◌, subst, Mark, Reply, Returned, WaitList, Call, Waiter, Configuration, Steps, AllKnown, names_begun, on_return_of, written_back, IsAmong, NameStatus, waits, polled, status, subject, Owned, first_name_table, NameState, name_state_begun, Agent, PartyId, Admitted, IsCalm, Comes, among_left, among_right, among_of, waiter_or}
 use Rattle.channel_world_runs.specs.OwnerPolled.{IsWorkedAt, PolledAtWork}
-use Rattle.channel_world_runs.specs.Owners.{IsAmong, NameStatus, waits, polled, status, subject, Owned}
-use Rattle.channel_world_runs.specs.NameTable.{first_name_table}
-use Rattle.channel_world_runs.specs.Run.{NameState, name_state_begun}
-use Rattle.channel_world_runs.specs.Calls.{Agent}
-use Rattle.channel_world_runs.specs.declared.step.PartyId.{PartyId}
-use Rattle.channel_world_runs.proofs.OwnerBegins.{Admitted}
 use Rattle.channel_world_runs.proofs.OwnerCalls.{BeginsSo, begins_so}
-use Rattle.channel_world_runs.proofs.OwnerEnds.{IsCalm, Comes}
-use Rattle.channel_world_runs.proofs.OwnerLists.{among_left, among_right, among_of}
-use Rattle.channel_world_runs.proofs.OwnerNames.{waiter_or}
 use Rattle.channel_world_runs.proofs.OwnerRuns.{IsAfter, ended_as, parts, set, inner}
 use Rattle.channel_world_runs.proofs.OwnerSteps.{first_calm}
 

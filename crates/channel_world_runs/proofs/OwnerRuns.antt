@@ -1,35 +1,8 @@
 -- Owners over steps.
-use Rattle.std.proofs.Common.{◌≡◌, ℕ, Bool, true, false, if◌then◌else◌, List, [], ◌∷◌, ◌++◌, map, slice_get, Option, None, Some, ◌⊎◌, inl, inr, refl, sym, ap, ◌∙◌, subst}
-use Rattle.std.specs.List.{remove}
-use Rattle.concurrent_queue.specs.Queue.{Phase}
-use Rattle.channel_calls.specs.Moves.{Channel, Effect}
-use Rattle.channel_calls.specs.declared.mark.Mark.{Mark}
-use Rattle.channel_calls.specs.declared.reply.Reply.{Reply}
-use Rattle.channel_calls.specs.declared.stage.ListenerRef.{ListenerRef}
-use Rattle.channel_calls.specs.declared.stage.Returned.{Returned}
-use Rattle.channel_calls.specs.declared.stage.WaitList.{WaitList}
-use Rattle.channel_calls.specs.declared.stage.Stage.{Stage}
-use Rattle.channel_calls.specs.declared.stage.Stage.TheVariants.{Trying, Working, Finished}
-use Rattle.channel_world_model.specs.declared.call.Call.{Call}
-use Rattle.channel_world_model.specs.declared.name.Waiter.{Waiter}
-use Rattle.channel_world_model.specs.declared.refusal.WorldRefusal.TheVariants.{Busy}
-use Rattle.event_listener.specs.declared.key.Key.{Key}
-use Rattle.channel_steps.specs.Configuration.{ActiveCall, Configuration, Steps, Known, AllKnown, sees, does, unless_ended}
-use Rattle.channel_world_runs.specs.Bookkeeping.{written_back}
-use Rattle.channel_world_runs.specs.Order.{all_woken, order_settled}
-use Rattle.channel_world_runs.specs.Owners.{All, AnyOf, NameStatus, invalid, waits, status, holding, task_at, wait_of, line_asked, Bears, subject, AgentFits, Together, Differ, AllDiffer, Holder, named, calling, HoldsIn, Owned}
-use Rattle.channel_world_runs.specs.Refusal.{begin_refusal, step_refusal}
-use Rattle.channel_world_runs.specs.NameTable.{is_at_work}
-use Rattle.channel_world_runs.specs.Run.{NameState, name_state_ended, with_woken}
-use Rattle.channel_world_runs.specs.Calls.{Agent}
-use Rattle.channel_world_runs.specs.declared.step.PartyId.{PartyId}
-use Rattle.channel_world_runs.specs.declared.step.Step.TheVariants as step
-use Rattle.channel_world_runs.proofs.AskStarts.{line_waits}
-use Rattle.channel_world_runs.proofs.OwnerBegins.{IsBusy}
-use Rattle.channel_world_runs.proofs.OwnerEnds.{IsCalm, IsLeft, Comes, Settles, settles, carries}
+use Rattle.std.specs.Prelude.{◌≡◌, if◌then◌else◌, ◌∷◌, ◌++◌, ◌⊎◌}
+use Rattle.channel_world_runs.proofs.Lemmas.{ℕ, Bool, true, false, List, [], map, slice_get, Option, None, Some, inl, inr, refl, sym, ap, ◌∙◌, subst, remove, Phase, Channel, Effect, Mark, Reply, ListenerRef, Returned, WaitList, Stage, Trying, Working, Finished, Call, Waiter, Busy, Key, ActiveCall, Configuration, Steps, Known, AllKnown, sees, does, unless_ended, written_back, all_woken, order_settled, All, AnyOf, NameStatus, invalid, waits, status, holding, task_at, wait_of, line_asked, Bears, subject, AgentFits, Together, Differ, AllDiffer, Holder, named, calling, HoldsIn, Owned, begin_refusal, step_refusal, is_at_work, NameState, name_state_ended, with_woken, Agent, PartyId, Step, line_waits, IsBusy, IsCalm, IsLeft, Comes, Settles, settles, carries, waiter_or}
 use Rattle.channel_world_runs.proofs.OwnerHolders.{Accounted, Passes, accounted}
 use Rattle.channel_world_runs.proofs.OwnerMoves.{LeavesIt, Turnout, turnout}
-use Rattle.channel_world_runs.proofs.OwnerNames.{waiter_or}
 use Rattle.channel_world_runs.proofs.OwnerSteps.{calm_waits, calm_amiss, busy_waits, calling_is, apart}
 use Rattle.channel_world_runs.proofs.OwnerTogether.{HasIt, any_left, any_right, any_of, has_seen, had_seen, busy, Keeps, together_on, together_sees, together_join, Parted, parted, Beside, beside, is_agent, other_party}
 
@@ -479,7 +452,7 @@ module _ {T : Type 0} where
       subst (λ (d : NameState T). Owned d t) (sym (ended_as b c s t q m y kp names o known st after))
       (ends_owned b s t q.0 m y kp names o known st)
 
-  pub idle_and_free : (q : PartyId) (c : Call T) (b : NameState T) → step_refusal b.name_table b.agents (step.Begin q c) ≡ None
+  pub idle_and_free : (q : PartyId) (c : Call T) (b : NameState T) → step_refusal b.name_table b.agents (Step.Begin q c) ≡ None
       → (is_at_work q.0 b.agents ≡ false) × (begin_refusal b.name_table c ≡ None)
   idle_and_free q c b h = by (is_at_work q.0 b.agents) refl h
     where

@@ -1,37 +1,9 @@
 -- What is said of owners stays so after every step.
-use Rattle.std.proofs.Common.{◌≡◌, ℕ, nat_eq, Bool, true, false, cond, ◌||◌, List, [], ◌∷◌, ◌++◌, Option, None, Some, ◌⊎◌, inl, inr, refl, sym, ap, ◌∙◌, subst}
-use Rattle.std.proofs.lemmas.Bool.Decides.{nat_tests}
-use Rattle.std.proofs.Common.{arith}
-use Rattle.channel_calls.specs.Moves.{Channel}
-use Rattle.channel_calls.specs.declared.ask.ChannelAsk.{ChannelAsk}
-use Rattle.channel_calls.specs.declared.stage.ListenerRef.{ListenerRef}
-use Rattle.channel_calls.specs.declared.stage.WaitList.{WaitList}
-use Rattle.channel_calls.specs.declared.stage.WaitList.TheVariants.{Sends, Receives, Streams, Closings}
-use Rattle.channel_world_model.specs.Asked.{keeper_in}
-use Rattle.channel_world_model.specs.declared.call.Call.{Call}
-use Rattle.channel_world_model.specs.declared.name.Waiter.{Waiter}
-use Rattle.channel_world_model.specs.declared.name.Waiter.TheVariants.{Op, Stream}
-use Rattle.channel_steps.specs.Run.{Begins, new_configuration, call_begun as begun_active_call}
-use Rattle.channel_steps.specs.Configuration.{ActiveCall, Configuration}
-use Rattle.channel_steps.specs.declared.party.Entry.{Entry as ChannelEntry}
-use Rattle.channel_world_runs.specs.AskedBy.{IsOrListens}
-use Rattle.channel_world_runs.specs.Bookkeeping.{asks, on_return_of, names_begun}
-use Rattle.channel_world_runs.specs.Order.{no_places, order_begun}
-use Rattle.channel_world_runs.specs.Owners.{All, AnyOf, NameStatus, retired, invalid, waits, polled, status_by, status, holding, wait_of, subject, Suits, Together, Differ, AllDiffer, IsListed, NoneListedTwice, Holder, named, calling, HoldsIn, Owned}
-use Rattle.channel_world_runs.specs.NameTable.{first_name_table, names_of, unused, is_at_work}
-use Rattle.channel_world_runs.specs.Run.{NameState, name_state_begun}
-use Rattle.channel_world_runs.specs.Calls.{Agent}
-use Rattle.channel_world_runs.specs.declared.names.OnReturn.{OnReturn}
-use Rattle.channel_world_runs.specs.declared.names.OnReturn.TheVariants as on_return
-use Rattle.channel_world_model.specs.declared.name.HandleKind.TheVariants as handle_kind
-use Rattle.channel_world_runs.specs.declared.step.PartyId.{PartyId}
-use Rattle.channel_world_runs.proofs.AskStarts.{line_held, ask_holds, holds_same, waits_same, Starts, starts}
-use Rattle.channel_world_runs.proofs.OwnerBegins.{IsBusy, IsLoose, held_in, Quiet, Touches, Admitted}
+use Rattle.std.specs.Prelude.{◌≡◌, ◌||◌, ◌∷◌, ◌++◌, ◌⊎◌}
+use Rattle.channel_world_runs.proofs.Lemmas.{ℕ, nat_eq, Bool, true, false, cond, List, [], Option, None, Some, inl, inr, refl, sym, ap, ◌∙◌, subst, nat_tests, arith, Channel, ChannelAsk, ListenerRef, WaitList, Sends, Receives, Streams, Closings, keeper_in, Call, Waiter, Op, Stream, Begins, new_configuration, begun_active_call, ActiveCall, Configuration, ChannelEntry, IsOrListens, asks, on_return_of, names_begun, no_places, order_begun, All, AnyOf, NameStatus, retired, invalid, waits, polled, status_by, status, holding, wait_of, subject, Suits, Together, Differ, AllDiffer, IsListed, NoneListedTwice, Holder, named, calling, HoldsIn, Owned, first_name_table, names_of, unused, is_at_work, NameState, name_state_begun, Agent, OnReturn, PartyId, HandleKind, line_held, ask_holds, holds_same, waits_same, Starts, starts, IsBusy, IsLoose, held_in, Quiet, Touches, Admitted, IsCalm, handle_entry_status, waiter_or}
 use Rattle.channel_world_runs.proofs.OwnerCalls.{BeginsSo, begins_so}
-use Rattle.channel_world_runs.proofs.OwnerEnds.{IsCalm}
 use Rattle.channel_world_runs.proofs.OwnerHolders.{Accounted, Passes, accounted}
 use Rattle.channel_world_runs.proofs.OwnerMoves.{still}
-use Rattle.channel_world_runs.proofs.OwnerNames.{handle_entry_status, waiter_or}
 use Rattle.channel_world_runs.proofs.OwnerTogether.{all_join, HasIt, any_left, any_right, any_of, busy, Keeps, together_on, together_join}
 
 -- ---- how names stand
@@ -72,7 +44,7 @@ first_calm T (Stream handle) = by (nat_eq handle.0 1) (nat_eq handle.0 0)
   where
     by : (a b : Bool)
         → IsCalm (status_by handle_entry_status
-        (cond a (Some (Some (unused handle_kind.Receiver))) (cond b (Some (Some (unused handle_kind.Sender))) None)))
+        (cond a (Some (Some (unused HandleKind.Receiver))) (cond b (Some (Some (unused HandleKind.Sender))) None)))
     by true b = tt
     by false true = tt
     by false false = tt
@@ -127,8 +99,7 @@ module _ {T : Type 0} where
       → ((v : Waiter) → IsBusy (p v) → p' v ≡ p v) → All (Keeps p p') agents
   all_keep p p' [] [] t f = tt
   all_keep p p' (a ∷ more) (u ∷ us) t f = (λ v e. f v (busy p a.on_return _ v t.0.suits e), all_keep p p' more us t.1 f)
-  all_keep p p' [] (u ∷ us) t f = absurd t
-  all_keep p p' (a ∷ more) [] t f = absurd t
+  all_keep p p' more us t f = absurd t
 
   abbrev Free : ℕ → List (Agent T) → Type 0
   Free q agents = is_at_work q agents ≡ false
@@ -144,8 +115,7 @@ module _ {T : Type 0} where
             (record { party = other_number b.party a.party n.0; name = λ v e h. g v (busy p b.on_return _ v t.0.suits e) h }, tt),
         all_differ p a more us t.1 n.1 g d.1,
       )
-  all_differ p a [] (u ∷ us) t f g d = absurd t
-  all_differ p a (b ∷ more) [] t f g d = absurd t
+  all_differ p a more us t f g d = absurd t
 
   not_his : (p : Waiter → NameStatus) (party : ℕ) (agents : List (Agent T)) (us : List (ActiveCall T Waiter)) (q : ℕ) (h : ListenerRef)
       → Together p agents us → Free party agents → AnyOf (HasIt q h) us → q ≡ party → ⊥
@@ -223,10 +193,10 @@ module _ {T : Type 0} where
       where
         plain_suits : (p : Waiter → NameStatus) (e : OnReturn T) (wait : Option (WaitList × Waiter)) → subject e ≡ None → wait ≡ None
             → Suits p e wait
-        plain_suits p (on_return.Poll op) wait f g = absurd (let no : Some (Op op) ≡ None = f in cc)
-        plain_suits p (on_return.PollNext receiver) wait f g = absurd (let no : Some (Stream receiver) ≡ None = f in cc)
-        plain_suits p (on_return.Make op operation) wait f g = absurd (let no : Some (Op op) ≡ None = f in cc)
-        plain_suits p (on_return.New from new kind) wait f g = absurd (let no : Some (Stream new) ≡ None = f in cc)
+        plain_suits p (OnReturn.Poll op) wait f g = absurd (let no : Some (Op op) ≡ None = f in cc)
+        plain_suits p (OnReturn.PollNext receiver) wait f g = absurd (let no : Some (Stream receiver) ≡ None = f in cc)
+        plain_suits p (OnReturn.Make op operation) wait f g = absurd (let no : Some (Op op) ≡ None = f in cc)
+        plain_suits p (OnReturn.New from new kind) wait f g = absurd (let no : Some (Stream new) ≡ None = f in cc)
         plain_suits p e wait f g = g
 
         nothing : (h : ListenerRef) → holding n.at ≡ Some h → ⊥

@@ -1,17 +1,6 @@
 -- Agents and the calls of the same parties, one by one.
-use Rattle.std.proofs.Common.{◌≡◌, ℕ, zero, suc, List, [], ◌∷◌, ◌++◌, map, slice_get, Option, None, Some, ◌⊎◌, inl, inr, refl, sym, ap, ◌∙◌, subst}
-use Rattle.std.specs.List.{remove}
-use Rattle.channel_calls.specs.Moves.{Channel}
-use Rattle.channel_calls.specs.declared.stage.ListenerRef.{ListenerRef}
-use Rattle.channel_calls.specs.declared.stage.WaitList.{WaitList}
-use Rattle.channel_world_model.specs.declared.name.Waiter.{Waiter}
-use Rattle.channel_world_model.specs.declared.name.Waiter.TheVariants.{Op, Stream}
-use Rattle.channel_steps.specs.Configuration.{ActiveCall, sees}
-use Rattle.channel_world_runs.specs.Owners.{All, AnyOf, NameStatus, holding, subject, Suits, AgentFits, Together, Differ, AllDiffer}
-use Rattle.channel_world_runs.specs.Calls.{Agent}
-use Rattle.channel_world_runs.specs.declared.names.OnReturn.{OnReturn}
-use Rattle.channel_world_runs.specs.declared.names.OnReturn.TheVariants as on_return
-use Rattle.channel_world_runs.proofs.OwnerBegins.{IsBusy}
+use Rattle.std.specs.Prelude.{◌≡◌, ◌∷◌, ◌++◌, ◌⊎◌}
+use Rattle.channel_world_runs.proofs.Lemmas.{ℕ, zero, suc, List, [], map, slice_get, Option, None, Some, inl, inr, refl, sym, ap, ◌∙◌, subst, remove, Channel, ListenerRef, WaitList, Waiter, Op, Stream, ActiveCall, sees, All, AnyOf, NameStatus, holding, subject, Suits, AgentFits, Together, Differ, AllDiffer, Agent, OnReturn, IsBusy}
 
 module _ {A : Type 0} (P : A → Type 0) where
   pub all_join : (xs ys : List A) → All P xs → All P ys → All P (xs ++ ys)
@@ -63,27 +52,27 @@ module _ {T : Type 0} where
   -- ---- one by one
 
   pub suits_on : (p p' : Waiter → NameStatus) (e : OnReturn T) (wait : Option (WaitList × Waiter)) → ((v : Waiter) → subject e ≡ Some v → p' v ≡ p v) → Suits p e wait → Suits p' e wait
-  suits_on p p' (on_return.Poll op) wait f h = (h.0, f (Op op) refl ∙ h.1, h.2)
-  suits_on p p' (on_return.PollNext receiver) wait f h = (h.0, f (Stream receiver) refl ∙ h.1, h.2)
-  suits_on p p' (on_return.Make op operation) wait f h = (f (Op op) refl ∙ h.0, h.1, h.2)
-  suits_on p p' (on_return.New from new kind) wait f h = (f (Stream new) refl ∙ h.0, h.1)
+  suits_on p p' (OnReturn.Poll op) wait f h = (h.0, f (Op op) refl ∙ h.1, h.2)
+  suits_on p p' (OnReturn.PollNext receiver) wait f h = (h.0, f (Stream receiver) refl ∙ h.1, h.2)
+  suits_on p p' (OnReturn.Make op operation) wait f h = (f (Op op) refl ∙ h.0, h.1, h.2)
+  suits_on p p' (OnReturn.New from new kind) wait f h = (f (Stream new) refl ∙ h.0, h.1)
   suits_on p p' x wait f h = h
 
   -- where an agent works, the name is busy
   pub busy : (p : Waiter → NameStatus) (e : OnReturn T) (wait : Option (WaitList × Waiter)) (v : Waiter) → Suits p e wait → subject e ≡ Some v → IsBusy (p v)
-  busy p (on_return.Poll op) wait v h e = by (ap (λ (o : Option Waiter). elim o [ None ↦ v | Some w ↦ w ]) e)
+  busy p (OnReturn.Poll op) wait v h e = by (ap (λ (o : Option Waiter). elim o [ None ↦ v | Some w ↦ w ]) e)
     where
       by : Op op ≡ v → IsBusy (p v)
       by same = subst (λ (w : Waiter). IsBusy (p w)) same (subst IsBusy (sym h.1) tt)
-  busy p (on_return.PollNext receiver) wait v h e = by (ap (λ (o : Option Waiter). elim o [ None ↦ v | Some w ↦ w ]) e)
+  busy p (OnReturn.PollNext receiver) wait v h e = by (ap (λ (o : Option Waiter). elim o [ None ↦ v | Some w ↦ w ]) e)
     where
       by : Stream receiver ≡ v → IsBusy (p v)
       by same = subst (λ (w : Waiter). IsBusy (p w)) same (subst IsBusy (sym h.1) tt)
-  busy p (on_return.Make op operation) wait v h e = by (ap (λ (o : Option Waiter). elim o [ None ↦ v | Some w ↦ w ]) e)
+  busy p (OnReturn.Make op operation) wait v h e = by (ap (λ (o : Option Waiter). elim o [ None ↦ v | Some w ↦ w ]) e)
     where
       by : Op op ≡ v → IsBusy (p v)
       by same = subst (λ (w : Waiter). IsBusy (p w)) same (subst IsBusy (sym h.0) tt)
-  busy p (on_return.New from new kind) wait v h e = by (ap (λ (o : Option Waiter). elim o [ None ↦ v | Some w ↦ w ]) e)
+  busy p (OnReturn.New from new kind) wait v h e = by (ap (λ (o : Option Waiter). elim o [ None ↦ v | Some w ↦ w ]) e)
     where
       by : Stream new ≡ v → IsBusy (p v)
       by same = subst (λ (w : Waiter). IsBusy (p w)) same (subst IsBusy (sym h.0) tt)
@@ -105,14 +94,12 @@ module _ {T : Type 0} where
   pub together_sees : (c : Channel T Waiter) (p : Waiter → NameStatus) (agents : List (Agent T)) (us : List (ActiveCall T Waiter)) → Together p agents us → Together p agents (map (sees c) us)
   together_sees c p [] [] h = tt
   together_sees c p (a ∷ more) (u ∷ us) h = (record { party = h.0.party; suits = h.0.suits; bears = h.0.bears; lines = h.0.lines }, together_sees c p more us h.1)
-  together_sees c p [] (u ∷ us) h = absurd h
-  together_sees c p (a ∷ more) [] h = absurd h
+  together_sees c p more us h = absurd h
 
   pub together_join : (p : Waiter → NameStatus) (front back : List (Agent T)) (us vs : List (ActiveCall T Waiter)) → Together p front us → Together p back vs → Together p (front ++ back) (us ++ vs)
   together_join p [] back [] vs h k = k
   together_join p (a ∷ front) back (u ∷ us) vs h k = (h.0, together_join p front back us vs h.1 k)
-  together_join p [] back (u ∷ us) vs h k = absurd h
-  together_join p (a ∷ front) back [] vs h k = absurd h
+  together_join p front back us vs h k = absurd h
 
   -- the agent of a call, with those before and behind
   pub record Parted (p : Waiter → NameStatus) (agents : List (Agent T)) (before : List (ActiveCall T Waiter)) (mine : ActiveCall T Waiter) (behind : List (ActiveCall T Waiter)) : Type 0 where
@@ -125,9 +112,7 @@ module _ {T : Type 0} where
     pub last : Together p back behind
 
   pub parted : (p : Waiter → NameStatus) (agents : List (Agent T)) (before : List (ActiveCall T Waiter)) (mine : ActiveCall T Waiter) (behind : List (ActiveCall T Waiter)) → Together p agents (before ++ mine ∷ behind) → Parted p agents before mine behind
-  parted p [] [] mine behind h = absurd h
   parted p (a ∷ more) [] mine behind h = record { front = []; agent = a; back = more; are = refl; first = tt; own = h.0; last = h.1 }
-  parted p [] (u ∷ before) mine behind h = absurd h
   parted p (a ∷ more) (u ∷ before) mine behind h =
       let rest = parted p more before mine behind h.1 in
       record {
@@ -139,6 +124,8 @@ module _ {T : Type 0} where
         own = rest.own;
         last = rest.last;
       }
+  parted p [] [] mine behind h = absurd h
+  parted p [] (u ∷ before) mine behind h = absurd h
 
   -- ---- no two alike
 

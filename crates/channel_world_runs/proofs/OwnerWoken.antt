@@ -1,50 +1,14 @@
 -- One that was woken is told, and one that wasn't waits: in a channel that was just opened, and after every step.
-use Rattle.std.proofs.Common.{◌≡◌, ℕ, true, false, List, [], ◌∷◌, ◌++◌, map, Option, None, Some, is_some, ◌⊎◌, inl, inr, refl, sym, ap, ◌∙◌, subst}
-use Rattle.std.specs.Map.{keys_of}
-use Rattle.event_listener.specs.declared.key.Key.{Key}
-use Rattle.channel_calls.specs.Moves.{Channel}
-use Rattle.channel_calls.specs.Parts.{listeners}
-use Rattle.channel_calls.specs.declared.ask.ChannelAsk.{ChannelAsk}
-use Rattle.channel_calls.specs.declared.mark.Mark.{Mark}
-use Rattle.channel_calls.specs.declared.reply.Reply.{Reply}
-use Rattle.channel_calls.specs.declared.stage.ListenerRef.{ListenerRef}
-use Rattle.channel_calls.specs.declared.stage.Returned.{Returned}
-use Rattle.channel_calls.specs.declared.stage.WaitList.{WaitList}
-use Rattle.channel_calls.specs.declared.stage.WaitList.TheVariants.{Sends}
-use Rattle.channel_world_model.specs.Asked.{keeper_in}
-use Rattle.channel_world_model.specs.declared.call.Call.{Call}
-use Rattle.channel_world_model.specs.declared.name.Waiter.{Waiter}
-use Rattle.channel_world_model.specs.declared.name.Waiter.TheVariants.{Op, Stream}
-use Rattle.channel_steps.specs.Run.{Begins, new_configuration, call_begun as begun_active_call}
-use Rattle.channel_steps.specs.Configuration.{ActiveCall, Configuration, Steps, AllKnown, sees, does}
-use Rattle.channel_steps.specs.declared.party.Entry.{Entry as ChannelEntry}
-use Rattle.channel_world_runs.specs.AskedBy.{IsOrListens}
-use Rattle.channel_world_runs.specs.Bookkeeping.{asks, on_return_of, names_begun, written_back}
-use Rattle.channel_world_runs.specs.NameTable.{first_name_table, names_of, held_of, is_name_pending}
-use Rattle.channel_world_runs.specs.Order.{WakeOrder, no_places, placed, without_place, all_woken, order_begun, order_settled}
-use Rattle.channel_world_runs.specs.Owners.{IsAmong, NoneTwice, All, AnyOf, NameStatus, free, retired, invalid, waits, polled, status, holding, task_at, wait_of, Bears, subject, Suits, Together, Differ, IsListed, WaitsToWake, named, calling, HoldsIn, Owned}
-use Rattle.channel_world_runs.specs.OwnerWoken.{IsAway, IsTold, IsMarked, NeedsPlace, NoneWorks, Works, IsOwn, WokenSound}
-use Rattle.channel_world_runs.specs.Run.{NameState, with_woken, name_state_begun}
-use Rattle.channel_world_runs.specs.Calls.{Agent}
-use Rattle.channel_world_runs.specs.declared.names.OnReturn.{OnReturn}
-use Rattle.channel_world_runs.specs.declared.names.OnReturn.TheVariants as on_return
-use Rattle.channel_world_runs.specs.declared.name_table.NameTable.{NameTable}
-use Rattle.channel_world_runs.specs.declared.step.PartyId.{PartyId}
-use Rattle.channel_world_runs.proofs.AskStarts.{holds_same, starts}
-use Rattle.channel_world_runs.proofs.OwnerBegins.{IsBusy, held_in, Ordered, Quiet, Touches, Admitted}
+use Rattle.std.specs.Prelude.{◌≡◌, ◌∷◌, ◌++◌, ◌⊎◌}
+use Rattle.channel_world_runs.proofs.Lemmas.{ℕ, true, false, List, [], map, Option, None, Some, is_some, inl, inr, refl, sym, ap, ◌∙◌, subst, keys_of, Key, Channel, listeners, ChannelAsk, Mark, Reply, ListenerRef, Returned, WaitList, Sends, keeper_in, Call, Waiter, Op, Stream, Begins, new_configuration, begun_active_call, ActiveCall, Configuration, Steps, AllKnown, sees, does, ChannelEntry, IsOrListens, asks, on_return_of, names_begun, written_back, first_name_table, names_of, held_of, is_name_pending, WakeOrder, no_places, placed, without_place, all_woken, order_begun, order_settled, IsAmong, NoneTwice, All, AnyOf, NameStatus, free, retired, invalid, waits, polled, status, holding, task_at, wait_of, Bears, subject, Suits, Together, Differ, IsListed, WaitsToWake, named, calling, HoldsIn, Owned, IsAway, IsTold, IsMarked, NeedsPlace, NoneWorks, IsOwn, WokenSound, NameState, with_woken, name_state_begun, Agent, OnReturn, NameTable, PartyId, holds_same, starts, IsBusy, held_in, Ordered, Quiet, Touches, Admitted, IsCalm, Comes, IsGone, among_left, among_right, among_of, waiter_or, is_out, all_placed, all_stay, all_come, all_there, all_once, settled_places, settled_keeps, settled_woken, settled_back, settled_once, BeginsOrder, begins_same, begins_placed, begins_removed, Pends, holds_it, pends}
+use Rattle.channel_world_runs.specs.OwnerWoken.{Works}
 use Rattle.channel_world_runs.proofs.OwnerCalls.{BeginsSo, begins_so}
-use Rattle.channel_world_runs.proofs.OwnerEnds.{IsCalm, Comes}
-use Rattle.channel_world_runs.proofs.OwnerKeys.{IsGone}
-use Rattle.channel_world_runs.proofs.OwnerLists.{among_left, among_right, among_of}
 use Rattle.channel_world_runs.proofs.OwnerMoves.{LeavesIt, Turnout}
-use Rattle.channel_world_runs.proofs.OwnerNames.{waiter_or}
-use Rattle.channel_world_runs.proofs.OwnerOrderNames.{is_out, all_placed, all_stay, all_come, all_there, all_once, settled_places, settled_keeps, settled_woken, settled_back, settled_once, Begins as BeginsOrder, begins_same, begins_placed, begins_removed}
 use Rattle.channel_world_runs.proofs.OwnerRuns.{parts, sides, out, was_mine, now_after, forth_calling, inner, subject_or, waits_is, busy_own, set, leaves, back_calling, end_name_state, IsAfter, ended_as}
 use Rattle.channel_world_runs.proofs.OwnerSteps.{calm_waits, busy_waits, busy_loose, first_calm, calling_is, apart}
 use Rattle.channel_world_runs.proofs.OwnerTogether.{HasIt, any_left, any_right, all_join, all_left, all_right, busy, Parted}
 use Rattle.channel_world_runs.proofs.OwnerWokenLists.{key_of_entry}
 use Rattle.channel_world_runs.proofs.OwnerWokenMoves.{Follows, follows}
-use Rattle.channel_world_runs.proofs.rest.Names.{Pends, holds_it, pends}
 
 -- ---- names
 
@@ -141,18 +105,18 @@ module _ {T : Type 0} where
 
   suits_name : (p : Waiter → NameStatus) (e : OnReturn T) (line : WaitList) (v : Waiter) (wait : Option (WaitList × Waiter)) → Suits p e wait
       → wait ≡ Some (line, v) → subject e ≡ Some v
-  suits_name p (on_return.Poll op) line v wait s w = by s.2
+  suits_name p (OnReturn.Poll op) line v wait s w = by s.2
     where
       by : (wait ≡ None) ⊎ (wait ≡ Some (s.0, Op op)) → Some (Op op) ≡ Some v
       by (inl none) = absurd (let no : None ≡ Some (line, v) = sym none ∙ w in cc)
       by (inr some) = ap (λ (o : Option (WaitList × Waiter)). elim o [ None ↦ Some v | Some x ↦ Some x.1 ]) (sym some ∙ w)
-  suits_name p (on_return.PollNext receiver) line v wait s w = by s.2
+  suits_name p (OnReturn.PollNext receiver) line v wait s w = by s.2
     where
       by : (wait ≡ None) ⊎ (wait ≡ Some (s.0, Stream receiver)) → Some (Stream receiver) ≡ Some v
       by (inl none) = absurd (let no : None ≡ Some (line, v) = sym none ∙ w in cc)
       by (inr some) = ap (λ (o : Option (WaitList × Waiter)). elim o [ None ↦ Some v | Some x ↦ Some x.1 ]) (sym some ∙ w)
-  suits_name p (on_return.Make op operation) line v wait s w = absurd (let no : None ≡ Some (line, v) = sym s.2 ∙ w in cc)
-  suits_name p (on_return.New from new kind) line v wait s w = absurd (let no : None ≡ Some (line, v) = sym s.1 ∙ w in cc)
+  suits_name p (OnReturn.Make op operation) line v wait s w = absurd (let no : None ≡ Some (line, v) = sym s.2 ∙ w in cc)
+  suits_name p (OnReturn.New from new kind) line v wait s w = absurd (let no : None ≡ Some (line, v) = sym s.1 ∙ w in cc)
   suits_name p z line v wait s w = absurd (let no : None ≡ Some (line, v) = sym s ∙ w in cc)
 
   listed_of : (h : ListenerRef) (w : Waiter) (c : Channel T Waiter) → WaitsToWake h w c → IsListed h c
@@ -162,11 +126,11 @@ module _ {T : Type 0} where
   -- what waits is polled
   suits_polled : (p : Waiter → NameStatus) (e : OnReturn T) (wait : Option (WaitList × Waiter)) (line : WaitList) (task v : Waiter)
       → Suits p e wait → wait ≡ Some (line, task) → subject e ≡ Some v → (l : WaitList) × (p v ≡ polled l)
-  suits_polled p (on_return.Poll op) wait line task v s w e = (s.0, ap p (sym (inner (Op op) v e)) ∙ s.1)
-  suits_polled p (on_return.PollNext receiver) wait line task v s w e = (s.0, ap p (sym (inner (Stream receiver) v e)) ∙ s.1)
-  suits_polled p (on_return.Make op operation) wait line task v s w e =
+  suits_polled p (OnReturn.Poll op) wait line task v s w e = (s.0, ap p (sym (inner (Op op) v e)) ∙ s.1)
+  suits_polled p (OnReturn.PollNext receiver) wait line task v s w e = (s.0, ap p (sym (inner (Stream receiver) v e)) ∙ s.1)
+  suits_polled p (OnReturn.Make op operation) wait line task v s w e =
       absurd (let no : None ≡ Some (line, task) = sym s.2 ∙ w in cc)
-  suits_polled p (on_return.New from new kind) wait line task v s w e =
+  suits_polled p (OnReturn.New from new kind) wait line task v s w e =
       absurd (let no : None ≡ Some (line, task) = sym s.1 ∙ w in cc)
   suits_polled p z wait line task v s w e = absurd (let no : None ≡ Some v = e in cc)
 

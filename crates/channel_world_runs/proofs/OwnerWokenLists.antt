@@ -1,14 +1,6 @@
 -- Who is told on a list, and whom its listeners wake, after what a step does there.
-use Rattle.std.proofs.Common.{◌≡◌, ◌≤◌, ℕ, zero, suc, Bool, true, false, cond, if◌then◌else◌, List, [], ◌∷◌, ◌++◌, length, take, drop, Option, None, Some, is_some, ◌⊎◌, inl, inr, refl, sym, ap, ◌∙◌, subst, arith}
-use Rattle.std.specs.Map.{remove_entry, set_value, keys_of}
-use Rattle.event_listener.specs.Lists.{Notice, same_key, tasks_of, told_as, waits_as, told_with, without, with_task, moved, passed, passed_wakes, listened, registration, removed, removed_wakes}
-use Rattle.event_listener.specs.declared.key.Key.{Key}
-use Rattle.channel_calls.specs.Parts.{Listeners, told_one, told_one_wakes, told_more, told_more_wakes, told_all, told_all_wakes}
-use Rattle.channel_calls.specs.declared.stage.ListenerRef.{ListenerRef}
-use Rattle.channel_calls.specs.declared.stage.WaitList.{WaitList}
-use Rattle.channel_world_runs.specs.Owners.{IsAmong}
-use Rattle.channel_world_runs.proofs.OwnerKeys.{on, few, one_tag, units, same_many, at_most_one, removed_as, removed_names}
-use Rattle.channel_world_runs.proofs.OwnerLists.{same_is, key_stays, among_of}
+use Rattle.std.specs.Prelude.{◌≡◌, ◌≤◌, if◌then◌else◌, ◌∷◌, ◌++◌, ◌⊎◌}
+use Rattle.channel_world_runs.proofs.Lemmas.{ℕ, zero, suc, Bool, true, false, cond, List, [], length, take, drop, Option, None, Some, is_some, inl, inr, refl, sym, ap, ◌∙◌, subst, arith, remove_entry, set_value, keys_of, Notice, same_key, tasks_of, told_as, waits_as, told_with, unlisted as without, with_task, moved, passed, passed_wakes, listened, registration, removed, removed_wakes, Key, Listeners, told_one, told_one_wakes, told_more, told_more_wakes, told_all, told_all_wakes, ListenerRef, WaitList, IsAmong, on, few, one_tag, units, same_many, at_most_one, removed_as, removed_names, same_is, key_stays, among_of}
 
 module _ {A : Type 0} where
   pub among_take : (n : ℕ) (x : A) (xs : List A) → IsAmong x (take n xs) → IsAmong x xs

@@ -1,28 +1,6 @@
 -- Who is told, and whom listeners wake, after a step of a call.
-use Rattle.std.proofs.Common.{◌≡◌, ℕ, ◌+◌, ◌-◌, Bool, true, false, if◌then◌else◌, List, [], Option, None, Some, ◌⊎◌, inl, inr, refl, sym, subst}
-use Rattle.std.specs.Map.{keys_of}
-use Rattle.concurrent_queue.specs.Queue.{Phase}
-use Rattle.event_listener.specs.Lists.{listened, registration, removed, removed_wakes}
-use Rattle.event_listener.specs.declared.key.Key.{Key}
-use Rattle.channel_calls.specs.Marks.{up, down}
-use Rattle.channel_calls.specs.Moves.{Channel, Effect, queued, untouched, on_line, on_count, leaves, Inserts, Worked, Moves}
-use Rattle.channel_calls.specs.Parts.{WaitLists, Listeners, listeners, with_listeners, count, is_raised, told_one, told_one_wakes, told_more, told_more_wakes, told_all, told_all_wakes}
-use Rattle.channel_calls.specs.Turns.{line_of}
-use Rattle.channel_calls.specs.declared.mark.Mark.{Mark}
-use Rattle.channel_calls.specs.declared.reply.Reply.{Reply}
-use Rattle.channel_calls.specs.declared.stage.ListenerRef.{ListenerRef}
-use Rattle.channel_calls.specs.declared.stage.WaitList.{WaitList}
-use Rattle.channel_calls.specs.declared.stage.WaitList.TheVariants.{Sends, Receives, Streams, Closings}
-use Rattle.channel_calls.specs.declared.stage.Side.{Side}
-use Rattle.channel_calls.specs.declared.stage.Side.TheVariants.{Senders, Receivers}
-use Rattle.channel_calls.specs.declared.stage.Stage.{Stage}
-use Rattle.channel_calls.specs.declared.stage.Stage.TheVariants.{Trying, Working, Finished}
-use Rattle.channel_calls.specs.declared.stage.Waiting.{Waiting}
-use Rattle.channel_calls.specs.declared.stage.ListStep.{ListStep}
-use Rattle.channel_calls.specs.declared.stage.ListStep.TheVariants.{TellReceive, TellStreams, TellSend, TellSends, TellAll, Insert, Register, Leave, Lower, Raise}
-use Rattle.channel_world_runs.specs.Owners.{IsAmong, holding, task_at, WaitsToWake}
-use Rattle.channel_world_runs.specs.OwnerWoken.{IsTold}
-use Rattle.channel_world_runs.proofs.OwnerKeys.{on}
+use Rattle.std.specs.Prelude.{◌≡◌, ◌+◌, ◌-◌, if◌then◌else◌, ◌⊎◌}
+use Rattle.channel_world_runs.proofs.Lemmas.{ℕ, Bool, true, false, List, [], Option, None, Some, inl, inr, refl, sym, subst, keys_of, Phase, listened, registration, removed, removed_wakes, Key, up, down, Channel, Effect, queued, untouched, on_line, on_count, leaves, Inserts, Worked, Moves, WaitLists, Listeners, listeners, with_listeners, count, is_raised, told_one, told_one_wakes, told_more, told_more_wakes, told_all, told_all_wakes, line_of, Mark, Reply, ListenerRef, WaitList, Sends, Receives, Streams, Closings, Side, Senders, Receivers, Stage, Trying, Working, Finished, WaitingStep as Waiting, ListStep, TellReceive, TellStreams, TellSend, TellSends, TellAll, Insert, Register, Leave, Lower, Raise, IsAmong, holding, task_at, WaitsToWake, IsTold, on}
 use Rattle.channel_world_runs.proofs.OwnerMoves.{counted_list}
 use Rattle.channel_world_runs.proofs.OwnerWokenLists.{Tells, passes, more_pass, all_pass, leaves_list, comes_in, registers_on}
 

@@ -1,42 +1,7 @@
 -- Messages that a call made alone brings in, and the positions that are left.
-use Rattle.std.proofs.Common.{arith, ◌≡◌, ℕ, ◌+◌, ◌≤◌, Bool, true, false, if◌then◌else◌, List, [], ◌∷◌, length, slice_get, is_some, Option, None, Some, Ok, Err, inl, inr, ◌⊎◌, refl, sym, ap, ◌∙◌, subst}
-use Rattle.std.specs.Option.{option_map, option_map_or}
-use Rattle.futures.specs.declared.task.Poll.TheVariants as poll
-use Rattle.concurrent_queue.specs.Queue.{Queue, is_filled}
-use Rattle.event_listener.specs.declared.key.Key.{Key}
-use Rattle.channel_steps.specs.solo.Alone.{Outcome, Alone, AsksListener, PollsSend, Where, over_queue, with_appended, replaced, answers, ends, of_message, WaitsOrGoesOn, ListensOrIsRefused}
-use Rattle.channel_steps.specs.solo.Configurations.{LoneRun, steps_by}
-use Rattle.channel_calls.specs.Answered.{over}
-use Rattle.channel_calls.specs.Moves.{Channel, tells_one, tells_all, registers}
-use Rattle.channel_calls.specs.Parts.{listeners, waits}
-use Rattle.channel_calls.specs.Turns.{says, leaving, line_of, message_of, pending_reply}
-use Rattle.channel_calls.specs.declared.ask.ChannelAsk.{ChannelAsk}
-use Rattle.channel_calls.specs.declared.ask.ChannelAsk.TheVariants as channel
-use Rattle.channel_calls.specs.declared.error.Refused.TheVariants as refused
-use Rattle.channel_calls.specs.declared.error.TrySendError.TheVariants as try_send_error
-use Rattle.channel_calls.specs.declared.reply.Reply.{Reply}
-use Rattle.channel_calls.specs.declared.reply.Reply.TheVariants as reply
-use Rattle.channel_calls.specs.declared.stage.Ending.{Ending}
-use Rattle.channel_calls.specs.declared.stage.WaitList.TheVariants.{Sends, Receives, Streams}
-use Rattle.channel_calls.specs.declared.stage.Waiting.{Waiting}
-use Rattle.channel_calls.specs.declared.stage.Waiting.TheVariants as waiting
-use Rattle.channel_world_model.specs.Asked.{poll_asked}
-use Rattle.channel_world_model.specs.Names.{at, own_message}
-use Rattle.channel_world_model.specs.declared.call.Call.{Call}
-use Rattle.channel_world_model.specs.declared.call.Call.TheVariants as call
-use Rattle.channel_world_model.specs.declared.name.OpId.{OpId}
-use Rattle.channel_world_model.specs.declared.name.Operation.{Operation}
-use Rattle.channel_world_model.specs.declared.name.Operation.TheVariants as live
-use Rattle.channel_world_model.specs.declared.name.Waiter.{Waiter}
-use Rattle.channel_world_model.specs.declared.name.Waiter.TheVariants.{Op, Stream}
-use Rattle.channel_steps.specs.Run.{EachStep, NextConfiguration, end_of}
-use Rattle.channel_steps.specs.Configuration.{Configuration, brought}
-use Rattle.channel_steps.specs.declared.party.Entry.{Entry}
-use Rattle.channel_world_runs.specs.Bookkeeping.{asks}
-use Rattle.channel_world_runs.specs.Positions.{brings, came_in, accepted_by, yet_in}
-use Rattle.channel_world_runs.specs.NameTable.{held_of, names_of}
-use Rattle.channel_world_runs.specs.declared.names.OperationEntry.{OperationEntry}
-use Rattle.channel_world_runs.specs.declared.name_table.NameTable.{NameTable}
+use Rattle.std.specs.Prelude.{◌≡◌, ◌+◌, ◌≤◌, if◌then◌else◌, ◌∷◌, ◌⊎◌}
+use Rattle.channel_world_runs.proofs.Words.{arith, ℕ, Bool, true, false, List, [], length, slice_get, is_some, Option, None, Some, Ok, Err, inl, inr, refl, sym, ap, ◌∙◌, subst, option_map, option_map_or, Queue, is_filled, Key, Outcome, Alone, AsksListener, PollsSend, Where, over_queue, with_appended, replaced, answers, ends, of_message, WaitsOrGoesOn, ListensOrIsRefused, LoneRun, steps_by, over, Channel, tells_one, tells_all, registers, listeners, says, leaving, line_of, message_of, pending_reply, ChannelAsk, Reply, Ending, Sends, Receives, Streams, WaitingStep as Waiting, poll_asked, at, own_message, Call, OpId, Operation, Waiter, Op, Stream, EachStep, NextConfiguration, end_of, Configuration, brought, ChannelEntry as Entry, asks, brings, came_in, accepted_by, yet_in, held_of, names_of, OperationEntry, NameTable, Poll, Refused, TrySendError}
+use Rattle.channel_calls.specs.Parts.{waits}
 use Rattle.channel_world_runs.proofs.AskFacts.{of_refused, of_given_up, of_dropped, of_cloned, of_upgraded}
 use Rattle.channel_world_runs.proofs.PositionFacts.{left_queue, step_brings, begin_brings}
 use Rattle.channel_world_runs.proofs.RefusalLemmas as refusals
@@ -48,7 +13,7 @@ module _ {T : Type 0} where
   BringsNone a = length (brought a) ≡ 0
 
   none_polled : (key : Option Key) (op : OpId) (x : Operation T) → is_some (own_message x) ≡ false → length (brought (poll_asked key op (Some x))) ≡ 0
-  none_polled key op (live.Send h (Some m)) e = absurd (let no : true ≡ false = e in cc)
+  none_polled key op (Operation.Send h (Some m)) e = absurd (let no : true ≡ false = e in cc)
   none_polled key op x e = refl
 
   by_entry : (key : Option Key) (op : OpId) (o : Option (OperationEntry T))
@@ -59,20 +24,20 @@ module _ {T : Type 0} where
 
   -- no call brings more than one
   pub brought_most : (a : ChannelAsk T Waiter) → length (brought a) ≤ 1
-  brought_most (channel.PollSend m key task) = omega arith
+  brought_most (ChannelAsk.PollSend m key task) = omega arith
   brought_most a = omega arith
 
   pub no_message : (r : NameTable T) (c : Call T) → brings r c ≡ false → length (brought (asks r c)) ≡ 0
-  no_message r (call.TrySend sender m) e = absurd (let no : true ≡ false = e in cc)
-  no_message r (call.ForceSend sender m) e = absurd (let no : true ≡ false = e in cc)
-  no_message r (call.Poll op) e =
+  no_message r (Call.TrySend sender m) e = absurd (let no : true ≡ false = e in cc)
+  no_message r (Call.ForceSend sender m) e = absurd (let no : true ≡ false = e in cc)
+  no_message r (Call.Poll op) e =
       ap (λ (o : Option (Operation T)). length (brought (poll_asked (held_of r (Op op)) op o))) (refusals.operation_at r op.0)
       ∙ by_entry (held_of r (Op op)) op (at op.0 r.operations) e
-  no_message r (call.PollRefused op) e = of_refused BringsNone refl (λ line m key. refl) (held_of r (Op op)) (at op.0 (names_of r).operations)
-  no_message r (call.GiveUp op) e = of_given_up BringsNone refl (λ line m key. refl) (held_of r (Op op)) (at op.0 (names_of r).operations)
-  no_message r (call.Drop handle) e = of_dropped BringsNone refl refl (λ key. refl) refl (held_of r (Stream handle)) (at handle.0 (names_of r).handles)
-  no_message r (call.TryClone handle new) e = of_cloned BringsNone refl (λ side. refl) (at handle.0 (names_of r).handles)
-  no_message r (call.Upgrade weak new) e = of_upgraded BringsNone refl (λ side. refl) (at weak.0 (names_of r).handles)
+  no_message r (Call.PollRefused op) e = of_refused BringsNone refl (λ line m key. refl) (held_of r (Op op)) (at op.0 (names_of r).operations)
+  no_message r (Call.GiveUp op) e = of_given_up BringsNone refl (λ line m key. refl) (held_of r (Op op)) (at op.0 (names_of r).operations)
+  no_message r (Call.Drop handle) e = of_dropped BringsNone refl refl (λ key. refl) refl (held_of r (Stream handle)) (at handle.0 (names_of r).handles)
+  no_message r (Call.TryClone handle new) e = of_cloned BringsNone refl (λ side. refl) (at handle.0 (names_of r).handles)
+  no_message r (Call.Upgrade weak new) e = of_upgraded BringsNone refl (λ side. refl) (at weak.0 (names_of r).handles)
   no_message r c e = refl
 
   -- ---- what a call made alone brings in, its reply says
@@ -96,22 +61,22 @@ module _ {T : Type 0} where
       omega (arith, same, more, one))
 
   sends_by : (b f : Bool) (m : T) (c : Channel T Waiter) (o : Outcome T Waiter)
-      → o ≡ (if b then ends [] (says (reply.TrySend (Err (refused.Plain (try_send_error.Closed m))))) c
-      else (if f then ends [] (says (reply.TrySend (Err (refused.Plain (try_send_error.Full m))))) c
-      else ends of_message (says (reply.TrySend (Ok tt))) (over_queue (with_appended m) c)))
+      → o ≡ (if b then ends [] (says (Reply.TrySend (Err (Refused.Plain (TrySendError.Closed m))))) c
+      else (if f then ends [] (says (Reply.TrySend (Err (Refused.Plain (TrySendError.Full m))))) c
+      else ends of_message (says (Reply.TrySend (Ok tt))) (over_queue (with_appended m) c)))
       → Accepts c o
-  sends_by true f m c o e = kept_out (says (reply.TrySend (Err (refused.Plain (try_send_error.Closed m))))) c o e
-  sends_by false true m c o e = kept_out (says (reply.TrySend (Err (refused.Plain (try_send_error.Full m))))) c o e
-  sends_by false false m c o e = let_in (says (reply.TrySend (Ok tt))) c (over_queue (with_appended m) c) o e refl refl
+  sends_by true f m c o e = kept_out (says (Reply.TrySend (Err (Refused.Plain (TrySendError.Closed m))))) c o e
+  sends_by false true m c o e = kept_out (says (Reply.TrySend (Err (Refused.Plain (TrySendError.Full m))))) c o e
+  sends_by false false m c o e = let_in (says (Reply.TrySend (Ok tt))) c (over_queue (with_appended m) c) o e refl refl
 
   forces_by : (b f : Bool) (m : T) (c : Channel T Waiter) (o : Outcome T Waiter)
-      → o ≡ (if b then ends [] (says (reply.ForceSend (Err (refused.Plain (record { 0 = m }))))) c
-      else (if f then ends of_message (says (reply.ForceSend (Ok (slice_get c.queue.items 0)))) (over_queue (replaced m) c)
-      else ends of_message (says (reply.ForceSend (Ok None))) (over_queue (with_appended m) c)))
+      → o ≡ (if b then ends [] (says (Reply.ForceSend (Err (Refused.Plain (record { 0 = m }))))) c
+      else (if f then ends of_message (says (Reply.ForceSend (Ok (slice_get c.queue.items 0)))) (over_queue (replaced m) c)
+      else ends of_message (says (Reply.ForceSend (Ok None))) (over_queue (with_appended m) c)))
       → Accepts c o
-  forces_by true f m c o e = kept_out (says (reply.ForceSend (Err (refused.Plain (record { 0 = m }))))) c o e
-  forces_by false true m c o e = let_in (says (reply.ForceSend (Ok (slice_get c.queue.items 0)))) c (over_queue (replaced m) c) o e refl refl
-  forces_by false false m c o e = let_in (says (reply.ForceSend (Ok None))) c (over_queue (with_appended m) c) o e refl refl
+  forces_by true f m c o e = kept_out (says (Reply.ForceSend (Err (Refused.Plain (record { 0 = m }))))) c o e
+  forces_by false true m c o e = let_in (says (Reply.ForceSend (Ok (slice_get c.queue.items 0)))) c (over_queue (replaced m) c) o e refl refl
+  forces_by false false m c o e = let_in (says (Reply.ForceSend (Ok None))) c (over_queue (with_appended m) c) o e refl refl
 
   -- a poll that waits brings none
   listens_out : (w : Waiting T) (task : Waiter) (c : Channel T Waiter) (o : Outcome T Waiter) → ListensOrIsRefused w task c o → Accepts c o
@@ -130,17 +95,17 @@ module _ {T : Type 0} where
   waits_out w (Some key) task c o h = registers_out (waits key (listeners (line_of w) c.wait_lists)) w key task c o h
 
   polls_by : (b f : Bool) (m : T) (key : Option Key) (task : Waiter) (c : Channel T Waiter) (o : Outcome T Waiter)
-      → Where b (o ≡ ends [] (over (reply.SendPoll (poll.Ready (Err (refused.Plain (record { 0 = m }))))) None Sends key) c)
-      (Where f (WaitsOrGoesOn (waiting.Send m) key task c o)
-      (o ≡ ends of_message (over (reply.SendPoll (poll.Ready (Ok tt))) None Sends key) (over_queue (with_appended m) c)))
+      → Where b (o ≡ ends [] (over (Reply.SendPoll (Poll.Ready (Err (Refused.Plain (record { 0 = m }))))) None Sends key) c)
+      (Where f (WaitsOrGoesOn (Waiting.Send m) key task c o)
+      (o ≡ ends of_message (over (Reply.SendPoll (Poll.Ready (Ok tt))) None Sends key) (over_queue (with_appended m) c)))
       → Accepts c o
   polls_by true f m key task c o e =
-      kept_out (over (reply.SendPoll (poll.Ready (Err (refused.Plain (record { 0 = m }))))) None Sends key) c o e
-  polls_by false true m key task c o h = waits_out (waiting.Send m) key task c o h
-  polls_by false false m key task c o e = let_in (over (reply.SendPoll (poll.Ready (Ok tt))) None Sends key) c (over_queue (with_appended m) c) o e refl refl
+      kept_out (over (Reply.SendPoll (Poll.Ready (Err (Refused.Plain (record { 0 = m }))))) None Sends key) c o e
+  polls_by false true m key task c o h = waits_out (Waiting.Send m) key task c o h
+  polls_by false false m key task c o e = let_in (over (Reply.SendPoll (Poll.Ready (Ok tt))) None Sends key) c (over_queue (with_appended m) c) o e refl refl
 
   tries_out : (m : T) (key : Option Key) (task : Waiter) (c : Channel T Waiter) (o : Outcome T Waiter) → PollsSend m key task c o → Accepts c o
-  tries_out m key task c o (inl h) = kept_out (over (reply.SendPoll (poll.Ready (Err (refused.NoMemory tt)))) (Some m) Sends key) c o h.2
+  tries_out m key task c o (inl h) = kept_out (over (Reply.SendPoll (Poll.Ready (Err (Refused.NoMemory tt)))) (Some m) Sends key) c o h.2
   tries_out m key task c o (inr h) = polls_by c.queue.closed (is_filled c.queue) m key task c o h
 
   asks_out : (b : Bool) (m : T) (key : Key) (task : Waiter) (c : Channel T Waiter) (o : Outcome T Waiter)
@@ -150,18 +115,18 @@ module _ {T : Type 0} where
   asks_out false m key task c o h = tries_out m None task (registers Sends key task c).channel o h
 
   poll_out : (b : Bool) (m : T) (key : Option Key) (task : Waiter) (c : Channel T Waiter) (o : Outcome T Waiter)
-      → Where b (AsksListener (waiting.Send m) key task c o (λ (d : Channel T Waiter). PollsSend m None task d o)) (PollsSend m key task c o) → Accepts c o
+      → Where b (AsksListener (Waiting.Send m) key task c o (λ (d : Channel T Waiter). PollsSend m None task d o)) (PollsSend m key task c o) → Accepts c o
   poll_out false m key task c o h = tries_out m key task c o h
   poll_out true m None task c o h = tries_out m None task c o h
   poll_out true m (Some key) task c o h = asks_out (waits key (listeners Sends c.wait_lists)) m key task c o h
 
   alone_accepts : (a : ChannelAsk T Waiter) (c : Channel T Waiter) (o : Outcome T Waiter) → Alone a c o
       → (length (brought a) ≡ 0) ⊎ Accepts c o
-  alone_accepts (channel.TrySend m) c o (inl h) = inr (kept_out (says (reply.TrySend (Err (refused.NoMemory m)))) c o h.2)
-  alone_accepts (channel.TrySend m) c o (inr h) = inr (sends_by c.queue.closed (is_filled c.queue) m c o h)
-  alone_accepts (channel.ForceSend m) c o (inl h) = inr (kept_out (says (reply.ForceSend (Err (refused.NoMemory m)))) c o h.2)
-  alone_accepts (channel.ForceSend m) c o (inr h) = inr (forces_by c.queue.closed (is_filled c.queue) m c o h)
-  alone_accepts (channel.PollSend m l task) c o h = inr (poll_out l.asks_first m l.key task c o h)
+  alone_accepts (ChannelAsk.TrySend m) c o (inl h) = inr (kept_out (says (Reply.TrySend (Err (Refused.NoMemory m)))) c o h.2)
+  alone_accepts (ChannelAsk.TrySend m) c o (inr h) = inr (sends_by c.queue.closed (is_filled c.queue) m c o h)
+  alone_accepts (ChannelAsk.ForceSend m) c o (inl h) = inr (kept_out (says (Reply.ForceSend (Err (Refused.NoMemory m)))) c o h.2)
+  alone_accepts (ChannelAsk.ForceSend m) c o (inr h) = inr (forces_by c.queue.closed (is_filled c.queue) m c o h)
+  alone_accepts (ChannelAsk.PollSend m l task) c o h = inr (poll_out l.asks_first m l.key task c o h)
   alone_accepts a c o h = inl refl
 
   -- ---- its steps bring in no more than it has
@@ -178,8 +143,7 @@ module _ {T : Type 0} where
       let fewer = b.fewer in
       let rest = steps_bring n p es ns h.1 in
       omega (arith, one, fewer, rest)
-  steps_bring s p [] (n ∷ ns) h = absurd h
-  steps_bring s p (e ∷ es) [] h = absurd h
+  steps_bring s p es ns h = absurd h
 
   lone_brings : (s : Configuration T Waiter) (p : ℕ) (a : ChannelAsk T Waiter) (o : Outcome T Waiter) (t : Configuration T Waiter) → LoneRun s p a o t
       → all_in t ≤ all_in s + length (brought a)
@@ -191,9 +155,9 @@ module _ {T : Type 0} where
       omega (arith, same, more, goes, end)
 
   pub came_most : (x : Reply T) → came_in x ≤ 1
-  came_most (reply.TrySend (Ok u)) = omega arith
-  came_most (reply.ForceSend (Ok d)) = omega arith
-  came_most (reply.SendPoll (poll.Ready (Ok u))) = omega arith
+  came_most (Reply.TrySend (Ok u)) = omega arith
+  came_most (Reply.ForceSend (Ok d)) = omega arith
+  came_most (Reply.SendPoll (Poll.Ready (Ok u))) = omega arith
   came_most x = omega arith
 
   -- ---- the count of the accepted

@@ -1,23 +1,7 @@
 -- A poll made alone puts those that it wakes after the names that it was given.
-use Rattle.std.proofs.Common.{arith, ◌≡◌, ◌+◌, ◌≤◌, ℕ, Bool, List, ◌++◌, length, drop, sym, ap, ◌∙◌, subst, vec_len, vec_capacity}
-use Rattle.std.specs.Global.{Vec}
-use Rattle.channel_calls.specs.declared.ask.ChannelAsk.{ChannelAsk}
-use Rattle.channel_steps.specs.solo.Alone.{Alone}
-use Rattle.channel_world_model.specs.declared.call.Call.{Call}
-use Rattle.channel_world_model.specs.declared.name.Waiter.{Waiter}
-use Rattle.channel_world_model.specs.declared.run.Done.{Done}
-use Rattle.channel_steps.specs.Configuration.{Represents}
-use Rattle.channel_world_runs.specs.Bookkeeping.{asks}
-use Rattle.channel_world_runs.specs.WorldState.{parts_in, Stands, IsQuiet}
-use Rattle.channel_world_runs.specs.Lone.{FinishesAlone, WakesAtMost}
-use Rattle.channel_world_runs.specs.Order.{WakeOrder}
-use Rattle.channel_world_runs.specs.declared.beginning.Begun.{Begun}
-use Rattle.channel_world_runs.specs.declared.name_table.NameTable.{NameTable}
-use Rattle.channel_world_runs.specs.declared.world_state.WorldState.{WorldState}
-use Rattle.channel_world_runs.specs.declared.woken.Woken.{Woken as Sink}
+use Rattle.std.specs.Prelude.{◌≡◌, ◌+◌, ◌≤◌, ◌++◌}
+use Rattle.channel_world_runs.proofs.Lemmas.{arith, ℕ, Bool, List, length, drop, sym, ap, ◌∙◌, subst, vec_len, vec_capacity, Vec, ChannelAsk, Alone, Call, Waiter, Answered as Done, Represents, asks, parts_in, Stands, IsQuiet, FinishesAlone, WakesAtMost, WakeOrder, Begun, NameTable, WorldState, Sink, has_position, all_heard, room_stays, drop_front}
 use Rattle.channel_world_runs.proofs.LoneFacts.{no_parties}
-use Rattle.channel_world_runs.proofs.ShownFacts.{has_position}
-use Rattle.channel_world_runs.proofs.WokenFacts.{all_heard, room_stays, drop_front}
 
 -- what was heard stands behind the names before
 pub record Heard (before after : Vec Waiter) : Type 0 where

@@ -1,54 +1,11 @@
 -- Messages that come in, and those that calls under way may yet bring, over steps, over beginnings and over a call made alone.
-use Rattle.channel_calls.specs.Several.{Gathered, with_last}
-use Rattle.channel_calls.specs.declared.error.TryRecvError.{TryRecvError}
-use Rattle.channel_calls.specs.declared.error.TryRecvError.TheVariants as try_recv_error
-use Rattle.std.proofs.Common.{zero, suc, arith, ◌≡◌, ℕ, ◌+◌, ◌≤◌, ◌==◌, nat_lt, Bool, true, false, if◌then◌else◌, List, [], ◌∷◌, ◌++◌, map, length, Option, None, Some, Ok, Err, inl, inr, ◌⊎◌, refl, sym, ap, ◌∙◌, subst}
-use Rattle.concurrent_queue.specs.Queue.{Queue, Phase, trying, displaced, appended, taken, read, measured, ContinuesBy, AnswersTo, Continues, Answers, after}
+use Rattle.std.specs.Prelude.{◌≡◌, ◌+◌, ◌≤◌, ◌==◌, if◌then◌else◌, ◌∷◌, ◌++◌, ◌⊎◌}
+use Rattle.channel_world_runs.proofs.Words.{Gathered, with_last, TryRecvError, zero, suc, arith, ℕ, nat_lt, Bool, true, false, List, [], map, length, Option, None, Some, Ok, Err, inl, inr, refl, sym, ap, ◌∙◌, subst, Queue, Phase, trying, displaced, appended, taken, read, measured, ContinuesBy, AnswersTo, Continues, after, QueueAsk, QueueMark, TakeDisplaced, QueueReply, Key, sent_next, forced_next, received_next, gathered_next, short_next, several_next, send_next, receive_next, stream_next, closing_next, polled_next, closed_next, asked_next, terminated_next, upgraded_next, answered_next, asks_listener, mark_of_queue, up, Channel, Effect, untouched, on_count, tells_one, tells_more, tells_all, listens, registers, leaves, lowers, raises, Turned, Worked, Moves, listeners, count, is_raised, most, leaving, nothing_kept, line_of, closer_ending, dropper, ends_by, again, refused_next, pends_by, unlistened, told_all_next, room_next, roomless, lowered_next, counted_next, loaded_next, raised_next, ChannelAsk, Reply, Purpose, Closer, Ending, ListenerRef, WaitList, Sends, Receives, Streams, Closings, Making, Side, Senders, Receivers, Stage, Trying, Working, Finished, NextStep, Tries, Works, Ends, WaitingStep as Waiting, ListStep, TellReceive, TellStreams, TellSend, TellSends, TakeRoom, TellAll, Insert, Register, Leave, Lower, Count, Load, Raise, brought_in, Begins, call_begun, ActiveCall, Configuration, Steps, sees, does, unless_ended, brought, ChannelEntry as Entry, yet_tried, yet_worked, yet, yet_in, PushError, ForcePushError, PopError}
+use Rattle.concurrent_queue.specs.Queue.{Answers}
 use Rattle.concurrent_queue.specs.Queue as queue
-use Rattle.concurrent_queue.specs.declared.call.QueueAsk.{QueueAsk}
-use Rattle.concurrent_queue.specs.declared.call.QueueAsk.TheVariants as ask
-use Rattle.concurrent_queue.specs.declared.call.QueueMark.{QueueMark}
-use Rattle.concurrent_queue.specs.declared.call.QueueMark.TheVariants.{Nothing, Append, Take, TakeDisplaced, Replace, Close}
-use Rattle.concurrent_queue.specs.declared.call.QueueReply.{QueueReply}
-use Rattle.concurrent_queue.specs.declared.call.QueueReply.TheVariants as answer
-use Rattle.concurrent_queue.specs.declared.error.PushError.TheVariants as push_error
-use Rattle.concurrent_queue.specs.declared.error.ForcePushError.TheVariants as force_error
-use Rattle.concurrent_queue.specs.declared.error.PopError.TheVariants as pop_error
-use Rattle.event_listener.specs.declared.key.Key.{Key}
-use Rattle.channel_calls.specs.Answered.{sent_next, forced_next, received_next, gathered_next, short_next, several_next, send_next, receive_next, stream_next, closing_next, polled_next, closed_next, asked_next, terminated_next, upgraded_next, answered_next}
-use Rattle.channel_calls.specs.Asks.{asks_listener, first}
-use Rattle.channel_calls.specs.Marks.{mark_of_queue, up}
-use Rattle.channel_calls.specs.Moves.{Channel, Effect, untouched, on_count, tells_one, tells_more, tells_all, listens, registers, leaves, lowers, raises, Turned, Worked, Moves}
-use Rattle.channel_calls.specs.Parts.{listeners, count, is_raised, waits}
-use Rattle.channel_calls.specs.Turns.{most, leaving, nothing_kept, line_of, closer_ending, dropper, ends_by, again, refused_next, pends_by, unlistened, told_all_next, room_next, roomless, lowered_next, counted_next, loaded_next, raised_next}
-use Rattle.channel_calls.specs.declared.ask.ChannelAsk.{ChannelAsk}
-use Rattle.channel_calls.specs.declared.ask.ChannelAsk.TheVariants as channel
-use Rattle.channel_calls.specs.declared.reply.Reply.{Reply}
-use Rattle.channel_calls.specs.declared.reply.Reply.TheVariants as reply
-use Rattle.channel_calls.specs.declared.stage.Purpose.{Purpose}
-use Rattle.channel_calls.specs.declared.stage.Purpose.TheVariants as purpose
-use Rattle.channel_calls.specs.declared.stage.Closer.{Closer}
-use Rattle.channel_calls.specs.declared.stage.Ending.{Ending}
-use Rattle.channel_calls.specs.declared.stage.ListenerRef.{ListenerRef}
-use Rattle.channel_calls.specs.declared.stage.WaitList.{WaitList}
-use Rattle.channel_calls.specs.declared.stage.WaitList.TheVariants.{Sends, Receives, Streams, Closings}
-use Rattle.channel_calls.specs.declared.stage.Making.{Making}
-use Rattle.channel_calls.specs.declared.stage.Making.TheVariants as making
-use Rattle.channel_calls.specs.declared.stage.Side.{Side}
-use Rattle.channel_calls.specs.declared.stage.Side.TheVariants.{Senders, Receivers}
-use Rattle.channel_calls.specs.declared.stage.Stage.{Stage}
-use Rattle.channel_calls.specs.declared.stage.Stage.TheVariants.{Trying, Working, Finished}
-use Rattle.channel_calls.specs.declared.stage.NextStep.{NextStep}
-use Rattle.channel_calls.specs.declared.stage.NextStep.TheVariants.{Tries, Works, Ends}
-use Rattle.channel_calls.specs.declared.stage.Waiting.{Waiting}
-use Rattle.channel_calls.specs.declared.stage.Waiting.TheVariants as waiting
-use Rattle.channel_calls.specs.declared.stage.ListStep.{ListStep}
-use Rattle.channel_calls.specs.declared.stage.ListStep.TheVariants.{TellReceive, TellStreams, TellSend, TellSends, TakeRoom, TellAll, Insert, Register, Leave, Lower, Count, Load, Raise}
-use Rattle.channel_steps.specs.Count.{brought_in}
-use Rattle.channel_steps.specs.Run.{Begins, call_begun}
-use Rattle.channel_steps.specs.Configuration.{ActiveCall, Configuration, Steps, sees, does, unless_ended, brought}
-use Rattle.channel_steps.specs.declared.party.Entry.{Entry}
-use Rattle.channel_world_runs.specs.Positions.{yet_tried, yet_worked, yet, yet_in}
+use Rattle.concurrent_queue.specs.declared.call.QueueMark.TheVariants.{Nothing, Append, Take, Replace, Close}
+use Rattle.channel_calls.specs.Asks.{first}
+use Rattle.channel_calls.specs.Parts.{waits}
 
 module _ {T : Type 0} where
   -- ---- the queue's calls
@@ -56,62 +13,62 @@ module _ {T : Type 0} where
   -- a try goes on: what it brings in, it brings no more
   tried_on : (q : Queue T) (a : QueueAsk T) (m : QueueMark) (s t : queue.Stage T) → ContinuesBy q a m s t
       → brought_in (mark_of_queue m) + yet_tried a t ≤ yet_tried a s
-  tried_on q (ask.Push v) Nothing (trying b) t g = let e = ap (λ (z : queue.Stage T). yet_tried (ask.Push v) z) g in omega (arith, e)
-  tried_on q (ask.Push v) Nothing (appended None) t g = let e = ap (λ (z : queue.Stage T). yet_tried (ask.Push v) z) g in omega (arith, e)
-  tried_on q (ask.Push v) Append (trying b) t g = let e = ap (λ (z : queue.Stage T). yet_tried (ask.Push v) z) g.2 in omega (arith, e)
-  tried_on q (ask.ForcePush v) Nothing (trying b) t g = let e = ap (λ (z : queue.Stage T). yet_tried (ask.ForcePush v) z) g in omega (arith, e)
-  tried_on q (ask.ForcePush v) Nothing (displaced d) t g = let e = ap (λ (z : queue.Stage T). yet_tried (ask.ForcePush v) z) g in omega (arith, e)
-  tried_on q (ask.ForcePush v) Nothing (appended o) t g = let e = ap (λ (z : queue.Stage T). yet_tried (ask.ForcePush v) z) g in omega (arith, e)
-  tried_on q (ask.ForcePush v) Append (trying b) t g = let e = ap (λ (z : queue.Stage T). yet_tried (ask.ForcePush v) z) g.2 in omega (arith, e)
-  tried_on q (ask.ForcePush v) Append (displaced d) t g = let e = ap (λ (z : queue.Stage T). yet_tried (ask.ForcePush v) z) g.2 in omega (arith, e)
-  tried_on q (ask.ForcePush v) Replace (trying b) t g = let e = ap (λ (z : queue.Stage T). yet_tried (ask.ForcePush v) z) g.5 in omega (arith, e)
-  tried_on q (ask.ForcePush v) TakeDisplaced (trying b) t g = let e = ap (λ (z : queue.Stage T). yet_tried (ask.ForcePush v) z) g.5 in omega (arith, e)
-  tried_on q ask.Pop Nothing (trying b) t g = omega arith
-  tried_on q ask.Pop Nothing (taken v) t g = omega arith
-  tried_on q ask.Pop Take (trying b) t g = omega arith
-  tried_on q ask.IsEmpty Nothing (trying b) t g = omega arith
-  tried_on q ask.IsFull Nothing (trying b) t g = omega arith
-  tried_on q ask.Len Nothing (trying b) t g = omega arith
-  tried_on q ask.Len Nothing (read n) t g = omega arith
-  tried_on q ask.Len Nothing (measured n k) t g = omega arith
+  tried_on q (QueueAsk.Push v) Nothing (trying b) t g = let e = ap (λ (z : queue.Stage T). yet_tried (QueueAsk.Push v) z) g in omega (arith, e)
+  tried_on q (QueueAsk.Push v) Nothing (appended None) t g = let e = ap (λ (z : queue.Stage T). yet_tried (QueueAsk.Push v) z) g in omega (arith, e)
+  tried_on q (QueueAsk.Push v) Append (trying b) t g = let e = ap (λ (z : queue.Stage T). yet_tried (QueueAsk.Push v) z) g.2 in omega (arith, e)
+  tried_on q (QueueAsk.ForcePush v) Nothing (trying b) t g = let e = ap (λ (z : queue.Stage T). yet_tried (QueueAsk.ForcePush v) z) g in omega (arith, e)
+  tried_on q (QueueAsk.ForcePush v) Nothing (displaced d) t g = let e = ap (λ (z : queue.Stage T). yet_tried (QueueAsk.ForcePush v) z) g in omega (arith, e)
+  tried_on q (QueueAsk.ForcePush v) Nothing (appended o) t g = let e = ap (λ (z : queue.Stage T). yet_tried (QueueAsk.ForcePush v) z) g in omega (arith, e)
+  tried_on q (QueueAsk.ForcePush v) Append (trying b) t g = let e = ap (λ (z : queue.Stage T). yet_tried (QueueAsk.ForcePush v) z) g.2 in omega (arith, e)
+  tried_on q (QueueAsk.ForcePush v) Append (displaced d) t g = let e = ap (λ (z : queue.Stage T). yet_tried (QueueAsk.ForcePush v) z) g.2 in omega (arith, e)
+  tried_on q (QueueAsk.ForcePush v) Replace (trying b) t g = let e = ap (λ (z : queue.Stage T). yet_tried (QueueAsk.ForcePush v) z) g.5 in omega (arith, e)
+  tried_on q (QueueAsk.ForcePush v) TakeDisplaced (trying b) t g = let e = ap (λ (z : queue.Stage T). yet_tried (QueueAsk.ForcePush v) z) g.5 in omega (arith, e)
+  tried_on q QueueAsk.Pop Nothing (trying b) t g = omega arith
+  tried_on q QueueAsk.Pop Nothing (taken v) t g = omega arith
+  tried_on q QueueAsk.Pop Take (trying b) t g = omega arith
+  tried_on q QueueAsk.IsEmpty Nothing (trying b) t g = omega arith
+  tried_on q QueueAsk.IsFull Nothing (trying b) t g = omega arith
+  tried_on q QueueAsk.Len Nothing (trying b) t g = omega arith
+  tried_on q QueueAsk.Len Nothing (read n) t g = omega arith
+  tried_on q QueueAsk.Len Nothing (measured n k) t g = omega arith
   tried_on q a m s t g = absurd g
 
   -- a try that found no place for its message may bring it yet
   abbrev was_full : QueueReply T → ℕ
-  was_full (answer.Push (Err (push_error.Full v))) = 1
+  was_full (QueueReply.Push (Err (PushError.Full v))) = 1
   was_full r = 0
 
   -- one that ends brings nothing in
   tried_out : (q : Queue T) (a : QueueAsk T) (m : QueueMark) (r : QueueReply T) (s : queue.Stage T) → AnswersTo q a m r s
       → brought_in (mark_of_queue m) + was_full r ≤ yet_tried a s
-  tried_out q (ask.Push v) Nothing (answer.Push (Ok u)) (appended None) g = omega arith
-  tried_out q (ask.Push v) Nothing (answer.Push (Err (push_error.Full w))) (trying b) g = omega arith
-  tried_out q (ask.Push v) Nothing (answer.Push (Err (push_error.Closed w))) (trying b) g = omega arith
-  tried_out q (ask.Push v) Nothing (answer.Push (Err (push_error.NoMemory w))) (trying b) g = omega arith
-  tried_out q (ask.ForcePush v) Nothing (answer.Force (Ok d)) (appended o) g = omega arith
-  tried_out q (ask.ForcePush v) Nothing (answer.Force (Err (force_error.Closed w))) (trying b) g = omega arith
-  tried_out q (ask.ForcePush v) Nothing (answer.Force (Err (force_error.NoMemory w))) (trying b) g = omega arith
-  tried_out q ask.Pop Nothing (answer.Pop (Ok w)) (taken v) g = omega arith
-  tried_out q ask.Pop Nothing (answer.Pop (Err pop_error.Empty)) (trying b) g = omega arith
-  tried_out q ask.Pop Nothing (answer.Pop (Err pop_error.Closed)) (trying b) g = omega arith
-  tried_out q ask.Close Close (answer.Close true) (trying b) g = omega arith
-  tried_out q ask.Close Nothing (answer.Close false) (trying b) g = omega arith
-  tried_out q ask.IsClosed Nothing (answer.Flag c) (trying b) g = omega arith
-  tried_out q ask.IsEmpty Nothing (answer.Flag c) (trying b) g = omega arith
-  tried_out q ask.IsEmpty Nothing (answer.Flag true) (read n) g = omega arith
-  tried_out q ask.IsEmpty Nothing (answer.Flag false) (read n) g = omega arith
-  tried_out q ask.IsFull Nothing (answer.Flag c) (trying b) g = omega arith
-  tried_out q ask.IsFull Nothing (answer.Flag true) (read n) g = omega arith
-  tried_out q ask.IsFull Nothing (answer.Flag false) (read n) g = omega arith
-  tried_out q ask.Len Nothing (answer.Count n) (trying b) g = omega arith
-  tried_out q ask.Len Nothing (answer.Count n) (measured m k) g = omega arith
-  tried_out q ask.Capacity Nothing (answer.Cap n) (trying b) g = omega arith
+  tried_out q (QueueAsk.Push v) Nothing (QueueReply.Push (Ok u)) (appended None) g = omega arith
+  tried_out q (QueueAsk.Push v) Nothing (QueueReply.Push (Err (PushError.Full w))) (trying b) g = omega arith
+  tried_out q (QueueAsk.Push v) Nothing (QueueReply.Push (Err (PushError.Closed w))) (trying b) g = omega arith
+  tried_out q (QueueAsk.Push v) Nothing (QueueReply.Push (Err (PushError.NoMemory w))) (trying b) g = omega arith
+  tried_out q (QueueAsk.ForcePush v) Nothing (QueueReply.Force (Ok d)) (appended o) g = omega arith
+  tried_out q (QueueAsk.ForcePush v) Nothing (QueueReply.Force (Err (ForcePushError.Closed w))) (trying b) g = omega arith
+  tried_out q (QueueAsk.ForcePush v) Nothing (QueueReply.Force (Err (ForcePushError.NoMemory w))) (trying b) g = omega arith
+  tried_out q QueueAsk.Pop Nothing (QueueReply.Pop (Ok w)) (taken v) g = omega arith
+  tried_out q QueueAsk.Pop Nothing (QueueReply.Pop (Err PopError.Empty)) (trying b) g = omega arith
+  tried_out q QueueAsk.Pop Nothing (QueueReply.Pop (Err PopError.Closed)) (trying b) g = omega arith
+  tried_out q QueueAsk.Close Close (QueueReply.Close true) (trying b) g = omega arith
+  tried_out q QueueAsk.Close Nothing (QueueReply.Close false) (trying b) g = omega arith
+  tried_out q QueueAsk.IsClosed Nothing (QueueReply.Flag c) (trying b) g = omega arith
+  tried_out q QueueAsk.IsEmpty Nothing (QueueReply.Flag c) (trying b) g = omega arith
+  tried_out q QueueAsk.IsEmpty Nothing (QueueReply.Flag true) (read n) g = omega arith
+  tried_out q QueueAsk.IsEmpty Nothing (QueueReply.Flag false) (read n) g = omega arith
+  tried_out q QueueAsk.IsFull Nothing (QueueReply.Flag c) (trying b) g = omega arith
+  tried_out q QueueAsk.IsFull Nothing (QueueReply.Flag true) (read n) g = omega arith
+  tried_out q QueueAsk.IsFull Nothing (QueueReply.Flag false) (read n) g = omega arith
+  tried_out q QueueAsk.Len Nothing (QueueReply.Count n) (trying b) g = omega arith
+  tried_out q QueueAsk.Len Nothing (QueueReply.Count n) (measured m k) g = omega arith
+  tried_out q QueueAsk.Capacity Nothing (QueueReply.Cap n) (trying b) g = omega arith
   tried_out q a m r s g = absurd g
 
   most_tried : (a : QueueAsk T) (s : queue.Stage T) → yet_tried a s ≤ 1
-  most_tried (ask.Push v) (trying b) = omega arith
-  most_tried (ask.ForcePush v) (trying b) = omega arith
-  most_tried (ask.ForcePush v) (displaced d) = omega arith
+  most_tried (QueueAsk.Push v) (trying b) = omega arith
+  most_tried (QueueAsk.ForcePush v) (trying b) = omega arith
+  most_tried (QueueAsk.ForcePush v) (displaced d) = omega arith
   most_tried a s = omega arith
 
   -- so many more are accepted as a mark brings in
@@ -131,7 +88,7 @@ module _ {T W : Type 0} where
   turned_yet (Tries a y) r s h = ap (λ (z : Stage (Phase T) T W). yet z) h.1
   turned_yet x r s h = ap (λ (z : Stage (Phase T) T W). yet z) h.1
 
-  refused_yet : (m : T) (key : Option Key) (task : W) → yet_after (refused_next (waiting.Send m) key task) ≡ 1
+  refused_yet : (m : T) (key : Option Key) (task : W) → yet_after (refused_next (Waiting.Send m) key task) ≡ 1
   refused_yet m None task = refl
   refused_yet m (Some key) task = refl
 
@@ -140,24 +97,24 @@ module _ {T W : Type 0} where
   FewYet turn r = yet_after turn ≤ was_full r
 
   send_yet : (r : QueueReply T) (key : Option Key) (task : W) → FewYet (send_next r key task) r
-  send_yet (answer.Push (Err (push_error.Full m))) key task = let e = refused_yet m key task in omega (arith, e)
-  send_yet (answer.Push (Err (push_error.Closed m))) None task = omega arith
-  send_yet (answer.Push (Err (push_error.NoMemory m))) None task = omega arith
+  send_yet (QueueReply.Push (Err (PushError.Full m))) key task = let e = refused_yet m key task in omega (arith, e)
+  send_yet (QueueReply.Push (Err (PushError.Closed m))) None task = omega arith
+  send_yet (QueueReply.Push (Err (PushError.NoMemory m))) None task = omega arith
   send_yet r key task = omega arith
 
   receive_yet : (r : QueueReply T) (key : Option Key) (task : W) → FewYet (receive_next r key task) r
-  receive_yet (answer.Pop (Err pop_error.Empty)) None task = omega arith
-  receive_yet (answer.Pop (Err pop_error.Closed)) None task = omega arith
+  receive_yet (QueueReply.Pop (Err PopError.Empty)) None task = omega arith
+  receive_yet (QueueReply.Pop (Err PopError.Closed)) None task = omega arith
   receive_yet r key task = omega arith
 
   stream_yet : (r : QueueReply T) (key : Option Key) (task : W) → FewYet (stream_next r key task) r
-  stream_yet (answer.Pop (Err pop_error.Empty)) None task = omega arith
-  stream_yet (answer.Pop (Err pop_error.Closed)) None task = omega arith
+  stream_yet (QueueReply.Pop (Err PopError.Empty)) None task = omega arith
+  stream_yet (QueueReply.Pop (Err PopError.Closed)) None task = omega arith
   stream_yet r key task = omega arith
 
   closing_yet : (r : QueueReply T) (key : Option Key) (task : W) → FewYet (closing_next r key task) r
-  closing_yet (answer.Flag true) None task = omega arith
-  closing_yet (answer.Flag false) None task = omega arith
+  closing_yet (QueueReply.Flag true) None task = omega arith
+  closing_yet (QueueReply.Flag false) None task = omega arith
   closing_yet r key task = omega arith
 
   polled_yet : (line : WaitList) (r : QueueReply T) (key : Option Key) (task : W) → FewYet (polled_next line r key task) r
@@ -176,18 +133,18 @@ module _ {T : Type 0} (W : Type 0) where
   ended_yet e = held_yet e e.held
 
   sent_yet : (r : QueueReply T) → FewYet (let t : NextStep T W = sent_next r in t) r
-  sent_yet (answer.Push (Ok u)) = omega arith
-  sent_yet (answer.Push (Err (push_error.Full m))) = omega arith
+  sent_yet (QueueReply.Push (Ok u)) = omega arith
+  sent_yet (QueueReply.Push (Err (PushError.Full m))) = omega arith
   sent_yet r = omega arith
 
   forced_yet : (r : QueueReply T) → FewYet (let t : NextStep T W = forced_next r in t) r
-  forced_yet (answer.Force (Ok d)) = omega arith
-  forced_yet (answer.Force (Err (force_error.Closed m))) = omega arith
+  forced_yet (QueueReply.Force (Ok d)) = omega arith
+  forced_yet (QueueReply.Force (Err (ForcePushError.Closed m))) = omega arith
   forced_yet r = omega arith
 
   received_yet : (r : QueueReply T) → FewYet (let t : NextStep T W = received_next r in t) r
-  received_yet (answer.Pop (Ok m)) = omega arith
-  received_yet (answer.Pop (Err pop_error.Empty)) = omega arith
+  received_yet (QueueReply.Pop (Ok m)) = omega arith
+  received_yet (QueueReply.Pop (Err PopError.Empty)) = omega arith
   received_yet r = omega arith
 
   gathered_yet : (vs : List T) (n : ℕ) → yet_after (let t : NextStep T W = gathered_next (with_last vs n) in t) ≡ 0
@@ -199,25 +156,25 @@ module _ {T : Type 0} (W : Type 0) where
   short_yet (v ∷ vs) e = refl
 
   several_yet : (r : QueueReply T) (g : Gathered T) → FewYet (let t : NextStep T W = several_next r g in t) r
-  several_yet (answer.Pop (Ok m)) g = let none = gathered_yet (g.taken ++ m ∷ []) g.more in omega (arith, none)
-  several_yet (answer.Pop (Err pop_error.Empty)) g = let none = short_yet g.taken try_recv_error.Empty in omega (arith, none)
-  several_yet (answer.Pop (Err pop_error.Closed)) g = let none = short_yet g.taken try_recv_error.Closed in omega (arith, none)
+  several_yet (QueueReply.Pop (Ok m)) g = let none = gathered_yet (g.taken ++ m ∷ []) g.more in omega (arith, none)
+  several_yet (QueueReply.Pop (Err PopError.Empty)) g = let none = short_yet g.taken TryRecvError.Empty in omega (arith, none)
+  several_yet (QueueReply.Pop (Err PopError.Closed)) g = let none = short_yet g.taken TryRecvError.Closed in omega (arith, none)
   several_yet r g = omega arith
 
   closed_yet : (r : QueueReply T) (c : Closer) → FewYet (let t : NextStep T W = closed_next r c in t) r
-  closed_yet (answer.Close false) c = let none : yet_after (let t : NextStep T W = ends_by (closer_ending c false) in t) ≡ 0 = ended_yet (closer_ending c false) in omega (arith, none)
+  closed_yet (QueueReply.Close false) c = let none : yet_after (let t : NextStep T W = ends_by (closer_ending c false) in t) ≡ 0 = ended_yet (closer_ending c false) in omega (arith, none)
   closed_yet r c = omega arith
 
   asked_yet : (r : QueueReply T) → FewYet (let t : NextStep T W = asked_next r in t) r
-  asked_yet (answer.Flag b) = omega arith
+  asked_yet (QueueReply.Flag b) = omega arith
   asked_yet r = omega arith
 
   terminated_yet : (r : QueueReply T) → FewYet (let t : NextStep T W = terminated_next r in t) r
-  terminated_yet (answer.Flag true) = omega arith
+  terminated_yet (QueueReply.Flag true) = omega arith
   terminated_yet r = omega arith
 
   upgraded_yet : (r : QueueReply T) (side : Side) → FewYet (let t : NextStep T W = upgraded_next r side in t) r
-  upgraded_yet (answer.Flag true) side = omega arith
+  upgraded_yet (QueueReply.Flag true) side = omega arith
   upgraded_yet r side = omega arith
 
 module _ (T W : Type 0) where
@@ -226,23 +183,23 @@ module _ (T W : Type 0) where
   told_yet x y = refl
 
   lowered_yet : (b : Bool) (y : Closer)
-      → yet_after (let t : NextStep T W = (if b then Tries ask.Close (purpose.Close y) else ends_by (closer_ending y false)) in t) ≡ 0
+      → yet_after (let t : NextStep T W = (if b then Tries QueueAsk.Close (Purpose.Close y) else ends_by (closer_ending y false)) in t) ≡ 0
   lowered_yet true y = refl
   lowered_yet false y = ended_yet W (closer_ending y false)
 
   counted_yet : (b : Bool) (side : Side) (m : Making) (n : ℕ)
-      → yet_after (let t : NextStep T W = (if b then Ends reply.TooMany nothing_kept else Works (Raise side n m)) in t) ≡ 0
+      → yet_after (let t : NextStep T W = (if b then Ends Reply.TooMany nothing_kept else Works (Raise side n m)) in t) ≡ 0
   counted_yet true side m n = refl
   counted_yet false side m n = refl
 
   upgrading_yet : (b : Bool) (side : Side) (n : ℕ)
-      → yet_after (let t : NextStep T W = (if b then Ends reply.NotMade nothing_kept else counted_next side making.Upgrade n) in t) ≡ 0
+      → yet_after (let t : NextStep T W = (if b then Ends Reply.NotMade nothing_kept else counted_next side Making.Upgrade n) in t) ≡ 0
   upgrading_yet true side n = refl
-  upgrading_yet false side n = counted_yet (nat_lt most n) side making.Upgrade n
+  upgrading_yet false side n = counted_yet (nat_lt most n) side Making.Upgrade n
 
   loaded_yet : (side : Side) (m : Making) (n : ℕ) → yet_after (let t : NextStep T W = loaded_next side m n in t) ≡ 0
-  loaded_yet side making.Clone n = counted_yet (nat_lt most n) side making.Clone n
-  loaded_yet side making.Upgrade n = upgrading_yet (n == 0) side n
+  loaded_yet side Making.Clone n = counted_yet (nat_lt most n) side Making.Clone n
+  loaded_yet side Making.Upgrade n = upgrading_yet (n == 0) side n
 
   raised_yet : (side : Side) (m : Making) (b : Bool) → yet_after (let t : NextStep T W = raised_next side m b in t) ≡ 0
   raised_yet side m true = refl
@@ -253,15 +210,15 @@ no_more n m e = omega (arith, e)
 
 module _ {T W : Type 0} where
   answered_yet : (a : Purpose T W) (r : QueueReply T) → FewYet (answered_next a r) r
-  answered_yet purpose.TrySend r = sent_yet W r
-  answered_yet purpose.ForceSend r = forced_yet W r
-  answered_yet purpose.TryRecv r = received_yet W r
-  answered_yet (purpose.RecvMany g) r = several_yet W r g
-  answered_yet (purpose.Poll line key task) r = polled_yet line r key task
-  answered_yet (purpose.Close c) r = closed_yet W r c
-  answered_yet purpose.Ask r = asked_yet W r
-  answered_yet purpose.IsTerminated r = terminated_yet W r
-  answered_yet (purpose.Upgrade side) r = upgraded_yet W r side
+  answered_yet Purpose.TrySend r = sent_yet W r
+  answered_yet Purpose.ForceSend r = forced_yet W r
+  answered_yet Purpose.TryRecv r = received_yet W r
+  answered_yet (Purpose.RecvMany g) r = several_yet W r g
+  answered_yet (Purpose.Poll line key task) r = polled_yet line r key task
+  answered_yet (Purpose.Close c) r = closed_yet W r c
+  answered_yet Purpose.Ask r = asked_yet W r
+  answered_yet Purpose.IsTerminated r = terminated_yet W r
+  answered_yet (Purpose.Upgrade side) r = upgraded_yet W r side
 
   -- ---- one step of a call
 
@@ -309,12 +266,12 @@ module _ {T W : Type 0} where
   raised_plain false side n c = refl
 
   again_yet : (w : Waiting T) (key : Option Key) (task : W) → yet_after (again w key task) ≤ yet_worked (let x : ListStep T W = Insert w task in x)
-  again_yet (waiting.Send m) key task = omega arith
+  again_yet (Waiting.Send m) key task = omega arith
   again_yet x key task = omega arith
 
   registered_yet : (b : Bool) (w : Waiting T) (key : Key) (task : W)
       → yet_after (if b then pends_by w key else again w None task) ≤ yet_worked (let x : ListStep T W = Register w key task in x)
-  registered_yet false (waiting.Send m) key task = omega arith
+  registered_yet false (Waiting.Send m) key task = omega arith
   registered_yet b w key task = omega arith
 
   room_yet : (n : ℕ) (t : NextStep T W) → t ≡ room_next n → yet_after t ≤ 0
@@ -348,7 +305,7 @@ module _ {T W : Type 0} where
       works c (Lower side key) e (lowers side c) r s (lowered_next side key (count side c.wait_lists)) h.0 (lowered_queue side c)
       (lowered_plain side c) h.1 (no_more _ 0 (lowered_yet T W (count side c.wait_lists == 1) (dropper side key)))
   worked c (Count side) e r s h =
-      works c (Count side) e (untouched c) r s (Ends (reply.Count (count side c.wait_lists)) nothing_kept) h.0 refl refl h.1 (omega arith)
+      works c (Count side) e (untouched c) r s (Ends (Reply.Count (count side c.wait_lists)) nothing_kept) h.0 refl refl h.1 (omega arith)
   worked c (Load side m) e r s h =
       works c (Load side m) e (untouched c) r s (loaded_next side m (count side c.wait_lists)) h.0 refl refl h.1
       (no_more _ 0 (loaded_yet T W side m (count side c.wait_lists)))
@@ -396,8 +353,8 @@ module _ {T W : Type 0} where
   yet_seen d (u ∷ us) = let rest = yet_seen d us in omega (arith, rest)
 
   most_worked : (w : ListStep T W) → yet_worked w ≤ 1
-  most_worked (Insert (waiting.Send v) task) = omega arith
-  most_worked (Register (waiting.Send v) key task) = omega arith
+  most_worked (Insert (Waiting.Send v) task) = omega arith
+  most_worked (Register (Waiting.Send v) key task) = omega arith
   most_worked w = omega arith
 
   most_yet : (s : Stage (Phase T) T W) → yet s ≤ 1
@@ -435,20 +392,20 @@ module _ {T W : Type 0} where
 
   -- ---- a call begins
 
-  poll_yet : (m : T) (b : Bool) (key : Option Key) (task : W) → yet_after (if b then asks_listener (waiting.Send m) key task else again (waiting.Send m) key task) ≤ 1
+  poll_yet : (m : T) (b : Bool) (key : Option Key) (task : W) → yet_after (if b then asks_listener (Waiting.Send m) key task else again (Waiting.Send m) key task) ≤ 1
   poll_yet m false key task = omega arith
   poll_yet m true None task = omega arith
   poll_yet m true (Some key) task = omega arith
 
-  none_yet : (b : Bool) (key : Option Key) (task : W) (t : NextStep T W) → t ≡ (if b then asks_listener waiting.Receive key task else again waiting.Receive key task) → yet_after t ≤ 0
+  none_yet : (b : Bool) (key : Option Key) (task : W) (t : NextStep T W) → t ≡ (if b then asks_listener Waiting.Receive key task else again Waiting.Receive key task) → yet_after t ≤ 0
   none_yet false key task t same = subst (λ (x : NextStep T W). yet_after x ≤ 0) (sym same) (omega arith)
   none_yet true None task t same = subst (λ (x : NextStep T W). yet_after x ≤ 0) (sym same) (omega arith)
   none_yet true (Some key) task t same = subst (λ (x : NextStep T W). yet_after x ≤ 0) (sym same) (omega arith)
 
   first_yet : (a : ChannelAsk T W) → yet_after (first a) ≤ length (brought a)
-  first_yet (channel.PollSend m l task) = poll_yet m l.asks_first l.key task
-  first_yet (channel.PollRecv l task) = none_yet l.asks_first l.key task _ refl
-  first_yet (channel.PollNext None task) = omega arith
+  first_yet (ChannelAsk.PollSend m l task) = poll_yet m l.asks_first l.key task
+  first_yet (ChannelAsk.PollRecv l task) = none_yet l.asks_first l.key task _ refl
+  first_yet (ChannelAsk.PollNext None task) = omega arith
   first_yet a = omega arith
 
   pub begin_brings : (s : Configuration T W) (p : ℕ) (a : ChannelAsk T W) (e : Entry T) (t : Configuration T W) → Begins s p a e t

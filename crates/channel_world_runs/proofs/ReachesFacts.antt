@@ -1,25 +1,7 @@
 -- Ways: of no step, one after another, of a run by names, and of a call made alone.
-use Rattle.std.proofs.Common.{◌≡◌, ℕ, List, [], ◌∷◌, ◌++◌, Option, None, refl, sym, ap, ◌∙◌, append_assoc}
-use Rattle.std.specs.Option.{option_to_list}
-use Rattle.channel_steps.specs.solo.Alone.{Outcome}
-use Rattle.channel_steps.specs.solo.Configurations.{EndsWith, LoneRun, steps_by}
-use Rattle.channel_calls.specs.declared.ask.ChannelAsk.{ChannelAsk}
+use Rattle.std.specs.Prelude.{◌≡◌, ◌∷◌, ◌++◌}
+use Rattle.channel_world_runs.proofs.Words.{ℕ, List, [], Option, None, refl, sym, ap, ◌∙◌, append_assoc, option_to_list, Outcome, EndsWith, LoneRun, steps_by, ChannelAsk, Reply, Returned, Waiter, IsRun, NextConfiguration, Configuration, ChannelEntry, run_none, run_on, run_so, LeadsOn, channel_step, Moment, LeadsBy, RanTo, moment_of, Reaches, replies_of, replies_in, WorldState, Entry, Step, ChannelStep}
 use Rattle.channel_calls.specs.declared.mark.Mark.TheVariants.{Nothing}
-use Rattle.channel_calls.specs.declared.reply.Reply.{Reply}
-use Rattle.channel_calls.specs.declared.stage.Returned.{Returned}
-use Rattle.channel_world_model.specs.declared.name.Waiter.{Waiter}
-use Rattle.channel_steps.specs.Run.{IsRun, NextConfiguration}
-use Rattle.channel_steps.specs.Configuration.{Configuration}
-use Rattle.channel_steps.specs.declared.party.Entry.{Entry as ChannelEntry}
-use Rattle.channel_steps.specs.declared.run.Step.TheVariants as channel
-use Rattle.channel_steps.proofs.Interface.{run_none, run_on, run_so}
-use Rattle.channel_world_runs.specs.WorldState.{LeadsOn}
-use Rattle.channel_world_runs.specs.Run.{channel_step}
-use Rattle.channel_world_runs.specs.Runs.{Moment, LeadsBy, RanTo, moment_of}
-use Rattle.channel_world_runs.specs.Reaches.{Reaches, replies_of, replies_in}
-use Rattle.channel_world_runs.specs.declared.world_state.WorldState.{WorldState}
-use Rattle.channel_world_runs.specs.declared.step.Entry.{Entry}
-use Rattle.channel_world_runs.specs.declared.step.Step.{Step}
 
 module _ {T : Type 0} where
   pub no_way : (s : Configuration T Waiter) → Reaches s [] s
@@ -82,7 +64,7 @@ module _ {T : Type 0} where
       → Reaches s (o.reply ∷ []) t
   lone_way s t p a o r =
       record {
-        steps = channel.Begin p a ∷ steps_by p r.entries;
+        steps = ChannelStep.Begin p a ∷ steps_by p r.entries;
         trace = record { mark = Nothing; reply = None; kept = None } ∷ r.entries;
         run = record { moments = r.begun ∷ r.run.moments; each = (([], (r.begins, refl)), r.run.each); ends = r.run.ends };
         given = ends_saying r.entries o.reply o.kept r.ends;

@@ -1,25 +1,7 @@
 -- Names as one call at a time sees them, and why a call is not begun by one look at each name.
-use Rattle.std.proofs.Common.{◌≡◌, ℕ, Bool, true, false, ◌&&◌, ◌||◌, Option, sym, ap, refl, ◌∙◌}
-use Rattle.std.specs.Bool.{then_some}
-use Rattle.std.specs.Option.{option_map, option_or}
-use Rattle.channel_world_model.proofs.DirectoryLemmas.{at_seen, taken_seen}
-use Rattle.channel_world_model.specs.Names.{at, is_taken}
-use Rattle.channel_world_model.specs.Refusal.{unfit_handle, unlike_handles, borrowed_handle, unfit_operation, unfit_send, taking_refusal, planned_refusal}
-use Rattle.channel_world_model.specs.declared.name.HandleId.{HandleId}
-use Rattle.channel_world_model.specs.declared.name.OpId.{OpId}
-use Rattle.channel_world_model.specs.declared.name.Waiter.{Waiter}
-use Rattle.channel_world_model.specs.declared.name.Waiter.TheVariants.{Op, Stream}
-use Rattle.channel_world_model.specs.declared.plan.Plan.{Plan}
-use Rattle.channel_world_model.specs.declared.plan.Plan.TheVariants as plan
-use Rattle.channel_world_model.specs.declared.plan.Wanted.{Wanted}
-use Rattle.channel_world_model.specs.declared.refusal.WorldRefusal.{WorldRefusal}
-use Rattle.channel_world_model.specs.declared.refusal.WorldRefusal.TheVariants.{NameTaken}
-use Rattle.channel_world_runs.specs.NameTable.{names_of}
+use Rattle.std.specs.Prelude.{◌≡◌, ◌&&◌, ◌||◌}
+use Rattle.channel_world_runs.proofs.Words.{ℕ, Bool, true, false, Option, sym, ap, refl, ◌∙◌, then_some, option_map, option_or, at_seen, taken_seen, at, is_taken, unfit_handle, unlike_handles, borrowed_handle, unfit_operation, unfit_send, taking_refusal, planned_refusal, HandleId, OpId, Waiter, Op, Stream, Plan, Wanted, WorldRefusal, NameTaken, names_of, under_way_in, HandleEntry, OperationEntry, NameTable}
 use Rattle.channel_world_runs.specs.Refusal as table
-use Rattle.channel_world_runs.specs.Refusal.{under_way_in}
-use Rattle.channel_world_runs.specs.declared.names.HandleEntry.{HandleEntry}
-use Rattle.channel_world_runs.specs.declared.names.OperationEntry.{OperationEntry}
-use Rattle.channel_world_runs.specs.declared.name_table.NameTable.{NameTable}
 
 pub and_true : (b : Bool) → (b && true) ≡ b
 and_true true = refl
@@ -31,7 +13,7 @@ and_false false = refl
 
 -- the handle that a call goes through that does nothing else to the names
 abbrev pub handle_through : Plan → HandleId
-handle_through (plan.Through wanted handle) = handle
+handle_through (Plan.Through wanted handle) = handle
 handle_through p = record { 0 = 0 }
 
 -- ---- names as one call at a time sees them
@@ -57,7 +39,7 @@ module _ {T : Type 0} (r : NameTable T) where
   polled w = (under_way_in r).polled w
 
   pub through_seen : (wanted : Wanted) (handle : HandleId)
-      → unfit_handle (polled (Stream handle)) wanted (table.handle_at handle r) ≡ planned_refusal (under_way_in r) (names_of r) (plan.Through wanted handle)
+      → unfit_handle (polled (Stream handle)) wanted (table.handle_at handle r) ≡ planned_refusal (under_way_in r) (names_of r) (Plan.Through wanted handle)
   through_seen wanted handle = ap (unfit_handle (polled (Stream handle)) wanted) (handle_there r handle.0)
 
   pub taking_seen : (wanted : Wanted) (handle : HandleId)
@@ -67,16 +49,16 @@ module _ {T : Type 0} (r : NameTable T) where
       ap (λ h. option_or (unfit_handle (polled (Stream handle)) wanted h) (borrowed_handle ((under_way_in r).used handle) h)) (handle_there r handle.0)
 
   pub both_seen : (a b : HandleId) → unlike_handles (polled (Stream a) || polled (Stream b)) (table.handle_at a r) (table.handle_at b r)
-      ≡ planned_refusal (under_way_in r) (names_of r) (plan.ThroughBoth a b)
+      ≡ planned_refusal (under_way_in r) (names_of r) (Plan.ThroughBoth a b)
   both_seen a b =
       ap (λ x. unlike_handles (polled (Stream a) || polled (Stream b)) x (table.handle_at b r)) (handle_there r a.0)
       ∙ ap (unlike_handles (polled (Stream a) || polled (Stream b)) (at a.0 (names_of r).handles)) (handle_there r b.0)
 
   pub polling_seen : (op : OpId)
-      → unfit_operation (polled (Op op)) (table.operation_at op r) ≡ planned_refusal (under_way_in r) (names_of r) (plan.Polls op)
+      → unfit_operation (polled (Op op)) (table.operation_at op r) ≡ planned_refusal (under_way_in r) (names_of r) (Plan.Polls op)
   polling_seen op = ap (unfit_operation (polled (Op op))) (sym (operation_at r op.0))
 
-  pub asking_seen : (op : OpId) → unfit_send (table.operation_at op r) ≡ planned_refusal (under_way_in r) (names_of r) (plan.Asks op)
+  pub asking_seen : (op : OpId) → unfit_send (table.operation_at op r) ≡ planned_refusal (under_way_in r) (names_of r) (Plan.Asks op)
   asking_seen op = ap unfit_send (sym (operation_at r op.0))
 
   pub operation_taken : (op : OpId) → is_taken op.0 r.operations ≡ is_taken op.0 (names_of r).operations

@@ -1,6 +1,6 @@
 -- Results of which it is known whether they are values.
-use Rattle.std.proofs.Common.{◌≡◌, true, false, Option, None, Some, Result, Ok, Err, is_err, IfSome, IfOk, OnOk, subst, sym}
-use Rattle.std.specs.Option.{ok_or}
+use Rattle.std.specs.Prelude.{◌≡◌}
+use Rattle.channel_world_runs.proofs.Words.{true, false, Option, None, Some, Result, Ok, Err, is_err, IfSome, IfOk, OnOk, subst, sym, ok_or}
 use Rattle.std.specs.Result.{result_ok}
 
 -- what is made of an option by `ok_or`

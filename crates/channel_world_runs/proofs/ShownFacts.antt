@@ -1,18 +1,7 @@
 -- What follows of a configuration that is shown: that its messages are balanced, how large its queue is, and that it has a position more.
-use Rattle.std.proofs.lemmas.Bool.{eqb-true}
-use Rattle.std.proofs.Common.{arith, ◌≡◌, ℕ, true, false, List, Option, None, Some, ◌⊎◌, inl, inr, sym, ap, ◌∙◌, subst}
-use Rattle.concurrent_queue.proofs.Interface.{shows}
-use Rattle.concurrent_queue.specs.Capacity.{capacity_of}
-use Rattle.concurrent_queue.specs.Queue.{Queue, IsInRange}
+use Rattle.std.specs.Prelude.{◌≡◌, ◌⊎◌}
+use Rattle.channel_world_runs.proofs.Words.{eqb-true, arith, ℕ, true, false, List, Option, None, Some, inl, inr, sym, ap, ◌∙◌, subst, shows, capacity_of, Queue, IsInRange, Parts, Channel, Waiter, Configuration, all_seats, IsBalanced, Represents, Party, parts_in, observation_of, AreCounted, HasOnePlace, Shown, is_one_place, WorldState}
 use Rattle.channel_steps.specs.solo.Run as queue
-use Rattle.channel_calls.specs.Parts.{Parts}
-use Rattle.channel_calls.specs.Moves.{Channel}
-use Rattle.channel_world_model.specs.declared.name.Waiter.{Waiter}
-use Rattle.channel_steps.specs.Configuration.{Configuration, all_seats, IsBalanced, Represents}
-use Rattle.channel_steps.specs.declared.party.Party.{Party}
-use Rattle.channel_world_runs.specs.WorldState.{parts_in, observation_of, AreCounted, HasOnePlace, Shown}
-use Rattle.channel_world_runs.specs.Positions.{is_one_place}
-use Rattle.channel_world_runs.specs.declared.world_state.WorldState.{WorldState}
 
 module _ {T : Type 0} where
   pub balanced_in : (parts : Parts T Waiter) (parties : List (Party T Waiter)) (s : Configuration T Waiter) → Represents parts parties s

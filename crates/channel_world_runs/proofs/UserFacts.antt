@@ -1,42 +1,8 @@
 -- How many calls use each handle and how many operations borrow it, as calls begin, make steps and end.
-use Rattle.std.proofs.Common.{arith, ◌≡◌, ℕ, zero, suc, ◌+◌, ◌≤◌, nat_eq, Bool, true, false, cond, List, [], ◌∷◌, ◌++◌, length, slice_get, unwrap_or, Option, None, Some, ◌⊎◌, inl, inr, refl, sym, ap, ◌∙◌, subst}
-use Rattle.std.proofs.lemmas.Map.{length-set_value}
-use Rattle.std.specs.List.{remove}
-use Rattle.std.specs.Option.{option_map, option_map_or}
-use Rattle.std.specs.Map.{lookup, set_value}
-use Rattle.channel_calls.specs.Turns.{nothing_kept}
-use Rattle.channel_calls.specs.declared.reply.Reply.{Reply}
-use Rattle.channel_calls.specs.declared.reply.Reply.TheVariants as reply
-use Rattle.channel_calls.specs.declared.stage.Returned.{Returned}
-use Rattle.channel_world_model.proofs.WaiterLemmas.{decided}
-use Rattle.channel_world_model.specs.Names.{Directory, at, borrowed_by, with_changed, without_name, with_spent}
-use Rattle.channel_world_model.specs.declared.call.Call.{Call}
-use Rattle.channel_world_model.specs.declared.name.Handle.{Handle}
-use Rattle.channel_world_model.specs.declared.name.HandleId.{HandleId}
-use Rattle.channel_world_model.specs.declared.name.HandleKind.{HandleKind}
-use Rattle.channel_world_model.specs.declared.name.HandleKind.TheVariants as handle_kind
-use Rattle.channel_world_model.specs.declared.name.OpId.{OpId}
-use Rattle.channel_world_model.specs.declared.name.Waiter.{Waiter}
-use Rattle.channel_world_runs.specs.Bookkeeping.{new_message, returns, names_planned, written_back, installed, lent_by, handed_over_by, lent_to_poll, with_operation, operation_named, handle_named, on_return_of, leave_handle_of, new_from}
-use Rattle.channel_world_runs.specs.NameTable.{poll_state_with, used_more, used_less, borrowed_more, handed_over, with_handle, with_lent, with_given_back, with_borrowed, with_handed_over, with_poll_state, unused, first_name_table, names_of}
-use Rattle.channel_world_model.specs.Plan.{kin, plan_of}
-use Rattle.channel_world_runs.specs.Order.{no_places}
-use Rattle.channel_world_runs.specs.Run.{NameState, name_state_begun, name_state_ended, with_woken}
-use Rattle.channel_world_runs.specs.Users.{one, times_used, all_uses, FewUsers}
-use Rattle.channel_world_runs.specs.Calls.{Agent}
-use Rattle.channel_world_runs.specs.declared.names.OnReturn.{OnReturn}
-use Rattle.channel_world_runs.specs.declared.names.OnReturn.TheVariants as on_return
-use Rattle.channel_world_runs.specs.declared.names.HandleEntry.{HandleEntry}
-use Rattle.channel_world_runs.specs.declared.names.OperationEntry.{OperationEntry}
-use Rattle.channel_world_runs.specs.declared.names.PollState.{PollState}
-use Rattle.channel_world_runs.specs.declared.names.PollState.TheVariants.{IsPolled}
-use Rattle.channel_world_runs.specs.declared.name_table.NameTable.{NameTable}
-use Rattle.channel_world_model.specs.declared.plan.Plan.{Plan}
-use Rattle.channel_world_model.specs.declared.plan.Plan.TheVariants as plan
-use Rattle.channel_world_runs.specs.declared.step.PartyId.{PartyId}
-use Rattle.channel_world_runs.proofs.OwnerNames.{same_number, own_number, number_or, set_there, set_other, found, is_there, handle_none}
+use Rattle.std.specs.Prelude.{◌≡◌, ◌+◌, ◌≤◌, ◌∷◌, ◌++◌, ◌⊎◌}
+use Rattle.channel_world_runs.proofs.Lemmas.{arith, ℕ, zero, suc, nat_eq, Bool, true, false, cond, List, [], length, slice_get, unwrap_or, Option, None, Some, inl, inr, refl, sym, ap, ◌∙◌, subst, length-set_value, remove, option_map, option_map_or, lookup, set_value, nothing_kept, Reply, Returned, decided, Directory, at, borrowed_by, with_changed, without_name, with_spent, Call, Handle, HandleId, HandleKind, OpId, Waiter, new_message, returns, names_planned, written_back, installed, lent_by, handed_over_by, lent_to_poll, with_operation, operation_named, handle_named, on_return_of, leave_handle_of, new_from, poll_state_with, used_more, used_less, borrowed_more, handed_over, with_handle, with_lent, with_given_back, with_borrowed, with_handed_over, with_poll_state, unused, first_name_table, names_of, kin, plan_of, no_places, NameState, name_state_begun, name_state_ended, with_woken, one, times_used, all_uses, FewUsers, Agent, OnReturn, HandleEntry, OperationEntry, PollState, IsPolled, NameTable, Plan, PartyId, same_number, own_number, number_or, set_there, set_other, handle_none, handle_there}
+use Rattle.channel_world_runs.proofs.OwnerNames.{found, is_there}
 use Rattle.channel_world_runs.proofs.OwnerRuns.{inner}
-use Rattle.channel_world_runs.proofs.RefusalLemmas.{handle_there}
 
 -- a handle is used by no more calls, and borrowed by no more operations, than these
 abbrev Few : ℕ → ℕ → HandleEntry → Type 0
@@ -245,57 +211,57 @@ module _ {T : Type 0} where
 
     pub begun_few : (m : Option T) (p : Plan)
         → AreFew (λ name. n name + times_used name (returns r m p)) (length (names_planned p r).operations) (names_planned p r).handles
-    begun_few m (plan.Through wanted handle) = once handle
-    begun_few m (plan.ThroughBoth a b) =
+    begun_few m (Plan.Through wanted handle) = once handle
+    begun_few m (Plan.ThroughBoth a b) =
         more_few (λ name. n name + one name a + one name b) (λ name. n name + (one name a + one name b)) (length r.operations) (length r.operations)
         (with_lent b (with_lent a r)).handles (λ name. omega arith) (omega arith)
         (lent_few (λ name. n name + one name a) (length r.operations) b (with_lent a r) (lent_few n (length r.operations) a r few))
-    begun_few m (plan.Makes wanted handle op kind) = made op handle
-    begun_few m (plan.Polls op) = same _ (operation_length lent_to_poll op r)
-    begun_few m (plan.GivesUp op) = handed_over_by_few op (at op.0 r.operations)
-    begun_few m (plan.Asks op) = lent_by_few (at op.0 r.operations)
-    begun_few m (plan.Streams receiver) =
+    begun_few m (Plan.Makes wanted handle op kind) = made op handle
+    begun_few m (Plan.Polls op) = same _ (operation_length lent_to_poll op r)
+    begun_few m (Plan.GivesUp op) = handed_over_by_few op (at op.0 r.operations)
+    begun_few m (Plan.Asks op) = lent_by_few (at op.0 r.operations)
+    begun_few m (Plan.Streams receiver) =
         let stands : NameTable T = with_poll_state (IsPolled false) receiver r in
         lent_few n (length r.operations) receiver stands (poll_state_few n (length r.operations) (IsPolled false) receiver r few)
-    begun_few m (plan.Drops handle) =
+    begun_few m (Plan.Drops handle) =
         more_few n (λ name. n name + 0) (length r.operations) (length r.operations) (without_name handle.0 r.handles) (λ name. omega arith) (omega arith)
         (set_few n (length r.operations) handle.0 r.handles None few (λ h e k. absurd (never h e)))
-    begun_few m (plan.Mints wanted from new to) = named from new (kin to)
+    begun_few m (Plan.Mints wanted from new to) = named from new (kin to)
 
   -- ---- its end
 
   installed_few : (n : ℕ → ℕ) (m : ℕ) (new : HandleId) (kind : HandleKind) (y : Reply T) (r : NameTable T) → AreFew n m r.handles
       → AreFew n m (installed new kind y r).handles
-  installed_few n m new kind reply.Made r few =
+  installed_few n m new kind Reply.Made r few =
       set_few n m new.0 r.handles _ few (λ h e k. subst (λ (x : HandleEntry). Few (n k) m x) (inner (unused kind) h e) (omega arith, omega arith))
   installed_few n m new kind y r few = few
 
   -- a handle that it gives back is used by one fewer
   settled_few : (n : ℕ → ℕ) (m : ℕ) (e : OnReturn T) (y : Reply T) (left : Returned T) (r : NameTable T)
       → AreFew (λ name. n name + times_used name e) m r.handles → AreFew n m (written_back e y left r).handles
-  settled_few n m (on_return.Leave handle) y left r few = given_back_few n m handle r few
-  settled_few n m (on_return.LeaveBoth a b) y left r few =
+  settled_few n m (OnReturn.Leave handle) y left r few = given_back_few n m handle r few
+  settled_few n m (OnReturn.LeaveBoth a b) y left r few =
       given_back_few n m b (with_given_back a r)
       (given_back_few (λ name. n name + one name b) m a r
       (more_few (λ name. n name + (one name a + one name b)) (λ name. n name + one name b + one name a) m m r.handles (λ name. omega arith) (omega arith) few))
-  settled_few n m (on_return.PollNext receiver) y left r few =
+  settled_few n m (OnReturn.PollNext receiver) y left r few =
       let stands = poll_state_with left.key in
       given_back_few n m receiver (with_poll_state stands receiver r)
       (poll_state_few (λ name. n name + one name receiver) m stands receiver r few)
-  settled_few n m (on_return.New from new kind) y left r few =
+  settled_few n m (OnReturn.New from new kind) y left r few =
       installed_few n m new kind y (with_given_back from r) (given_back_few n m from r few)
   settled_few n m x y left r few = more_few (λ name. n name + 0) n m m r.handles (λ name. omega arith) (omega arith) few
 
   installed_length : (new : HandleId) (kind : HandleKind) (y : Reply T) (r : NameTable T)
       → length (installed new kind y r).operations ≡ length r.operations
-  installed_length new kind reply.Made r = refl
+  installed_length new kind Reply.Made r = refl
   installed_length new kind y r = refl
 
   settled_length : (e : OnReturn T) (y : Reply T) (left : Returned T) (r : NameTable T)
       → length (written_back e y left r).operations ≡ length r.operations
-  settled_length (on_return.Make op operation) y left r = length-set_value (nat_eq op.0) r.operations (Some operation)
-  settled_length (on_return.Poll op) y left r = operation_length _ op r
-  settled_length (on_return.New from new kind) y left r = installed_length new kind y (with_given_back from r)
+  settled_length (OnReturn.Make op operation) y left r = length-set_value (nat_eq op.0) r.operations (Some operation)
+  settled_length (OnReturn.Poll op) y left r = operation_length _ op r
+  settled_length (OnReturn.New from new kind) y left r = installed_length new kind y (with_given_back from r)
   settled_length e y left r = refl
 
   -- ---- the calls under way
@@ -343,8 +309,8 @@ users_first T name h i = by (nat_eq name 1) (nat_eq name 0) i where
   none : (kind : HandleKind) (x : HandleEntry) → Some (unused kind) ≡ Some x → Few 0 0 x
   none kind x e = subst (λ (y : HandleEntry). Few 0 0 y) (inner (unused kind) x e) (omega arith, omega arith)
 
-  by : (t u : Bool) → living (cond t (Some (Some (unused handle_kind.Receiver))) (cond u (Some (Some (unused handle_kind.Sender))) None)) ≡ Some h
+  by : (t u : Bool) → living (cond t (Some (Some (unused HandleKind.Receiver))) (cond u (Some (Some (unused HandleKind.Sender))) None)) ≡ Some h
       → Few 0 0 h
-  by true u e = none handle_kind.Receiver h e
-  by false true e = none handle_kind.Sender h e
+  by true u e = none HandleKind.Receiver h e
+  by false true e = none HandleKind.Sender h e
   by false false e = absurd (never h e)

@@ -1,18 +1,8 @@
 -- Whom a step wakes: how many, and that the sink has their names in order.
-use Rattle.std.proofs.Common.{arith, ◌≡◌, ℕ, zero, suc, ◌+◌, ◌≤◌, Bool, true, false, if◌then◌else◌, List, [], ◌∷◌, ◌++◌, length, take, drop, vec_len, vec_capacity, Option, None, Some, refl, sym, ap, ◌∙◌, subst, append_assoc, append-nil, length-append}
-use Rattle.std.specs.Map.{remove_entry}
-use Rattle.event_listener.specs.Lists.{Notice, same_key, tasks_of, told_as, moved, passed_wakes, removed_wakes, without}
+use Rattle.std.specs.Prelude.{◌≡◌, ◌+◌, ◌≤◌, if◌then◌else◌, ◌∷◌, ◌++◌}
+use Rattle.channel_world_runs.proofs.Words.{arith, ℕ, zero, suc, Bool, true, false, List, [], length, take, drop, vec_len, vec_capacity, Option, None, Some, refl, sym, ap, ◌∙◌, subst, append_assoc, append-nil, length-append, remove_entry, Notice, same_key, tasks_of, told_as, moved, passed_wakes, removed_wakes, without, Key, Channel, Listeners, listeners, told_more_wakes, ListenerRef, WaitList, Waiter, Telling, more_of, all_of, WokenBy, Hears, Sink}
 use Rattle.event_listener.specs.Notices.{Woken}
-use Rattle.event_listener.specs.declared.key.Key.{Key}
-use Rattle.channel_calls.specs.Moves.{Channel}
-use Rattle.channel_calls.specs.Parts.{Listeners, listeners, told_more_wakes}
 use Rattle.channel_calls.proofs.Interface.{woken_firsts}
-use Rattle.channel_calls.specs.declared.stage.ListenerRef.{ListenerRef}
-use Rattle.channel_calls.specs.declared.stage.WaitList.{WaitList}
-use Rattle.channel_world_model.specs.declared.name.Waiter.{Waiter}
-use Rattle.channel_steps.specs.Tellings.{Telling, more_of, all_of, WokenBy}
-use Rattle.channel_world_runs.specs.Woken.{Hears}
-use Rattle.channel_world_runs.specs.declared.woken.Woken.{Woken as Sink}
 
 -- ---- the sink
 

@@ -1,35 +1,9 @@
 -- One that was woken may be polled: a stream also where a live operation borrows its receiver.
-use Rattle.std.proofs.Common.{◌≡◌, true, false, Option, None, Some, is_some, inl, refl, sym, ◌∙◌}
-use Rattle.channel_world_model.specs.Lines.{is_among}
-use Rattle.channel_world_model.specs.Names.{at}
-use Rattle.channel_world_model.specs.Refusal.{handle_fits}
-use Rattle.channel_world_model.specs.Settling.{poll_of}
-use Rattle.channel_world_model.specs.declared.call.Call.{Call}
-use Rattle.channel_world_model.specs.declared.call.Call.TheVariants as call
-use Rattle.channel_world_model.specs.declared.name.HandleId.{HandleId}
-use Rattle.channel_world_model.specs.declared.name.HandleKind.{HandleKind}
-use Rattle.channel_world_model.specs.declared.name.HandleKind.TheVariants as handle_kind
-use Rattle.channel_world_model.specs.declared.name.OpId.{OpId}
-use Rattle.channel_world_model.specs.declared.name.Waiter.{Waiter}
-use Rattle.channel_world_model.specs.declared.name.Waiter.TheVariants.{Op, Stream}
+use Rattle.std.specs.Prelude.{◌≡◌}
+use Rattle.channel_world_runs.proofs.Lemmas.{true, false, Option, None, Some, is_some, inl, refl, sym, ◌∙◌, is_among, at, handle_fits, poll_of, Call, HandleId, HandleKind, OpId, Waiter, Op, Stream, is_polled, is_name_pending, key_of, rested, order_begun, WokenSound, invalid, stream_status, Owned, begin_refusal, NameState, HandleEntry, OperationEntry, PollState, Rests, Waits, IsPolled, NameTable, Configuration, Admitted, Sane, among_is, is_there, polling_seen}
 use Rattle.channel_world_model.specs.declared.plan.Wanted.TheVariants.{Receiver}
-use Rattle.channel_world_runs.specs.NameTable.{is_polled, is_name_pending, key_of}
-use Rattle.channel_world_runs.specs.Order.{rested, order_begun}
-use Rattle.channel_world_runs.specs.OwnerWoken.{WokenSound}
-use Rattle.channel_world_runs.specs.Owners.{invalid, stream_status, Owned}
-use Rattle.channel_world_runs.specs.Refusal.{begin_refusal}
-use Rattle.channel_world_runs.specs.Run.{NameState}
-use Rattle.channel_world_runs.specs.declared.names.HandleEntry.{HandleEntry}
-use Rattle.channel_world_runs.specs.declared.names.OperationEntry.{OperationEntry}
-use Rattle.channel_world_runs.specs.declared.names.PollState.{PollState}
-use Rattle.channel_world_runs.specs.declared.names.PollState.TheVariants.{Rests, Waits, IsPolled}
-use Rattle.channel_world_runs.specs.declared.name_table.NameTable.{NameTable}
-use Rattle.channel_steps.specs.Configuration.{Configuration}
-use Rattle.channel_world_runs.proofs.OwnerBegins.{Admitted, Sane}
 use Rattle.channel_world_runs.proofs.OwnerCalls.{hold_is}
-use Rattle.channel_world_runs.proofs.OwnerOrderNames.{among_is, is_there}
 use Rattle.channel_world_runs.proofs.OwnerWoken.{waits_pending}
-use Rattle.channel_world_runs.proofs.RefusalLemmas.{polling_seen}
 
 -- one that is pending is not being polled
 not_polled : (s : PollState) → is_some (key_of s) ≡ true → is_polled s ≡ false
@@ -38,23 +12,23 @@ not_polled s e = absurd (let no : false ≡ true = e in cc)
 
 -- and as a stream it is a receiver, where nothing is amiss
 receives : (k : HandleKind) (s : PollState) → is_some (key_of s) ≡ true → (stream_status k s ≡ invalid → ⊥) → handle_fits Receiver k ≡ true
-receives handle_kind.Receiver s e sane = refl
+receives HandleKind.Receiver s e sane = refl
 receives k (Waits key) e sane = absurd (sane refl)
 receives k Rests e sane = absurd (let no : false ≡ true = e in cc)
 receives k (IsPolled brings) e sane = absurd (let no : false ≡ true = e in cc)
 
 module _ {T : Type 0} where
-  operation_admitted : (r : NameTable T) (op : OpId) → is_name_pending r (Op op) ≡ true → Admitted r (call.Poll op)
+  operation_admitted : (r : NameTable T) (op : OpId) → is_name_pending r (Op op) ≡ true → Admitted r (Call.Poll op)
   operation_admitted r op e = by (at op.0 r.operations) refl
     where
-      by : (o : Option (OperationEntry T)) → at op.0 r.operations ≡ o → Admitted r (call.Poll op)
+      by : (o : Option (OperationEntry T)) → at op.0 r.operations ≡ o → Admitted r (Call.Poll op)
       by None f = absurd (let no : false ≡ true = sym (rw f refl) ∙ e in cc)
       by (Some x) f = record { finds = (x, f, not_polled x.poll_state (rw f at e)); new = refl }
 
-  stream_admitted : (r : NameTable T) (receiver : HandleId) → Sane r → is_name_pending r (Stream receiver) ≡ true → Admitted r (call.PollNext receiver)
+  stream_admitted : (r : NameTable T) (receiver : HandleId) → Sane r → is_name_pending r (Stream receiver) ≡ true → Admitted r (Call.PollNext receiver)
   stream_admitted r receiver sane e = by (at receiver.0 r.handles) refl
     where
-      by : (o : Option HandleEntry) → at receiver.0 r.handles ≡ o → Admitted r (call.PollNext receiver)
+      by : (o : Option HandleEntry) → at receiver.0 r.handles ≡ o → Admitted r (Call.PollNext receiver)
       by None f = absurd (let no : false ≡ true = sym (rw f refl) ∙ e in cc)
       by (Some x) f =
           let pends : is_some (key_of x.poll_state) ≡ true = rw f at e in
@@ -87,5 +61,5 @@ module _ {T : Type 0} where
       by (Stream receiver) there = rw there refl
 
   -- an operation that may be polled is not refused
-  pub poll_accepted : (r : NameTable T) (op : OpId) → Admitted r (call.Poll op) → begin_refusal r (call.Poll op) ≡ None
+  pub poll_accepted : (r : NameTable T) (op : OpId) → Admitted r (Call.Poll op) → begin_refusal r (Call.Poll op) ≡ None
   poll_accepted r op a = let o = a.finds in sym (polling_seen r op) ∙ rw (o.1, o.2) refl

@@ -1,38 +1,9 @@
 -- What every step keeps of those that wait, and what a call made alone keeps.
-use Rattle.std.proofs.Common.{◌≡◌, ℕ, false, List, [], ◌∷◌, ◌++◌, map, slice_get, Option, None, Some, inl, refl, sym, ap, ◌∙◌, subst, append-nil}
-use Rattle.channel_calls.specs.Moves.{Channel}
-use Rattle.channel_calls.specs.declared.ask.ChannelAsk.{ChannelAsk}
-use Rattle.channel_calls.specs.declared.reply.Reply.{Reply}
-use Rattle.channel_calls.specs.declared.stage.Returned.{Returned}
-use Rattle.channel_steps.specs.solo.Alone.{Outcome}
-use Rattle.channel_steps.specs.solo.Configurations.{EndsWith, LoneRun, steps_by, woken_by_steps}
+use Rattle.std.specs.Prelude.{◌≡◌, ◌∷◌, ◌++◌}
+use Rattle.channel_world_runs.proofs.Lemmas.{ℕ, false, List, [], map, slice_get, Option, None, Some, inl, refl, sym, ap, ◌∙◌, subst, append-nil, Channel, ChannelAsk, Reply, Returned, Outcome, EndsWith, LoneRun, steps_by, woken_by_steps, Call, Waiter, asks_first, EachStep, NextConfiguration, end_of, new_configuration, Begins, Next, ActiveCall, Configuration, Steps, sees, does, unless_ended, ChannelEntry, ChannelStep, IsOrListens, IsStepOf, asks, on_return_of, WorldInvariant, AllTry, NamesKept, name_state_alone, WakeOrder, no_places, all_woken, first_name_table, is_at_work, step_refusal, NameState, StepIsMade, IsNameStateOf, name_state_begun, name_state_ended, with_woken, FewUsers, Agent, NameTable, Entry, PartyId, Step, Admitted, admitted}
 use Rattle.channel_steps.proofs.every_run.Interface.{all_sound_new, all_sound_next, stays_closed}
-use Rattle.channel_world_model.specs.declared.call.Call.{Call}
-use Rattle.channel_world_model.specs.declared.name.Waiter.{Waiter}
-use Rattle.channel_steps.specs.Answers.{asks_first}
-use Rattle.channel_steps.specs.Run.{EachStep, NextConfiguration, end_of, new_configuration, Begins, Next}
-use Rattle.channel_steps.specs.Configuration.{ActiveCall, Configuration, Steps, sees, does, unless_ended}
-use Rattle.channel_steps.specs.declared.party.Entry.{Entry as ChannelEntry}
-use Rattle.channel_steps.specs.declared.run.Step.{Step as ChannelStep}
-use Rattle.channel_steps.specs.declared.run.Step.TheVariants as channel
-use Rattle.channel_world_runs.specs.AskedBy.{IsOrListens, IsStepOf}
-use Rattle.channel_world_runs.specs.Bookkeeping.{asks, on_return_of}
-use Rattle.channel_world_runs.specs.WorldInvariant.{WorldInvariant, AllTry, NamesKept}
-use Rattle.channel_world_runs.specs.Lone.{name_state_alone}
-use Rattle.channel_world_runs.specs.Order.{WakeOrder, no_places, all_woken}
-use Rattle.channel_world_runs.specs.NameTable.{first_name_table, is_at_work}
-use Rattle.channel_world_runs.specs.Refusal.{step_refusal}
-use Rattle.channel_world_runs.specs.Run.{NameState, StepIsMade, IsNameStateOf, name_state_begun, name_state_ended, with_woken}
-use Rattle.channel_world_runs.specs.Users.{FewUsers}
-use Rattle.channel_world_runs.specs.Calls.{Agent}
-use Rattle.channel_world_runs.specs.declared.name_table.NameTable.{NameTable}
-use Rattle.channel_world_runs.specs.declared.step.Entry.{Entry}
-use Rattle.channel_world_runs.specs.declared.step.PartyId.{PartyId}
-use Rattle.channel_world_runs.specs.declared.step.Step.{Step}
-use Rattle.channel_world_runs.specs.declared.step.Step.TheVariants as step
 use Rattle.channel_world_runs.proofs.CountFacts.{counted_first, counted_begun, counted_step}
 use Rattle.channel_world_runs.proofs.OwnerPolled.{polled_first, polled_begun, polled_step}
-use Rattle.channel_world_runs.proofs.OwnerBegins.{Admitted, admitted}
 use Rattle.channel_world_runs.proofs.OwnerRuns.{IsAfter, stepped, idle_and_free}
 use Rattle.channel_world_runs.proofs.OwnerSteps.{owned_first, begins_owned}
 use Rattle.channel_world_runs.proofs.OwnerTogether.{all_join, all_left, all_right}
@@ -63,7 +34,7 @@ module _ {T : Type 0} where
       record {
         owned = begins_owned q c b a s t e is n k.owned idle fine;
         woken = begins_woken q c b a s t e is n k.owned k.woken fine;
-        sound = all_sound_next s (channel.Begin q.0 a) e [] t k.sound (n, refl);
+        sound = all_sound_next s (ChannelStep.Begin q.0 a) e [] t k.sound (n, refl);
         polled = polled_begun q c b s k.owned fine k.polled;
         users = users_begun q c b k.users;
         counted = counted_begun q c b a s t e is n k.counted;
@@ -78,23 +49,23 @@ module _ {T : Type 0} where
       record {
         owned = stepped b c s t q e.mark e.reply e.kept names k.owned known st after;
         woken = stepped_woken b c s t q e.mark e.reply e.kept names k.owned known st after k.woken;
-        sound = all_sound_next s (channel.Step q.0) e names t k.sound st;
+        sound = all_sound_next s (ChannelStep.Step q.0) e names t k.sound st;
         polled = polled_step b c s t q e.mark e.reply e.kept names k.owned known st after k.polled;
         users = subst (λ (d : NameState T). FewUsers d) (sym after.4) (users_ended after.0 after.1 e.reply e.kept names b after.2 k.users);
         counted = counted_step b c s t q e.mark e.reply e.kept names k.owned known st after
-            (stays_closed s (channel.Step q.0) e names t st) k.counted;
+            (stays_closed s (ChannelStep.Step q.0) e names t st) k.counted;
       }
 
   -- a step by names that nothing refuses, whether a poll tries or asks its listener first
   pub names_kept_next : (b c : NameState T) (s t : Configuration T Waiter) (x : Step T) (y : ChannelStep T Waiter) (e : ChannelEntry T) (names : List Waiter)
       → step_refusal b.name_table b.agents x ≡ None → IsStepOf b.name_table x y → Next s y e names t → IsNameStateOf x e.reply e.kept names b c
       → NamesKept b s → NamesKept c t
-  names_kept_next b c s t (step.Begin q call) y e names fine (a, is, same) next name_state k =
+  names_kept_next b c s t (Step.Begin q call) y e names fine (a, is, same) next name_state k =
       let ok = idle_and_free q call b fine in
       let n : Begins s q.0 a e t × (names ≡ []) = subst (λ (z : ChannelStep T Waiter). Next s z e names t) same next in
       subst (λ (d : NameState T). NamesKept d t) (sym name_state)
       (names_kept_begun q call b a s t e is n.0 ok.0 (admitted b.name_table call ok.1) k)
-  names_kept_next b c s t (step.Step q) y e names fine same next name_state k =
+  names_kept_next b c s t (Step.Step q) y e names fine same next name_state k =
       names_kept_step b c s t q e names (subst (λ (z : ChannelStep T Waiter). Next s z e names t) same next) name_state k
 
   -- ---- all of it
@@ -164,10 +135,10 @@ module _ {T : Type 0} where
 
   -- a step that was made
   pub kept_next : (b c : NameState T) (s t : Configuration T Waiter) (x : Step T) (e : Entry T) → StepIsMade b s x e c t → WorldInvariant b s → WorldInvariant c t
-  kept_next b c s t (step.Begin q call) e made k =
+  kept_next b c s t (Step.Begin q call) e made k =
       let ok = idle_and_free q call b made.not_refused in
       subst (λ (d : NameState T). WorldInvariant d t) (sym made.name_state) (kept_begun q call b s t _ made.next.0 ok.0 (admitted b.name_table call ok.1) k)
-  kept_next b c s t (step.Step q) e made k = kept_step b c s t q _ e.woken.items made.next made.name_state k
+  kept_next b c s t (Step.Step q) e made k = kept_step b c s t q _ e.woken.items made.next made.name_state k
 
   -- ---- a call made alone
 

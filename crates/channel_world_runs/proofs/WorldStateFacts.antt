@@ -1,65 +1,17 @@
 -- Steps of an interleaved channel, and runs of them.
-use Rattle.std.proofs.Common.{arith, ◌≡◌, ℕ, ◌+◌, ◌-◌, ◌^◌, ◌≤◌, ◌<◌, min, Bool, true, false, nat_lt, slice_index_or, List, [], ◌∷◌, ◌++◌, map, length, slice_get, vec_len, vec_capacity, Option, None, Some, ◌⊎◌, inl, inr, refl, sym, ap, ◌∙◌, subst, append_assoc}
-use Rattle.std.proofs.lemmas.List.{length-map, map-append}
-use Rattle.concurrent_queue.specs.Queue.{IsInRange}
-use Rattle.concurrent_queue.proofs.Interface.{shows}
+use Rattle.std.specs.Prelude.{◌≡◌, ◌+◌, ◌-◌, ◌^◌, ◌≤◌, ◌<◌, ◌∷◌, ◌++◌, ◌⊎◌}
+use Rattle.channel_world_runs.proofs.Lemmas.{arith, ℕ, min, Bool, true, false, nat_lt, slice_index_or, List, [], map, length, slice_get, vec_len, vec_capacity, Option, None, Some, inl, inr, refl, sym, ap, ◌∙◌, subst, append_assoc, length-map, map-append, IsInRange, shows, Parts, WaitLists, listeners, Channel, parts_of, Mark, Reply, WaitList, Call, Waiter, counted, brought_in, taken_out, IsRun, new_configuration, Begins, PartyBegins, telling, dropping, left_at, ActiveCall, Configuration, ActiveCallWitness, PartySteps, Represents, StepsAt, StepsNearer, active_call_of, after_step, all_seats, blocks_after, brought, left_by, IsBalanced, Steps as ChannelSteps, ChannelEntry, Party, asks, names_begun, on_return_of, activity_after, activity_begun, activity_of, agent_of, left_of, Observation, Owed, parties_of, agents_of, activities_of, parts_in, name_state_of, calls_in, lefts_in, AreCounted, HasOnePlace, Shown, IsQuiet, StandsIn, IsSame, LedByStep, LeadsByStep, HasPositions, HasPosition, brings, is_one_place, yet_in, WorldRefusal, nat_tests, step_refusal, first_name_table, no_places, order_begun, NameState, StepIsMade, MayRefuseStep, StopsAt, name_state_begun, name_state_ended, with_woken, channel_step, Moment, FewLeft, LeadsBy, accepted_in, left_in, moment_of, RanTo, Hears, CallUnderWay, WorldState, PartyId, Entry, Step, Sink, get-map, map-after, run_none, run_on, few_left, messages_counted, messages_moved, blocks_begun, WorldInvariant, no_accounts, next_accounts, none_read, balanced_in, has_position, in_range, brought_most, no_message, step_brings, begin_brings, yet_most, all_heard, few_woken}
 use Rattle.channel_steps.specs.solo.Run as queue
 use Rattle.channel_steps.proofs.solo.Counts.{counted_few}
 use Rattle.channel_steps.proofs.every_run.Bounds.{step_bounded}
-use Rattle.channel_calls.specs.Parts.{Parts, WaitLists, listeners}
-use Rattle.channel_calls.specs.Moves.{Channel}
-use Rattle.channel_calls.specs.Plain.{parts_of}
 use Rattle.channel_calls.specs.declared.plain.PlainChannel.{PlainChannel}
-use Rattle.channel_calls.specs.declared.mark.Mark.{Mark}
 use Rattle.channel_calls.specs.declared.mark.Mark.TheVariants.{Nothing}
-use Rattle.channel_calls.specs.declared.reply.Reply.{Reply}
-use Rattle.channel_calls.specs.declared.stage.WaitList.{WaitList}
-use Rattle.channel_world_model.specs.declared.call.Call.{Call}
-use Rattle.channel_world_model.specs.declared.name.Waiter.{Waiter}
-use Rattle.channel_steps.specs.Count.{counted, brought_in, taken_out}
-use Rattle.channel_steps.specs.Run.{IsRun, new_configuration, Begins, PartyBegins}
-use Rattle.channel_steps.specs.Tellings.{telling, dropping}
-use Rattle.channel_steps.specs.Left.{left_at}
-use Rattle.channel_steps.specs.Configuration.{ActiveCall, Configuration, ActiveCallWitness, PartySteps, Represents, StepsAt, StepsNearer, active_call_of, after_step, all_seats, blocks_after, brought, left_by, IsBalanced}
-use Rattle.channel_steps.specs.Configuration.{Steps as ChannelSteps}
-use Rattle.channel_steps.specs.declared.party.Entry.{Entry as ChannelEntry}
-use Rattle.channel_steps.specs.declared.party.Party.{Party}
-use Rattle.channel_world_runs.specs.Bookkeeping.{asks, names_begun, on_return_of}
-use Rattle.channel_world_runs.specs.Activity.{activity_after, activity_begun, activity_of}
-use Rattle.channel_world_runs.specs.Calls.{agent_of}
-use Rattle.channel_world_runs.specs.Left.{left_of}
-use Rattle.channel_world_runs.specs.Owed.{Observation, Owed}
-use Rattle.channel_world_runs.specs.WorldState.{parties_of, agents_of, activities_of, parts_in, name_state_of, calls_in, lefts_in, AreCounted, HasOnePlace, Shown, IsQuiet, StandsIn, IsSame, LedByStep, LeadsByStep, HasPositions, HasPosition}
-use Rattle.channel_world_runs.specs.Positions.{brings, is_one_place, yet_in}
-use Rattle.channel_world_model.specs.declared.refusal.WorldRefusal.{WorldRefusal}
 use Rattle.channel_world_model.specs.declared.run.Stopped.{Stopped}
-use Rattle.std.proofs.lemmas.Bool.Decides.{nat_tests}
-use Rattle.channel_world_runs.specs.Refusal.{step_refusal}
-use Rattle.channel_world_runs.specs.NameTable.{first_name_table}
-use Rattle.channel_world_runs.specs.Order.{no_places, order_begun}
-use Rattle.channel_world_runs.specs.Run.{NameState, StepIsMade, MayRefuseStep, StopsAt, name_state_begun, name_state_ended, with_woken, channel_step}
-use Rattle.channel_world_runs.specs.Runs.{Moment, FewLeft, LeadsBy, accepted_in, left_in, moment_of, RanTo}
-use Rattle.channel_world_runs.specs.Woken.{Hears}
-use Rattle.channel_world_runs.specs.declared.calls.CallUnderWay.{CallUnderWay}
-use Rattle.channel_world_runs.specs.declared.world_state.WorldState.{WorldState}
-use Rattle.channel_world_runs.specs.declared.step.PartyId.{PartyId}
-use Rattle.channel_world_runs.specs.declared.step.Entry.{Entry}
-use Rattle.channel_world_runs.specs.declared.step.Step.{Step}
-use Rattle.channel_world_runs.specs.declared.step.Step.TheVariants as step
-use Rattle.channel_world_runs.specs.declared.woken.Woken.{Woken as Sink}
-use Rattle.channel_steps.proofs.Interface.{get-map, map-after, run_none, run_on, few_left, messages_counted, messages_moved, blocks_begun}
-use Rattle.channel_world_runs.specs.WorldInvariant.{WorldInvariant}
-use Rattle.channel_world_runs.proofs.AccountFacts.{no_accounts, next_accounts}
-use Rattle.channel_world_runs.proofs.CallFacts.{none_read}
 use Rattle.channel_world_runs.proofs.WorldInvariant.{kept_first, kept_next}
 use Rattle.channel_world_runs.proofs.LeftFacts.{comes_nearer, few_of, parties_shown}
 use Rattle.channel_world_runs.proofs.ActivityFacts.{begun_noted, begun_few, stepped_noted, stepped_few}
 use Rattle.channel_world_runs.proofs.OwedFacts.{owed}
-use Rattle.channel_world_runs.proofs.ShownFacts.{balanced_in, has_position, in_range}
 use Rattle.channel_world_runs.proofs.ObservationFacts.{observation_owed, observation_same}
-use Rattle.channel_world_runs.proofs.PlaceFacts.{brought_most, no_message}
-use Rattle.channel_world_runs.proofs.PositionFacts.{step_brings, begin_brings, yet_most}
-use Rattle.channel_world_runs.proofs.WokenFacts.{all_heard, few_woken}
 
 module _ {T : Type 0} where
   -- ---- the calls under way
@@ -146,8 +98,8 @@ module _ {T : Type 0} where
       → e.mark ≡ Nothing → e.reply ≡ None → e.woken.items ≡ []
       → new.channel ≡ old.channel → new.name_table ≡ names_begun old.name_table c → new.order ≡ order_begun c old.order
       → new.messages ≡ old.messages → new.accepted ≡ old.accepted → new.has_one_place ≡ old.has_one_place
-      → HasPosition c old → step_refusal old.name_table (agents_of old) (step.Begin p c) ≡ None
-      → LeadsByStep (step.Begin p c) old e new
+      → HasPosition c old → step_refusal old.name_table (agents_of old) (Step.Begin p c) ≡ None
+      → LeadsByStep (Step.Begin p c) old e new
   has_begun p c old new e x h agent noted calls mark reply woken same names order messages counts place room fine s sh =
       let entry : ChannelEntry T = record { mark = Nothing; reply = None; kept = None } in
       let b = h (parties_of old) (parts_in old) s sh.shows in
@@ -232,8 +184,8 @@ module _ {T : Type 0} where
       → name_state_of new ≡ name_state_ended k (agent_of c) e.reply (left_by d.party e.reply) (with_woken full.names.items (name_state_of old))
       → new.messages ≡ counted old.messages e.mark → came ≡ brought_in e.mark
       → new.accepted ≡ min (old.accepted + came) (2 ^ 64 - 1) → new.has_one_place ≡ old.has_one_place
-      → step_refusal old.name_table (agents_of old) (step.Step p) ≡ None
-      → LeadsByStep (step.Step p) old e new
+      → step_refusal old.name_table (agents_of old) (Step.Step p) ≡ None
+      → LeadsByStep (Step.Step p) old e new
   has_stepped p k n came c d old new empty full e there whose steps mark active calls none most room woken ended messages
       brought counts place fine s sh =
       let entry : ChannelEntry T = record { mark = e.mark; reply = e.reply; kept = left_by d.party e.reply } in
@@ -334,7 +286,7 @@ module _ {T : Type 0} where
   next_numbers : (x : Step T) (b c : NameState T) (s t : Configuration T Waiter) (e : Entry T) → StepIsMade b s x e c t → IsBalanced s.now.queue
       → IsBalanced t.now.queue
       → length t.now.queue.items + taken_out e.mark ≡ length s.now.queue.items + brought_in e.mark
-  next_numbers (step.Begin p call) b c s t e made before after =
+  next_numbers (Step.Begin p call) b c s t e made before after =
       let n = made.next.0 in
       let mark : e.mark ≡ Nothing = ap (λ (y : ChannelEntry T). y.mark) n.entry in
       let same : length t.now.queue.items ≡ length s.now.queue.items =
@@ -342,7 +294,7 @@ module _ {T : Type 0} where
       let none : taken_out e.mark ≡ 0 = ap taken_out mark in
       let nothing : brought_in e.mark ≡ 0 = ap brought_in mark in
       omega (arith, same, none, nothing)
-  next_numbers (step.Step p) b c s t e made before after = messages_moved s p.0 _ e.woken.items t made.next before after
+  next_numbers (Step.Step p) b c s t e made before after = messages_moved s p.0 _ e.woken.items t made.next before after
 
   -- ---- runs
 

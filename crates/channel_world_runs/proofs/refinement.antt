@@ -1,4 +1,3 @@
-pub mod Words
 pub mod Names
 pub mod Entries
 pub mod Telling

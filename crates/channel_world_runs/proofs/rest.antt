@@ -1,4 +1,3 @@
-pub mod Words
 pub mod Names
 pub mod Lists
 pub mod Woken

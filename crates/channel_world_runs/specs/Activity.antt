@@ -1,16 +1,8 @@
 -- What calls under way are to those that wait, and what they have done so far.
-use Rattle.std.specs.Prelude.{◌+◌, ◌-◌, ◌^◌, min, Bool, true, false, ◌||◌, List, [], ◌∷◌}
-use Rattle.channel_calls.specs.declared.ask.ChannelAsk.{ChannelAsk}
-use Rattle.channel_calls.specs.declared.ask.ChannelAsk.TheVariants as ask
+use Rattle.std.specs.Prelude.{◌+◌, ◌-◌, ◌^◌, ◌||◌, ◌∷◌}
+use Rattle.channel_world_runs.specs.Words.{min, Bool, true, false, List, [], ChannelAsk, Sends, Receives, MarkedMoment, ActiveCall, takings, Activity, Role, Sending, Receiving, Other}
 use Rattle.channel_calls.specs.declared.mark.Mark.{Mark}
 use Rattle.channel_calls.specs.declared.mark.Mark.TheVariants.{Take, Close}
-use Rattle.channel_calls.specs.declared.stage.WaitList.TheVariants.{Sends, Receives}
-use Rattle.channel_steps.specs.Moments.{MarkedMoment}
-use Rattle.channel_steps.specs.Configuration.{ActiveCall}
-use Rattle.channel_steps.specs.Tellings.{takings}
-use Rattle.channel_world_runs.specs.declared.activity.Activity.{Activity}
-use Rattle.channel_world_runs.specs.declared.activity.Role.{Role}
-use Rattle.channel_world_runs.specs.declared.activity.Role.TheVariants.{Sending, Receiving, Other}
 
 -- the same call after a step with this mark
 abbrev pub activity_after : Mark → Activity → Activity
@@ -26,18 +18,18 @@ module _ {T W : Type 0} where
   -- A send, a displacing send, and a poll or the giving up of a send are sending; a receive of one message or of several, a poll
   -- of a stream, and a poll or the giving up of a receive are receiving.
   abbrev pub role_of : ChannelAsk T W → Role
-  role_of (ask.TrySend m) = Sending
-  role_of (ask.ForceSend m) = Sending
-  role_of (ask.PollSend m key task) = Sending
-  role_of ask.PollFinishedSend = Sending
-  role_of (ask.RefusePoll Sends message key) = Sending
-  role_of (ask.GiveUp Sends message key) = Sending
-  role_of ask.TryRecv = Receiving
-  role_of (ask.RecvMany n) = Receiving
-  role_of (ask.PollNext key task) = Receiving
-  role_of (ask.PollRecv key task) = Receiving
-  role_of (ask.RefusePoll Receives message key) = Receiving
-  role_of (ask.GiveUp Receives message key) = Receiving
+  role_of (ChannelAsk.TrySend m) = Sending
+  role_of (ChannelAsk.ForceSend m) = Sending
+  role_of (ChannelAsk.PollSend m key task) = Sending
+  role_of ChannelAsk.PollFinishedSend = Sending
+  role_of (ChannelAsk.RefusePoll Sends message key) = Sending
+  role_of (ChannelAsk.GiveUp Sends message key) = Sending
+  role_of ChannelAsk.TryRecv = Receiving
+  role_of (ChannelAsk.RecvMany n) = Receiving
+  role_of (ChannelAsk.PollNext key task) = Receiving
+  role_of (ChannelAsk.PollRecv key task) = Receiving
+  role_of (ChannelAsk.RefusePoll Receives message key) = Receiving
+  role_of (ChannelAsk.GiveUp Receives message key) = Receiving
   role_of a = Other
 
   -- a call that has made no step

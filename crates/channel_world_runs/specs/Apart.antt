@@ -1,8 +1,6 @@
 -- No name stands twice.
-use Rattle.std.specs.Prelude.{nat_eq}
+use Rattle.channel_world_runs.specs.Words.{nat_eq, keys_of, NameTable}
 use Rattle.std.specs.List.{IsDistinct}
-use Rattle.std.specs.Map.{keys_of}
-use Rattle.channel_world_runs.specs.declared.name_table.NameTable.{NameTable}
 
 -- of all that were ever taken, no handle's and no operation's
 pub record AreApart {T : Type 0} (r : NameTable T) : Type 0 where

@@ -1,39 +1,15 @@
 -- What a call asks as it begins, what it does to the names then, and what it writes back at its end.
-use Rattle.std.specs.Prelude.{◌≡◌, Bool, true, false, is_some, Option, None, Some}
-use Rattle.std.specs.Option.{option_map_or}
-use Rattle.channel_calls.specs.declared.ask.ChannelAsk.{ChannelAsk}
-use Rattle.channel_calls.specs.declared.ask.ChannelAsk.TheVariants as ask
-use Rattle.channel_calls.specs.declared.reply.Reply.{Reply}
-use Rattle.channel_calls.specs.declared.reply.Reply.TheVariants as reply
-use Rattle.channel_calls.specs.declared.stage.Returned.{Returned}
-use Rattle.channel_world_model.specs.Asked.{asked, clone_asked, upgrade_asked}
-use Rattle.channel_world_model.specs.Names.{at, borrowed_by, own_message, with_message, new_operation, with_spent, with_changed, without_name}
-use Rattle.channel_world_model.specs.declared.call.Call.{Call}
-use Rattle.channel_world_model.specs.declared.call.Call.TheVariants as call
-use Rattle.channel_world_model.specs.declared.name.Handle.{Handle}
-use Rattle.channel_world_model.specs.declared.name.HandleId.{HandleId}
-use Rattle.channel_world_model.specs.declared.name.HandleKind.{HandleKind}
-use Rattle.channel_world_model.specs.declared.name.OpId.{OpId}
-use Rattle.channel_world_model.specs.declared.name.Operation.{Operation}
-use Rattle.channel_world_model.specs.declared.name.Waiter.{Waiter}
+use Rattle.std.specs.Prelude.{◌≡◌}
+use Rattle.channel_world_runs.specs.Words.{Bool, true, false, is_some, Option, None, Some, option_map_or, ChannelAsk, Reply, Returned, asked, clone_asked, upgrade_asked, at, borrowed_by, own_message, with_message, new_operation, with_spent, with_changed, without_name, Call, Handle, HandleId, HandleKind, OpId, Operation, Waiter, kin, plan_of, Begun, OnReturn, OperationEntry, Rests, IsPolled, NameTable, Plan}
 use Rattle.channel_world_runs.specs.NameTable.{poll_state_with, is_done, unused, names_of, held_of, with_lent, with_given_back, with_borrowed, with_handed_over, with_poll_state}
-use Rattle.channel_world_model.specs.Plan.{kin, plan_of}
-use Rattle.channel_world_runs.specs.declared.beginning.Begun.{Begun}
-use Rattle.channel_world_runs.specs.declared.names.OnReturn.{OnReturn}
 use Rattle.channel_world_runs.specs.declared.names.OnReturn.TheVariants.{Nothing, Leave, LeaveBoth, Make, Poll, PollNext, New}
-use Rattle.channel_world_runs.specs.declared.names.OperationEntry.{OperationEntry}
-use Rattle.channel_world_runs.specs.declared.names.PollState.TheVariants.{Rests, IsPolled}
-use Rattle.channel_world_runs.specs.declared.name_table.NameTable.{NameTable}
 use Rattle.channel_world_model.specs.declared.plan.Kinship.{Kinship}
-use Rattle.channel_world_model.specs.declared.plan.Kinship.TheVariants as kinship
-use Rattle.channel_world_model.specs.declared.plan.Plan.{Plan}
-use Rattle.channel_world_model.specs.declared.plan.Plan.TheVariants as plan
 
 -- whether a call of this plan brings nothing but names of what lives
 abbrev pub is_named : Plan → Bool
-is_named (plan.Through wanted handle) = false
-is_named (plan.Makes wanted handle op kind) = false
-is_named (plan.Mints wanted from new to) = false
+is_named (Plan.Through wanted handle) = false
+is_named (Plan.Makes wanted handle op kind) = false
+is_named (Plan.Mints wanted from new to) = false
 is_named p = true
 
 module _ {T : Type 0} where
@@ -41,7 +17,7 @@ module _ {T : Type 0} where
 
   -- what a call asks when it is alone; but a send whose message is with a poll under way has not finished
   abbrev pub asks : NameTable T → Call T → ChannelAsk T Waiter
-  asks r (call.SendIsTerminated op) = ask.SendIsTerminated (option_map_or is_done (at op.0 r.operations) false)
+  asks r (Call.SendIsTerminated op) = ChannelAsk.SendIsTerminated (option_map_or is_done (at op.0 r.operations) false)
   asks r c = asked (held_of r) (names_of r) c
 
   -- an operation that was never polled
@@ -60,20 +36,20 @@ module _ {T : Type 0} where
 
   -- the message of a new send
   abbrev pub new_message : Call T → Option T
-  new_message (call.NewSend op sender msg) = Some msg
+  new_message (Call.NewSend op sender msg) = Some msg
   new_message c = None
 
   -- what a call of this plan has to write back; a new operation has this message
   abbrev pub returns : NameTable T → Option T → Plan → OnReturn T
-  returns r m (plan.Through wanted handle) = Leave handle
-  returns r m (plan.ThroughBoth a b) = LeaveBoth a b
-  returns r m (plan.Makes wanted handle op kind) = Make op (unpolled (new_operation kind handle m))
-  returns r m (plan.Polls op) = Poll op
-  returns r m (plan.GivesUp op) = leave_handle_of (at op.0 r.operations)
-  returns r m (plan.Asks op) = leave_handle_of (at op.0 r.operations)
-  returns r m (plan.Streams receiver) = PollNext receiver
-  returns r m (plan.Drops handle) = Nothing
-  returns r m (plan.Mints wanted from new to) = new_from from new (kin to) (at from.0 (names_of r).handles)
+  returns r m (Plan.Through wanted handle) = Leave handle
+  returns r m (Plan.ThroughBoth a b) = LeaveBoth a b
+  returns r m (Plan.Makes wanted handle op kind) = Make op (unpolled (new_operation kind handle m))
+  returns r m (Plan.Polls op) = Poll op
+  returns r m (Plan.GivesUp op) = leave_handle_of (at op.0 r.operations)
+  returns r m (Plan.Asks op) = leave_handle_of (at op.0 r.operations)
+  returns r m (Plan.Streams receiver) = PollNext receiver
+  returns r m (Plan.Drops handle) = Nothing
+  returns r m (Plan.Mints wanted from new to) = new_from from new (kin to) (at from.0 (names_of r).handles)
 
   -- what a call has to write back
   abbrev pub on_return_of : NameTable T → Call T → OnReturn T
@@ -107,15 +83,15 @@ module _ {T : Type 0} where
   -- the names once a call of this plan has begun: what it makes has its name, and an operation borrows its handle, what it polls is
   -- lent to it, what it gives up or drops lives no more, and the handles that it goes through are in use
   abbrev pub names_planned : Plan → NameTable T → NameTable T
-  names_planned (plan.Through wanted handle) r = with_lent handle r
-  names_planned (plan.ThroughBoth a b) r = with_lent b (with_lent a r)
-  names_planned (plan.Makes wanted handle op kind) r = with_borrowed handle (operation_named op r)
-  names_planned (plan.Polls op) r = with_operation lent_to_poll op r
-  names_planned (plan.GivesUp op) r = handed_over_by (at op.0 r.operations) (record r { operations = without_name op.0 r.operations })
-  names_planned (plan.Asks op) r = lent_by (at op.0 r.operations) r
-  names_planned (plan.Streams receiver) r = with_lent receiver (with_poll_state (IsPolled false) receiver r)
-  names_planned (plan.Drops handle) r = record r { handles = without_name handle.0 r.handles }
-  names_planned (plan.Mints wanted from new to) r = with_lent from (handle_named new r)
+  names_planned (Plan.Through wanted handle) r = with_lent handle r
+  names_planned (Plan.ThroughBoth a b) r = with_lent b (with_lent a r)
+  names_planned (Plan.Makes wanted handle op kind) r = with_borrowed handle (operation_named op r)
+  names_planned (Plan.Polls op) r = with_operation lent_to_poll op r
+  names_planned (Plan.GivesUp op) r = handed_over_by (at op.0 r.operations) (record r { operations = without_name op.0 r.operations })
+  names_planned (Plan.Asks op) r = lent_by (at op.0 r.operations) r
+  names_planned (Plan.Streams receiver) r = with_lent receiver (with_poll_state (IsPolled false) receiver r)
+  names_planned (Plan.Drops handle) r = record r { handles = without_name handle.0 r.handles }
+  names_planned (Plan.Mints wanted from new to) r = with_lent from (handle_named new r)
 
   -- once a call has begun
   abbrev pub names_begun : NameTable T → Call T → NameTable T
@@ -129,9 +105,9 @@ module _ {T : Type 0} where
 
   -- what the making of a handle from another asks; a weak one is not counted
   abbrev pub mint_asked : Kinship → Option Handle → ChannelAsk T Waiter
-  mint_asked kinship.Own h = clone_asked h
-  mint_asked kinship.Weak h = ask.Make
-  mint_asked kinship.Strong h = upgrade_asked h
+  mint_asked Kinship.Own h = clone_asked h
+  mint_asked Kinship.Weak h = ChannelAsk.Make
+  mint_asked Kinship.Strong h = upgrade_asked h
 
   -- a call has begun
   pub record BeginsByName (old : NameTable T) (c : Call T) (begun : Begun T) (new : NameTable T) : Type 0 where
@@ -147,7 +123,7 @@ module _ {T : Type 0} where
 
   -- a handle of this kind lives under the name, if the reply says that it was made
   abbrev pub installed : HandleId → HandleKind → Reply T → NameTable T → NameTable T
-  installed new kind reply.Made r = record r { handles = with_changed new.0 (unused kind) r.handles }
+  installed new kind Reply.Made r = record r { handles = with_changed new.0 (unused kind) r.handles }
   installed new kind x r = r
 
   -- the names after a call that gave this reply and left this

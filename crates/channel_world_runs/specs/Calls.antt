@@ -1,7 +1,6 @@
 -- The calls under way by name, and what the names see of them.
-use Rattle.std.specs.Prelude.{◌≡◌, ℕ, List, slice_get, Some}
-use Rattle.channel_world_runs.specs.declared.calls.CallUnderWay.{CallUnderWay}
-use Rattle.channel_world_runs.specs.declared.names.OnReturn.{OnReturn}
+use Rattle.std.specs.Prelude.{◌≡◌}
+use Rattle.channel_world_runs.specs.Words.{ℕ, List, slice_get, Some, CallUnderWay, OnReturn}
 
 -- a party with a call under way, and what that has to write back
 pub record Agent (T : Type 0) : Type 0 where

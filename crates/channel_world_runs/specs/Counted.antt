@@ -1,25 +1,10 @@
 -- What the counts of senders and receivers count: the strong handles that live, and the calls under way that are to lower them.
-use Rattle.std.specs.Prelude.{◌≡◌, ◌⊎◌, ℕ, ◌+◌, ◌≤◌, Bool, true, false, cond, List, [], ◌∷◌, map, Option, None, Some}
-use Rattle.channel_calls.specs.Parts.{count}
-use Rattle.channel_calls.specs.declared.stage.Purpose.TheVariants as purpose
-use Rattle.channel_calls.specs.declared.stage.Closer.{Closer}
-use Rattle.channel_calls.specs.declared.stage.Closer.TheVariants as closer
+use Rattle.std.specs.Prelude.{◌≡◌, ◌⊎◌, ◌+◌, ◌≤◌, ◌∷◌}
+use Rattle.channel_world_runs.specs.Words.{ℕ, Bool, true, false, cond, List, [], map, Option, None, Some, count, Closer, Senders, Receivers, Stage, Trying, Working, Lower, Load, Raise, Directory, HandleKind, Waiter, Open, ActiveCall, Configuration, OnReturn, HandleEntry, Purpose}
 use Rattle.channel_calls.specs.declared.stage.Side.{Side}
-use Rattle.channel_calls.specs.declared.stage.Side.TheVariants.{Senders, Receivers}
-use Rattle.channel_calls.specs.declared.stage.Stage.{Stage}
-use Rattle.channel_calls.specs.declared.stage.Stage.TheVariants.{Trying, Working}
-use Rattle.channel_calls.specs.declared.stage.ListStep.TheVariants.{Lower, Load, Raise}
-use Rattle.channel_world_model.specs.Names.{Directory}
-use Rattle.channel_world_model.specs.declared.name.HandleKind.{HandleKind}
 use Rattle.channel_world_model.specs.declared.name.HandleKind.TheVariants.{Sender, Receiver}
-use Rattle.channel_world_model.specs.declared.name.Waiter.{Waiter}
-use Rattle.channel_steps.specs.Moments.{Open}
-use Rattle.channel_steps.specs.Configuration.{ActiveCall, Configuration}
 use Rattle.channel_world_runs.specs.Run.{NameState}
 use Rattle.channel_world_runs.specs.Calls.{Agent}
-use Rattle.channel_world_runs.specs.declared.names.OnReturn.{OnReturn}
-use Rattle.channel_world_runs.specs.declared.names.OnReturn.TheVariants as on_return
-use Rattle.channel_world_runs.specs.declared.names.HandleEntry.{HandleEntry}
 
 -- how many of these pass
 abbrev pub tally : {X : Type 0} → (X → Bool) → List X → ℕ
@@ -52,8 +37,8 @@ same_side a b = false
 
 -- the drop of the last handle of this side closes, and not another call
 abbrev pub is_last_of : Side → Closer → Bool
-is_last_of Senders closer.Sender = true
-is_last_of Receivers (closer.Receiver key) = true
+is_last_of Senders Closer.Sender = true
+is_last_of Receivers (Closer.Receiver key) = true
 is_last_of side c = false
 
 module _ {Q T W : Type 0} where
@@ -64,12 +49,12 @@ module _ {Q T W : Type 0} where
 
   -- the drop of the last one, which has lowered the count to nothing and is to close the channel
   abbrev pub is_closing : Side → Stage Q T W → Bool
-  is_closing side (Trying q (purpose.Close c)) = is_last_of side c
+  is_closing side (Trying q (Purpose.Close c)) = is_last_of side c
   is_closing side at = false
 
   -- a clone or an upgrade that may yet raise the count, in the step that ends it
   abbrev pub is_raising : Side → Stage Q T W → Bool
-  is_raising side (Trying q (purpose.Upgrade s)) = same_side side s
+  is_raising side (Trying q (Purpose.Upgrade s)) = same_side side s
   is_raising side (Working (Load s making)) = same_side side s
   is_raising side (Working (Raise s n making)) = same_side side s
   is_raising side at = false
@@ -79,7 +64,7 @@ module _ {Q T W : Type 0} where
 module _ {T : Type 0} where
   -- a call whose handle, if it is made, is a strong one of this side
   abbrev pub makes_strong : Side → OnReturn T → Bool
-  makes_strong side (on_return.New from new kind) = is_strong side kind
+  makes_strong side (OnReturn.New from new kind) = is_strong side kind
   makes_strong side e = false
 
   -- A count is the number of strong handles of its side that live, with that of the drops under way that are to lower it. While

@@ -1,10 +1,6 @@
 -- How many more steps of its own the call of a party makes at most, if the others are quiet.
-use Rattle.std.specs.Prelude.{ℕ, ◌==◌, List, [], ◌∷◌, if◌then◌else◌}
-use Rattle.channel_calls.specs.Parts.{Parts}
-use Rattle.channel_world_model.specs.declared.name.Waiter.{Waiter}
-use Rattle.channel_steps.specs.Left.{party_left, most_wanted}
-use Rattle.channel_steps.specs.Configuration.{ActiveCall}
-use Rattle.channel_steps.specs.declared.party.Party.{Party}
+use Rattle.std.specs.Prelude.{◌==◌, ◌∷◌, if◌then◌else◌}
+use Rattle.channel_world_runs.specs.Words.{ℕ, List, [], Parts, Waiter, party_left, most_wanted, ActiveCall, Party}
 
 module _ {T : Type 0} where
   -- the calls under way but that of this party

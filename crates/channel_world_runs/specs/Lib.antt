@@ -1,3 +1,4 @@
+pub mod Words
 pub mod Activity
 pub mod Calls
 pub mod NameTable

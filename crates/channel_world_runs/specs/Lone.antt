@@ -1,15 +1,10 @@
 -- A call made alone, from its beginning to its end, by names.
-use Rattle.std.specs.Prelude.{◌≡◌, ◌≤◌, ◌+◌, ◌-◌, ◌^◌, ℕ, min, Bool, false, List, [], drop, length}
+use Rattle.std.specs.Prelude.{◌≡◌, ◌≤◌, ◌+◌, ◌-◌, ◌^◌}
+use Rattle.channel_world_runs.specs.Words.{ℕ, min, Bool, false, List, [], drop, length, Reply, Returned, Outcome, Alone, Call, Waiter, Done, Configuration, Begun, NameTable}
+use Rattle.channel_world_runs.specs.declared.world_state.WorldState.{WorldState}
 use Rattle.std.specs.Global.{Vec}
-use Rattle.channel_calls.specs.declared.reply.Reply.{Reply}
-use Rattle.channel_calls.specs.declared.stage.Returned.{Returned}
-use Rattle.channel_steps.specs.solo.Alone.{Outcome, Alone}
 use Rattle.channel_steps.specs.solo.Ample.{lacks_memory, HasNode}
 use Rattle.channel_steps.specs.solo.Configurations.{LoneRun, RunsInConfigurations}
-use Rattle.channel_world_model.specs.declared.call.Call.{Call}
-use Rattle.channel_world_model.specs.declared.name.Waiter.{Waiter}
-use Rattle.channel_world_model.specs.declared.run.Done.{Done}
-use Rattle.channel_steps.specs.Configuration.{Configuration}
 use Rattle.channel_world_runs.specs.Bookkeeping.{asks, on_return_of, names_begun, written_back}
 use Rattle.channel_world_runs.specs.WorldState.{name_state_of, parts_in, HasPositions, Shown}
 use Rattle.channel_world_runs.specs.WorldInvariant.{WorldInvariant}
@@ -17,9 +12,6 @@ use Rattle.channel_world_runs.specs.Order.{WakeOrder, all_woken, order_begun, or
 use Rattle.channel_world_runs.specs.Positions.{accepted_by, brings}
 use Rattle.channel_world_runs.specs.Run.{NameState}
 use Rattle.channel_world_runs.specs.Woken.{Hears}
-use Rattle.channel_world_runs.specs.declared.beginning.Begun.{Begun}
-use Rattle.channel_world_runs.specs.declared.world_state.WorldState.{WorldState}
-use Rattle.channel_world_runs.specs.declared.name_table.NameTable.{NameTable}
 
 module _ {T : Type 0} where
   -- the names after a call that gave this reply and left this

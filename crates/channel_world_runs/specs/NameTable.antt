@@ -1,23 +1,7 @@
 -- What lives under which name.
-use Rattle.std.specs.Prelude.{ℕ, ◌+◌, ◌-◌, ◌^◌, min, Bool, true, false, not, nat_eq, List, [], ◌∷◌, map, Option, None, Some, is_some}
-use Rattle.std.specs.List.{list_any}
-use Rattle.std.specs.Option.{option_map, option_map_or}
-use Rattle.event_listener.specs.declared.key.Key.{Key}
-use Rattle.channel_world_model.specs.Asked.{KeysHeld}
-use Rattle.channel_world_model.specs.Names.{Directory, Names, at, with_changed}
-use Rattle.channel_world_model.specs.declared.name.HandleId.{HandleId}
-use Rattle.channel_world_model.specs.declared.name.HandleKind.{HandleKind}
-use Rattle.channel_world_model.specs.declared.name.HandleKind.TheVariants as handle_kind
-use Rattle.channel_world_model.specs.declared.name.Operation.{Operation}
-use Rattle.channel_world_model.specs.declared.name.Operation.TheVariants as live
-use Rattle.channel_world_model.specs.declared.name.Waiter.{Waiter}
-use Rattle.channel_world_model.specs.declared.name.Waiter.TheVariants.{Op, Stream}
+use Rattle.std.specs.Prelude.{◌+◌, ◌-◌, ◌^◌, ◌∷◌}
+use Rattle.channel_world_runs.specs.Words.{ℕ, min, Bool, true, false, not, nat_eq, List, [], map, Option, None, Some, is_some, list_any, option_map, option_map_or, Key, KeysHeld, Directory, Names, at, with_changed, HandleId, HandleKind, Operation, Waiter, Op, Stream, HandleEntry, OperationEntry, PollState, Rests, Waits, IsPolled, NameTable}
 use Rattle.channel_world_runs.specs.Calls.{Agent}
-use Rattle.channel_world_runs.specs.declared.names.HandleEntry.{HandleEntry}
-use Rattle.channel_world_runs.specs.declared.names.OperationEntry.{OperationEntry}
-use Rattle.channel_world_runs.specs.declared.names.PollState.{PollState}
-use Rattle.channel_world_runs.specs.declared.names.PollState.TheVariants.{Rests, Waits, IsPolled}
-use Rattle.channel_world_runs.specs.declared.name_table.NameTable.{NameTable}
 
 -- ---- standings
 
@@ -46,7 +30,7 @@ is_lent s = false
 module _ {T : Type 0} where
   -- a send is finished whose message is gone, and that no poll under way has
   abbrev pub has_finished : Operation T → PollState → Bool
-  has_finished (live.Send handle None) s = not (is_lent s)
+  has_finished (Operation.Send handle None) s = not (is_lent s)
   has_finished operation s = false
 
   abbrev pub is_done : OperationEntry T → Bool
@@ -59,7 +43,7 @@ abbrev pub unused : HandleKind → HandleEntry
 unused kind = record { handle = record { kind = kind; borrowers = 0 }; users = 0; poll_state = Rests }
 
 abbrev pub first_handles : Directory HandleEntry
-first_handles = (1, Some (unused handle_kind.Receiver)) ∷ (0, Some (unused handle_kind.Sender)) ∷ []
+first_handles = (1, Some (unused HandleKind.Receiver)) ∷ (0, Some (unused HandleKind.Sender)) ∷ []
 
 -- one more call under way uses it, or one fewer
 abbrev pub used_more : HandleEntry → HandleEntry

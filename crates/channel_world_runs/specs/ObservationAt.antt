@@ -1,9 +1,6 @@
 -- What a moment shows of those that are pending, and of the calls under way that are responsible for them.
-use Rattle.std.specs.Prelude.{ℕ, ◌+◌, List, [], ◌∷◌, length}
-use Rattle.std.specs.List.{count_by}
-use Rattle.channel_world_model.specs.declared.name.Waiter.{Waiter}
-use Rattle.channel_steps.specs.Configuration.{ActiveCall, Configuration}
-use Rattle.channel_steps.specs.Tellings.{Telling, takings}
+use Rattle.std.specs.Prelude.{◌+◌, ◌∷◌}
+use Rattle.channel_world_runs.specs.Words.{ℕ, List, [], length, count_by, Waiter, ActiveCall, Configuration, Telling, takings}
 use Rattle.channel_world_runs.specs.Activity.{role_of, any_close}
 use Rattle.channel_world_runs.specs.Owed.{Observation, is_sending, is_receiving}
 use Rattle.channel_world_runs.specs.Run.{NameState}

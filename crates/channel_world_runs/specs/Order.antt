@@ -1,17 +1,7 @@
 -- The order of waking. Each name that may be woken has a place, and one that is woken comes last.
-use Rattle.std.specs.Prelude.{Bool, List, [], ◌∷◌, ◌++◌, if◌then◌else◌, Option, None, Some}
-use Rattle.event_listener.specs.declared.key.Key.{Key}
-use Rattle.channel_world_model.specs.Lines.{is_among, without_waiter}
-use Rattle.channel_world_model.specs.declared.call.Call.{Call}
-use Rattle.channel_world_model.specs.declared.name.Waiter.{Waiter}
-use Rattle.channel_world_model.specs.declared.name.Waiter.TheVariants.{Op, Stream}
-use Rattle.channel_world_model.specs.Plan.{plan_of}
+use Rattle.std.specs.Prelude.{◌∷◌, ◌++◌, if◌then◌else◌}
+use Rattle.channel_world_runs.specs.Words.{Bool, List, [], Option, None, Some, Key, is_among, without_waiter, Call, Waiter, Op, Stream, plan_of, NameTable, OnReturn, Plan}
 use Rattle.channel_world_runs.specs.NameTable.{is_name_pending}
-use Rattle.channel_world_runs.specs.declared.name_table.NameTable.{NameTable}
-use Rattle.channel_world_runs.specs.declared.names.OnReturn.{OnReturn}
-use Rattle.channel_world_runs.specs.declared.names.OnReturn.TheVariants as on_return
-use Rattle.channel_world_model.specs.declared.plan.Plan.{Plan}
-use Rattle.channel_world_model.specs.declared.plan.Plan.TheVariants as plan
 
 -- the names that have a place, and those that were woken, in the order of their waking
 pub record WakeOrder : Type 0 where
@@ -50,10 +40,10 @@ kept_place w (Some key) o = o
 
 -- once a call of this plan has begun: a name that is polled has a place, and one that is given up or dropped has none
 abbrev pub order_planned : Plan → WakeOrder → WakeOrder
-order_planned (plan.Polls op) o = placed (Op op) o
-order_planned (plan.Streams receiver) o = placed (Stream receiver) o
-order_planned (plan.GivesUp op) o = without_place (Op op) o
-order_planned (plan.Drops handle) o = without_place (Stream handle) o
+order_planned (Plan.Polls op) o = placed (Op op) o
+order_planned (Plan.Streams receiver) o = placed (Stream receiver) o
+order_planned (Plan.GivesUp op) o = without_place (Op op) o
+order_planned (Plan.Drops handle) o = without_place (Stream handle) o
 order_planned p o = o
 
 module _ {T : Type 0} where
@@ -68,6 +58,6 @@ module _ {T : Type 0} where
 
   -- after a call with this to write back that left this listener, or none
   abbrev pub order_settled : OnReturn T → Option Key → WakeOrder → WakeOrder
-  order_settled (on_return.Poll op) key o = kept_place (Op op) key o
-  order_settled (on_return.PollNext receiver) key o = kept_place (Stream receiver) key o
+  order_settled (OnReturn.Poll op) key o = kept_place (Op op) key o
+  order_settled (OnReturn.PollNext receiver) key o = kept_place (Stream receiver) key o
   order_settled e key o = o

@@ -1,23 +1,10 @@
 -- The wake-ups owed to those that are pending and were not woken since their last poll, of a world as it is.
-use Rattle.std.specs.Prelude.{◌≡◌, ℕ, ◌+◌, ◌≤◌, ◌<◌, Bool, true, false, List, [], ◌∷◌, Option}
-use Rattle.std.specs.List.{count_by}
+use Rattle.std.specs.Prelude.{◌≡◌, ◌+◌, ◌≤◌, ◌<◌, ◌∷◌}
+use Rattle.channel_world_runs.specs.Words.{ℕ, Bool, true, false, List, [], Option, count_by, Key, WaitList, Sends, Receives, Streams, Stage, Working, Leave, is_line, line_at, Waiter, Activity, Role, Sending, Receiving, CallUnderWay, NameTable}
 use Rattle.concurrent_queue.specs.declared.queue_call.QueueCall.{QueueCall}
-use Rattle.event_listener.specs.declared.key.Key.{Key}
-use Rattle.channel_calls.specs.declared.stage.WaitList.{WaitList}
-use Rattle.channel_calls.specs.declared.stage.WaitList.TheVariants.{Sends, Receives, Streams}
-use Rattle.channel_calls.specs.declared.stage.Stage.{Stage}
-use Rattle.channel_calls.specs.declared.stage.Stage.TheVariants.{Working}
-use Rattle.channel_calls.specs.declared.stage.ListStep.TheVariants.{Leave}
-use Rattle.channel_world_model.specs.Laws.{is_line, line_at}
-use Rattle.channel_world_model.specs.declared.name.Waiter.{Waiter}
 use Rattle.channel_steps.specs.every_run.Sends.{HasPlaces}
 use Rattle.channel_world_runs.specs.NameTable.{names_of}
 use Rattle.channel_world_runs.specs.Owners.{IsAmong, waits, status}
-use Rattle.channel_world_runs.specs.declared.activity.Activity.{Activity}
-use Rattle.channel_world_runs.specs.declared.activity.Role.{Role}
-use Rattle.channel_world_runs.specs.declared.activity.Role.TheVariants.{Sending, Receiving}
-use Rattle.channel_world_runs.specs.declared.calls.CallUnderWay.{CallUnderWay}
-use Rattle.channel_world_runs.specs.declared.name_table.NameTable.{NameTable}
 
 -- ---- the calls under way
 

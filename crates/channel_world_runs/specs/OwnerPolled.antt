@@ -1,7 +1,6 @@
 -- Which names are polled, by which calls.
-use Rattle.std.specs.Prelude.{◌≡◌, Some}
-use Rattle.channel_calls.specs.declared.stage.WaitList.{WaitList}
-use Rattle.channel_world_model.specs.declared.name.Waiter.{Waiter}
+use Rattle.std.specs.Prelude.{◌≡◌}
+use Rattle.channel_world_runs.specs.Words.{Some, WaitList, Waiter}
 use Rattle.channel_world_runs.specs.Owners.{IsAmong, polled, status, subject}
 use Rattle.channel_world_runs.specs.Run.{NameState}
 use Rattle.channel_world_runs.specs.Calls.{Agent}

@@ -1,12 +1,6 @@
 -- A name that was woken is told, and one that wasn't waits to be woken under its own name.
-use Rattle.std.specs.Prelude.{◌≡◌, List, Some, ◌⊎◌}
-use Rattle.std.specs.Map.{keys_of}
-use Rattle.channel_calls.specs.Moves.{Channel}
-use Rattle.channel_calls.specs.Parts.{listeners}
-use Rattle.channel_calls.specs.declared.stage.ListenerRef.{ListenerRef}
-use Rattle.channel_calls.specs.declared.stage.WaitList.{WaitList}
-use Rattle.channel_world_model.specs.declared.name.Waiter.{Waiter}
-use Rattle.channel_steps.specs.Configuration.{ActiveCall, Configuration}
+use Rattle.std.specs.Prelude.{◌≡◌, ◌⊎◌}
+use Rattle.channel_world_runs.specs.Words.{List, Some, keys_of, Channel, listeners, ListenerRef, WaitList, Waiter, ActiveCall, Configuration}
 use Rattle.channel_world_runs.specs.Owners.{IsAmong, NoneTwice, All, NameStatus, retired, polled, waits, status, holding, subject, WaitsToWake, AnyOf}
 use Rattle.channel_world_runs.specs.Run.{NameState}
 use Rattle.channel_world_runs.specs.Calls.{Agent}

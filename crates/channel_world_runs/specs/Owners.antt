@@ -1,41 +1,8 @@
 -- What holds each listener: what is pending, by its name, or one call under way.
-use Rattle.std.specs.Prelude.{◌≡◌, ℕ, nat_eq, List, [], ◌∷◌, ◌++◌, Option, None, Some, ◌⊎◌}
-use Rattle.std.specs.Map.{lookup, keys_of}
-use Rattle.concurrent_queue.specs.Queue.{Phase}
-use Rattle.event_listener.specs.declared.key.Key.{Key}
-use Rattle.channel_calls.specs.Moves.{Channel}
-use Rattle.channel_calls.specs.Parts.{Listeners, listeners}
-use Rattle.channel_calls.specs.Turns.{held_on, line_of}
-use Rattle.channel_calls.specs.declared.ask.ChannelAsk.{ChannelAsk}
-use Rattle.channel_calls.specs.declared.ask.ChannelAsk.TheVariants as ask
-use Rattle.channel_calls.specs.declared.stage.Purpose.{Purpose}
-use Rattle.channel_calls.specs.declared.stage.Purpose.TheVariants as purpose
-use Rattle.channel_calls.specs.declared.stage.Closer.{Closer}
-use Rattle.channel_calls.specs.declared.stage.Closer.TheVariants as closer
-use Rattle.channel_calls.specs.declared.stage.ListenerRef.{ListenerRef}
-use Rattle.channel_calls.specs.declared.stage.WaitList.{WaitList}
-use Rattle.channel_calls.specs.declared.stage.WaitList.TheVariants.{Sends, Receives, Streams, Closings}
-use Rattle.channel_calls.specs.declared.stage.Side.TheVariants.{Receivers}
-use Rattle.channel_calls.specs.declared.stage.Stage.{Stage}
-use Rattle.channel_calls.specs.declared.stage.Stage.TheVariants.{Trying, Working, Finished}
-use Rattle.channel_calls.specs.declared.stage.ListStep.{ListStep}
-use Rattle.channel_calls.specs.declared.stage.ListStep.TheVariants.{TellReceive, TellStreams, TellSend, TellSends, TellAll, Insert, Register, Leave, Lower}
-use Rattle.channel_world_model.specs.declared.name.HandleKind.{HandleKind}
-use Rattle.channel_world_model.specs.declared.name.HandleKind.TheVariants as handle_kind
-use Rattle.channel_world_model.specs.declared.name.Waiter.{Waiter}
-use Rattle.channel_world_model.specs.declared.name.Waiter.TheVariants.{Op, Stream}
-use Rattle.channel_steps.specs.Configuration.{ActiveCall, Configuration}
+use Rattle.std.specs.Prelude.{◌≡◌, ◌∷◌, ◌++◌, ◌⊎◌}
+use Rattle.channel_world_runs.specs.Words.{ℕ, nat_eq, List, [], Option, None, Some, lookup, keys_of, Phase, Key, Channel, Listeners, listeners, held_on, line_of, ChannelAsk, Purpose, Closer, ListenerRef, WaitList, Sends, Receives, Streams, Closings, Receivers, Stage, Trying, Working, Finished, ListStep, TellReceive, TellStreams, TellSend, TellSends, TellAll, Insert, Register, Leave, Lower, HandleKind, Waiter, Op, Stream, ActiveCall, Configuration, OnReturn, HandleEntry, OperationEntry, Operation, PollState, Rests, Waits, IsPolled, NameTable}
 use Rattle.channel_world_runs.specs.Run.{NameState}
 use Rattle.channel_world_runs.specs.Calls.{Agent}
-use Rattle.channel_world_runs.specs.declared.names.OnReturn.{OnReturn}
-use Rattle.channel_world_runs.specs.declared.names.OnReturn.TheVariants as on_return
-use Rattle.channel_world_runs.specs.declared.names.HandleEntry.{HandleEntry}
-use Rattle.channel_world_runs.specs.declared.names.OperationEntry.{OperationEntry}
-use Rattle.channel_world_model.specs.declared.name.Operation.{Operation}
-use Rattle.channel_world_model.specs.declared.name.Operation.TheVariants as live
-use Rattle.channel_world_runs.specs.declared.names.PollState.{PollState}
-use Rattle.channel_world_runs.specs.declared.names.PollState.TheVariants.{Rests, Waits, IsPolled}
-use Rattle.channel_world_runs.specs.declared.name_table.NameTable.{NameTable}
 
 module _ {A : Type 0} where
   abbrev pub IsAmong : A → List A → Type 0
@@ -73,7 +40,7 @@ no_stream_status s = invalid
 
 -- only a receiver is polled as a stream
 abbrev pub stream_status : HandleKind → PollState → NameStatus
-stream_status handle_kind.Receiver s = status_on Streams s
+stream_status HandleKind.Receiver s = status_on Streams s
 stream_status other s = no_stream_status s
 
 abbrev pub status_by : {X : Type 0} → (X → NameStatus) → Option (Option X) → NameStatus
@@ -90,9 +57,9 @@ module _ {T : Type 0} where
   send_status (Some m) s = status_on Sends s
 
   abbrev pub operation_status : Operation T → PollState → NameStatus
-  operation_status (live.Send handle m) s = send_status m s
-  operation_status (live.Receive handle) s = status_on Receives s
-  operation_status (live.Closing handle) s = status_on Closings s
+  operation_status (Operation.Send handle m) s = send_status m s
+  operation_status (Operation.Receive handle) s = status_on Receives s
+  operation_status (Operation.Closing handle) s = status_on Closings s
 
   abbrev pub status : NameTable T → Waiter → NameStatus
   status r (Op op) = status_by (λ (o : OperationEntry T). operation_status o.operation o.poll_state) (lookup (nat_eq op.0) r.operations)
@@ -101,17 +68,17 @@ module _ {T : Type 0} where
 -- ---- the calls under way
 
 abbrev pub closer_holds : Closer → Option ListenerRef
-closer_holds (closer.Receiver key) = held_on Streams key
+closer_holds (Closer.Receiver key) = held_on Streams key
 closer_holds c = None
 
 module _ {T W : Type 0} where
   abbrev pub purpose_holds : Purpose T W → Option ListenerRef
-  purpose_holds (purpose.Poll line key task) = held_on line key
-  purpose_holds (purpose.Close c) = closer_holds c
+  purpose_holds (Purpose.Poll line key task) = held_on line key
+  purpose_holds (Purpose.Close c) = closer_holds c
   purpose_holds a = None
 
   abbrev pub purpose_task : Purpose T W → Option W
-  purpose_task (purpose.Poll line key task) = Some task
+  purpose_task (Purpose.Poll line key task) = Some task
   purpose_task a = None
 
 module _ {W : Type 0} where
@@ -151,22 +118,22 @@ module _ {T W : Type 0} where
 
   -- the list on which a call may wait, and for which name
   abbrev pub wait_of : ChannelAsk T W → Option (WaitList × W)
-  wait_of (ask.PollSend m key task) = Some (Sends, task)
-  wait_of (ask.PollRecv key task) = Some (Receives, task)
-  wait_of (ask.PollClosed key task) = Some (Closings, task)
-  wait_of (ask.PollNext key task) = Some (Streams, task)
+  wait_of (ChannelAsk.PollSend m key task) = Some (Sends, task)
+  wait_of (ChannelAsk.PollRecv key task) = Some (Receives, task)
+  wait_of (ChannelAsk.PollClosed key task) = Some (Closings, task)
+  wait_of (ChannelAsk.PollNext key task) = Some (Streams, task)
   wait_of a = None
 
 module _ {T W : Type 0} where
   -- the list whose listener a call may have in hand
   abbrev pub line_asked : ChannelAsk T W → Option WaitList
-  line_asked (ask.PollSend m key task) = Some Sends
-  line_asked (ask.PollRecv key task) = Some Receives
-  line_asked (ask.PollClosed key task) = Some Closings
-  line_asked (ask.PollNext key task) = Some Streams
-  line_asked (ask.RefusePoll line message key) = Some line
-  line_asked (ask.GiveUp line message key) = Some line
-  line_asked (ask.DropReceiver key) = Some Streams
+  line_asked (ChannelAsk.PollSend m key task) = Some Sends
+  line_asked (ChannelAsk.PollRecv key task) = Some Receives
+  line_asked (ChannelAsk.PollClosed key task) = Some Closings
+  line_asked (ChannelAsk.PollNext key task) = Some Streams
+  line_asked (ChannelAsk.RefusePoll line message key) = Some line
+  line_asked (ChannelAsk.GiveUp line message key) = Some line
+  line_asked (ChannelAsk.DropReceiver key) = Some Streams
   line_asked a = None
 
 -- ---- calls and what they write back
@@ -174,18 +141,18 @@ module _ {T W : Type 0} where
 module _ {T : Type 0} where
   -- the name at which what is to be written back works: that of what it polls, or of what it makes
   abbrev pub subject : OnReturn T → Option Waiter
-  subject (on_return.Poll op) = Some (Op op)
-  subject (on_return.PollNext receiver) = Some (Stream receiver)
-  subject (on_return.Make op operation) = Some (Op op)
-  subject (on_return.New from new kind) = Some (Stream new)
+  subject (OnReturn.Poll op) = Some (Op op)
+  subject (OnReturn.PollNext receiver) = Some (Stream receiver)
+  subject (OnReturn.Make op operation) = Some (Op op)
+  subject (OnReturn.New from new kind) = Some (Stream new)
   subject e = None
 
   -- a call waits, if at all, for the name that it polls; under a name that it makes nothing lives yet
   abbrev pub Suits : (Waiter → NameStatus) → OnReturn T → Option (WaitList × Waiter) → Type 0
-  Suits p (on_return.Poll op) wait = (line : WaitList) × (p (Op op) ≡ polled line) × ((wait ≡ None) ⊎ (wait ≡ Some (line, Op op)))
-  Suits p (on_return.PollNext receiver) wait = (line : WaitList) × (p (Stream receiver) ≡ polled line) × ((wait ≡ None) ⊎ (wait ≡ Some (line, Stream receiver)))
-  Suits p (on_return.Make op operation) wait = (p (Op op) ≡ retired) × (operation.poll_state ≡ Rests) × (wait ≡ None)
-  Suits p (on_return.New from new kind) wait = (p (Stream new) ≡ retired) × (wait ≡ None)
+  Suits p (OnReturn.Poll op) wait = (line : WaitList) × (p (Op op) ≡ polled line) × ((wait ≡ None) ⊎ (wait ≡ Some (line, Op op)))
+  Suits p (OnReturn.PollNext receiver) wait = (line : WaitList) × (p (Stream receiver) ≡ polled line) × ((wait ≡ None) ⊎ (wait ≡ Some (line, Stream receiver)))
+  Suits p (OnReturn.Make op operation) wait = (p (Op op) ≡ retired) × (operation.poll_state ≡ Rests) × (wait ≡ None)
+  Suits p (OnReturn.New from new kind) wait = (p (Stream new) ≡ retired) × (wait ≡ None)
   Suits p e wait = wait ≡ None
 
   -- an agent and the call of the same party under way

@@ -1,12 +1,7 @@
 -- How many of those that live are pending.
-use Rattle.std.specs.Prelude.{ℕ, ◌+◌, Bool, false, Option, is_some}
-use Rattle.std.specs.List.{count_by}
-use Rattle.std.specs.Option.{option_map_or}
+use Rattle.std.specs.Prelude.{◌+◌}
+use Rattle.channel_world_runs.specs.Words.{ℕ, Bool, false, Option, is_some, count_by, option_map_or, HandleEntry, OperationEntry, PollState, NameTable}
 use Rattle.channel_world_runs.specs.NameTable.{key_of}
-use Rattle.channel_world_runs.specs.declared.names.HandleEntry.{HandleEntry}
-use Rattle.channel_world_runs.specs.declared.names.OperationEntry.{OperationEntry}
-use Rattle.channel_world_runs.specs.declared.names.PollState.{PollState}
-use Rattle.channel_world_runs.specs.declared.name_table.NameTable.{NameTable}
 
 -- one that is pending holds a listener
 abbrev pub stands_pending : PollState → Bool

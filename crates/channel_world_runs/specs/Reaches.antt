@@ -1,14 +1,7 @@
 -- A way from one configuration to another: a run of steps of any parties, of which only what they reply is told.
-use Rattle.std.specs.Prelude.{◌≡◌, List, [], ◌∷◌, ◌++◌, Result, Ok, Err}
-use Rattle.std.specs.Option.{option_to_list}
-use Rattle.channel_calls.specs.declared.reply.Reply.{Reply}
-use Rattle.channel_world_model.specs.declared.name.Waiter.{Waiter}
-use Rattle.channel_world_model.specs.declared.run.Done.{Done}
-use Rattle.channel_steps.specs.Run.{IsRun, NextConfiguration}
-use Rattle.channel_steps.specs.Configuration.{Configuration}
+use Rattle.std.specs.Prelude.{◌≡◌, ◌∷◌, ◌++◌}
+use Rattle.channel_world_runs.specs.Words.{List, [], Result, Ok, Err, option_to_list, Reply, Waiter, Done, IsRun, NextConfiguration, Configuration, ChannelStep, Entry}
 use Rattle.channel_steps.specs.declared.party.Entry.{Entry as ChannelEntry}
-use Rattle.channel_steps.specs.declared.run.Step.{Step as ChannelStep}
-use Rattle.channel_world_runs.specs.declared.step.Entry.{Entry}
 
 module _ {T : Type 0} where
   -- what the entries of a run of the channel's steps reply, in order

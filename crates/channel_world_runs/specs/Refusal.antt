@@ -1,26 +1,8 @@
 -- Which steps are refused, and why. Room for memory is another matter: see `Run`.
-use Rattle.std.specs.Prelude.{nat_lt, List, Bool, false, Option, None, Some, if◌then◌else◌}
-use Rattle.std.specs.Option.{option_map, option_map_or}
-use Rattle.channel_world_model.specs.Names.{at, is_taken}
-use Rattle.channel_world_model.specs.Plan.{plan_of}
-use Rattle.channel_world_model.specs.Refusal.{UnderWay, refusal_beside}
-use Rattle.channel_world_model.specs.declared.call.Call.{Call}
-use Rattle.channel_world_model.specs.declared.name.Handle.{Handle}
-use Rattle.channel_world_model.specs.declared.name.HandleId.{HandleId}
-use Rattle.channel_world_model.specs.declared.name.OpId.{OpId}
-use Rattle.channel_world_model.specs.declared.name.Operation.{Operation}
-use Rattle.channel_world_model.specs.declared.name.Waiter.TheVariants.{Op, Stream}
-use Rattle.channel_world_model.specs.declared.plan.Plan.{Plan}
-use Rattle.channel_world_model.specs.declared.plan.Plan.TheVariants as plan
-use Rattle.channel_world_model.specs.declared.refusal.WorldRefusal.{WorldRefusal}
-use Rattle.channel_world_model.specs.declared.refusal.WorldRefusal.TheVariants.{Busy, Idle}
+use Rattle.std.specs.Prelude.{if◌then◌else◌}
+use Rattle.channel_world_runs.specs.Words.{nat_lt, List, Bool, false, Option, None, Some, option_map, option_map_or, at, is_taken, plan_of, UnderWay, refusal_beside, Call, Handle, HandleId, OpId, Operation, Op, Stream, Plan, WorldRefusal, Busy, Idle, HandleEntry, OperationEntry, NameTable, Step}
 use Rattle.channel_world_runs.specs.NameTable.{is_polled, names_of, is_at_work}
 use Rattle.channel_world_runs.specs.Calls.{Agent}
-use Rattle.channel_world_runs.specs.declared.names.HandleEntry.{HandleEntry}
-use Rattle.channel_world_runs.specs.declared.names.OperationEntry.{OperationEntry}
-use Rattle.channel_world_runs.specs.declared.name_table.NameTable.{NameTable}
-use Rattle.channel_world_runs.specs.declared.step.Step.{Step}
-use Rattle.channel_world_runs.specs.declared.step.Step.TheVariants as step
 
 module _ {T : Type 0} where
   -- whose poll is under way, and which handles calls under way use
@@ -51,13 +33,13 @@ module _ {T : Type 0} where
 
   -- why a step is refused
   abbrev pub step_refusal : NameTable T → List (Agent T) → Step T → Option WorldRefusal
-  step_refusal r agents (step.Begin p c) = if is_at_work p.0 agents then Some Busy else begin_refusal r c
-  step_refusal r agents (step.Step p) = if is_at_work p.0 agents then None else Some Idle
+  step_refusal r agents (Step.Begin p c) = if is_at_work p.0 agents then Some Busy else begin_refusal r c
+  step_refusal r agents (Step.Step p) = if is_at_work p.0 agents then None else Some Idle
 
   -- a new name that was taken before
   abbrev pub again_planned : NameTable T → Plan → Bool
-  again_planned r (plan.Makes wanted handle op kind) = is_taken op.0 r.operations
-  again_planned r (plan.Mints wanted from new to) = is_taken new.0 r.handles
+  again_planned r (Plan.Makes wanted handle op kind) = is_taken op.0 r.operations
+  again_planned r (Plan.Mints wanted from new to) = is_taken new.0 r.handles
   again_planned r p = false
 
   abbrev pub takes_again : NameTable T → Call T → Bool

@@ -1,27 +1,12 @@
 -- One step of many parties' by names: what it is to the channel, what becomes of the name state, and why a run ends before it.
-use Rattle.std.specs.Prelude.{◌≡◌, ℕ, List, [], ◌∷◌, ◌++◌, slice_get, unwrap_or, Option, None, Some, ◌⊎◌}
-use Rattle.std.specs.List.{remove}
-use Rattle.channel_calls.specs.Turns.{nothing_kept}
-use Rattle.channel_calls.specs.declared.reply.Reply.{Reply}
-use Rattle.channel_calls.specs.declared.stage.Returned.{Returned}
-use Rattle.channel_world_model.specs.declared.call.Call.{Call}
-use Rattle.channel_world_model.specs.declared.name.Waiter.{Waiter}
-use Rattle.channel_world_model.specs.declared.refusal.WorldRefusal.{WorldRefusal}
-use Rattle.channel_world_model.specs.declared.refusal.WorldRefusal.TheVariants.{NoMemory}
+use Rattle.std.specs.Prelude.{◌≡◌, ◌∷◌, ◌++◌, ◌⊎◌}
+use Rattle.channel_world_runs.specs.Words.{ℕ, List, [], slice_get, unwrap_or, Option, None, Some, remove, nothing_kept, Reply, Returned, Call, Waiter, WorldRefusal, NoMemory, Next, Configuration, ChannelStep, NameTable, Entry, Step}
 use Rattle.channel_world_model.specs.declared.run.Stopped.{Stopped}
-use Rattle.channel_steps.specs.Run.{Next}
-use Rattle.channel_steps.specs.Configuration.{Configuration}
-use Rattle.channel_steps.specs.declared.run.Step.{Step as ChannelStep}
-use Rattle.channel_steps.specs.declared.run.Step.TheVariants as channel
 use Rattle.channel_world_runs.specs.Bookkeeping.{asks, on_return_of, names_begun, written_back}
 use Rattle.channel_world_runs.specs.Order.{WakeOrder, all_woken, order_begun, order_settled}
 use Rattle.channel_world_runs.specs.Refusal.{step_refusal}
 use Rattle.channel_world_runs.specs.Calls.{Agent}
-use Rattle.channel_world_runs.specs.declared.name_table.NameTable.{NameTable}
 use Rattle.channel_world_runs.specs.declared.step.PartyId.{PartyId}
-use Rattle.channel_world_runs.specs.declared.step.Entry.{Entry}
-use Rattle.channel_world_runs.specs.declared.step.Step.{Step}
-use Rattle.channel_world_runs.specs.declared.step.Step.TheVariants as step
 
 -- the names, those that may be woken and those that were, in the order of waking, and the parties at work in the order in which their calls
 -- began
@@ -35,8 +20,8 @@ module _ {T : Type 0} where
 
   -- what a step by names is to the channel: a call asks what it asks given the names and the listeners held at this moment
   abbrev pub channel_step : NameTable T → Step T → ChannelStep T Waiter
-  channel_step r (step.Begin p c) = channel.Begin p.0 (asks r c)
-  channel_step r (step.Step p) = channel.Step p.0
+  channel_step r (Step.Begin p c) = ChannelStep.Begin p.0 (asks r c)
+  channel_step r (Step.Step p) = ChannelStep.Step p.0
 
   -- a call has begun
   abbrev pub name_state_begun : PartyId → Call T → NameState T → NameState T
@@ -62,8 +47,8 @@ module _ {T : Type 0} where
 
   -- the name state after a step that answers this or nothing, leaves this and wakes these
   abbrev pub IsNameStateOf : Step T → Option (Reply T) → Option (Returned T) → List Waiter → NameState T → NameState T → Type 0
-  IsNameStateOf (step.Begin p c) reply kept names old new = new ≡ name_state_begun p c old
-  IsNameStateOf (step.Step p) reply kept names old new =
+  IsNameStateOf (Step.Begin p c) reply kept names old new = new ≡ name_state_begun p c old
+  IsNameStateOf (Step.Step p) reply kept names old new =
       (k : ℕ) × (a : Agent T) × (slice_get old.agents k ≡ Some a) × (a.party ≡ p.0)
       × (new ≡ name_state_ended k a reply kept (with_woken names old))
 

@@ -1,19 +1,12 @@
 -- Runs: what may follow from steps of many parties in any order, by names, and what holds at each moment of them.
-use Rattle.std.specs.Prelude.{◌≡◌, ℕ, ◌+◌, ◌<◌, ◌≤◌, List, [], ◌∷◌, ◌++◌, length, None}
-use Rattle.channel_calls.specs.Parts.{Parts}
-use Rattle.channel_world_model.specs.declared.name.Waiter.{Waiter}
+use Rattle.std.specs.Prelude.{◌≡◌, ◌+◌, ◌<◌, ◌≤◌, ◌∷◌, ◌++◌}
+use Rattle.channel_world_runs.specs.Words.{ℕ, List, [], length, None, Parts, Waiter, most_left, IsRun, Accounts, Touches, Configuration, OthersQuiet, blocks_after, Entry, Step}
+use Rattle.channel_world_runs.specs.declared.world_state.WorldState.{WorldState}
 use Rattle.channel_steps.specs.Count.{brought_in, taken_out}
-use Rattle.channel_steps.specs.Left.{most_left}
-use Rattle.channel_steps.specs.Run.{IsRun, Accounts, Touches}
-use Rattle.channel_steps.specs.Configuration.{Configuration, OthersQuiet, blocks_after}
 use Rattle.channel_world_runs.specs.WorldState.{parts_in, parties_of, name_state_of, StandsIn}
 use Rattle.channel_world_runs.specs.WorldInvariant.{WorldInvariant}
 use Rattle.channel_world_runs.specs.Left.{left_of, calls_of_others, wanted_of}
 use Rattle.channel_world_runs.specs.Run.{NameState, StepIsMade, channel_step}
-use Rattle.channel_world_runs.specs.declared.world_state.WorldState.{WorldState}
-use Rattle.channel_world_runs.specs.declared.step.Entry.{Entry}
-use Rattle.channel_world_runs.specs.declared.step.Step.{Step}
-use Rattle.channel_world_runs.specs.declared.step.Step.TheVariants as step
 
 -- a moment: what the cells hold, the channel with its calls under way, the name state, and how many more steps of its own the call of
 -- each party makes at most, if the others are quiet
@@ -47,8 +40,8 @@ module _ {T : Type 0} where
 
   -- if the others are quiet a step of a call that does not end it leaves it fewer
   abbrev pub ComesNearer : Moment T → Step T → Entry T → Moment T → Type 0
-  ComesNearer m (step.Begin p c) e n = Unit {0}
-  ComesNearer m (step.Step p) e n =
+  ComesNearer m (Step.Begin p c) e n = Unit {0}
+  ComesNearer m (Step.Step p) e n =
       e.reply ≡ None → OthersQuiet m.configuration.now (calls_of_others p.0 m.configuration.under_way) → n.left p.0 < m.left p.0
 
   -- a step leads from one moment to the next: nothing refused it, at most one cell, list or count differs after it, the blocks are

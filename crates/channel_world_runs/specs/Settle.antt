@@ -1,11 +1,8 @@
 -- A poll of one that is pending and was woken, made alone, as settling makes it.
-use Rattle.std.specs.Prelude.{◌≡◌, true, List, ◌++◌}
-use Rattle.channel_calls.specs.declared.reply.Reply.{Reply}
-use Rattle.channel_world_model.specs.Lines.{is_among}
-use Rattle.channel_world_model.specs.Settling.{poll_of}
-use Rattle.channel_world_model.specs.declared.name.Waiter.{Waiter}
-use Rattle.channel_world_runs.specs.Lone.{CallsAlone}
+use Rattle.std.specs.Prelude.{◌≡◌, ◌++◌}
+use Rattle.channel_world_runs.specs.Words.{true, List, Reply, is_among, poll_of, Waiter}
 use Rattle.channel_world_runs.specs.declared.world_state.WorldState.{WorldState}
+use Rattle.channel_world_runs.specs.Lone.{CallsAlone}
 
 module _ {T : Type 0} where
   -- w is pending and was woken

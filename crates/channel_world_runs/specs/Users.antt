@@ -1,12 +1,8 @@
 -- How many calls use each handle, and how many operations borrow it.
-use Rattle.std.specs.Prelude.{◌≡◌, ℕ, ◌+◌, ◌≤◌, nat_eq, cond, List, [], ◌∷◌, length, Some}
-use Rattle.channel_world_model.specs.Names.{at}
-use Rattle.channel_world_model.specs.declared.name.HandleId.{HandleId}
+use Rattle.std.specs.Prelude.{◌≡◌, ◌+◌, ◌≤◌, ◌∷◌}
+use Rattle.channel_world_runs.specs.Words.{ℕ, nat_eq, cond, List, [], length, Some, at, HandleId, OnReturn, HandleEntry}
 use Rattle.channel_world_runs.specs.Run.{NameState}
 use Rattle.channel_world_runs.specs.Calls.{Agent}
-use Rattle.channel_world_runs.specs.declared.names.OnReturn.{OnReturn}
-use Rattle.channel_world_runs.specs.declared.names.OnReturn.TheVariants as on_return
-use Rattle.channel_world_runs.specs.declared.names.HandleEntry.{HandleEntry}
 
 -- one where this is the handle
 abbrev pub one : ℕ → HandleId → ℕ
@@ -15,10 +11,10 @@ one name handle = cond (nat_eq name handle.0) 1 0
 module _ {T : Type 0} where
   -- how often a call gives back the handle of this name at its end
   abbrev pub times_used : ℕ → OnReturn T → ℕ
-  times_used name (on_return.Leave handle) = one name handle
-  times_used name (on_return.LeaveBoth a b) = one name a + one name b
-  times_used name (on_return.PollNext receiver) = one name receiver
-  times_used name (on_return.New from new kind) = one name from
+  times_used name (OnReturn.Leave handle) = one name handle
+  times_used name (OnReturn.LeaveBoth a b) = one name a + one name b
+  times_used name (OnReturn.PollNext receiver) = one name receiver
+  times_used name (OnReturn.New from new kind) = one name from
   times_used name e = 0
 
   abbrev pub all_uses : ℕ → List (Agent T) → ℕ

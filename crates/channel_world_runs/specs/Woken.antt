@@ -1,6 +1,6 @@
 -- Names that a step wakes.
-use Rattle.std.specs.Prelude.{◌≡◌, ◌<◌, ◌≤◌, ◌++◌, ◌∷◌, [], vec_len, vec_capacity}
-use Rattle.channel_world_model.specs.declared.name.Waiter.{Waiter}
+use Rattle.std.specs.Prelude.{◌≡◌, ◌<◌, ◌≤◌, ◌++◌, ◌∷◌}
+use Rattle.channel_world_runs.specs.Words.{[], vec_len, vec_capacity, Waiter}
 use Rattle.channel_world_runs.specs.declared.woken.Woken.{Woken}
 
 -- if there is room, the name comes after all before it

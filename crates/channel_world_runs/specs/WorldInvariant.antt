@@ -1,9 +1,8 @@
 -- All that every step keeps of those that wait.
-use Rattle.std.specs.Prelude.{◌≡◌, false, List}
+use Rattle.std.specs.Prelude.{◌≡◌}
+use Rattle.channel_world_runs.specs.Words.{false, List, Waiter, ActiveCall, Configuration}
 use Rattle.channel_steps.specs.every_run.Sound.{WakeInvariant}
-use Rattle.channel_world_model.specs.declared.name.Waiter.{Waiter}
 use Rattle.channel_steps.specs.Answers.{asks_first}
-use Rattle.channel_steps.specs.Configuration.{ActiveCall, Configuration}
 use Rattle.channel_world_runs.specs.Counted.{Counted}
 use Rattle.channel_world_runs.specs.OwnerPolled.{PolledAtWork}
 use Rattle.channel_world_runs.specs.OwnerWoken.{WokenSound}

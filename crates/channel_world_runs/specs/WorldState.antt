@@ -1,18 +1,10 @@
 -- What the parts of an interleaved channel stand for.
-use Rattle.std.specs.Prelude.{◌≡◌, ◌⊎◌, ℕ, Bool, true, false, ◌+◌, ◌≤◌, ◌<◌, List, [], ◌++◌, map, length, Option, None, ◌^◌}
-use Rattle.std.specs.List.{count_by}
+use Rattle.std.specs.Prelude.{◌≡◌, ◌⊎◌, ◌+◌, ◌≤◌, ◌<◌, ◌++◌, ◌^◌}
+use Rattle.channel_world_runs.specs.Words.{ℕ, Bool, true, false, List, [], map, length, Option, None, count_by, Parts, Reply, Call, Waiter, all_left, left_at, new_configuration, Accounts, Touches, ActiveCall, Configuration, Represents, OthersQuiet, blocks_after, takings, Party, Activity, CallUnderWay, Entry, Step}
+use Rattle.channel_world_runs.specs.declared.world_state.WorldState.{WorldState}
 use Rattle.concurrent_queue.specs.Capacity.{capacity_of}
 use Rattle.concurrent_queue.specs.Step.{closed_in}
-use Rattle.channel_calls.specs.Parts.{Parts}
 use Rattle.channel_calls.specs.Plain.{parts_of}
-use Rattle.channel_calls.specs.declared.reply.Reply.{Reply}
-use Rattle.channel_world_model.specs.declared.call.Call.{Call}
-use Rattle.channel_world_model.specs.declared.name.Waiter.{Waiter}
-use Rattle.channel_steps.specs.Left.{all_left, left_at}
-use Rattle.channel_steps.specs.Run.{new_configuration, Accounts, Touches}
-use Rattle.channel_steps.specs.Configuration.{ActiveCall, Configuration, Represents, OthersQuiet, blocks_after}
-use Rattle.channel_steps.specs.Tellings.{takings}
-use Rattle.channel_steps.specs.declared.party.Party.{Party}
 use Rattle.channel_world_runs.specs.Activity.{activity_of}
 use Rattle.channel_world_runs.specs.Calls.{Agent, agent_of}
 use Rattle.channel_world_runs.specs.Owed.{Observation, Owed, is_sending, is_receiving, all_unannounced}
@@ -23,12 +15,6 @@ use Rattle.channel_world_runs.specs.NameTable.{first_name_table}
 use Rattle.channel_world_runs.specs.Order.{no_places}
 use Rattle.channel_world_runs.specs.Run.{NameState, StepIsMade, channel_step}
 use Rattle.channel_world_runs.specs.Reaches.{Reaches}
-use Rattle.channel_world_runs.specs.declared.activity.Activity.{Activity}
-use Rattle.channel_world_runs.specs.declared.calls.CallUnderWay.{CallUnderWay}
-use Rattle.channel_world_runs.specs.declared.world_state.WorldState.{WorldState}
-use Rattle.channel_world_runs.specs.declared.step.Entry.{Entry}
-use Rattle.channel_world_runs.specs.declared.step.Step.{Step}
-use Rattle.channel_world_runs.specs.declared.step.Step.TheVariants as step
 
 module _ {T : Type 0} where
   -- ---- its calls under way, in the order in which they began
@@ -146,8 +132,8 @@ module _ {T : Type 0} where
 
   -- if the others are quiet, a step that does not end its call leaves it fewer
   abbrev pub Nearer : (x : Step T) (old : WorldState T) (e : Entry T) (new : WorldState T) (s t : Configuration T Waiter) → StepIsMade (name_state_of old) s x e (name_state_of new) t → Type 0
-  Nearer (step.Begin p c) old e new s t made = Unit {0}
-  Nearer (step.Step p) old e new s t made =
+  Nearer (Step.Begin p c) old e new s t made = Unit {0}
+  Nearer (Step.Step p) old e new s t made =
       e.reply ≡ None → OthersQuiet s.now (made.next.before ++ made.next.behind)
       → left_at (length made.next.before) (lefts_in new) < left_at (length made.next.before) (lefts_in old)
 

@@ -1,9 +1,8 @@
 -- A call that is over drops the listener that its operation held.
-use Rattle.channel_world_runs.proofs.refinement.Words.{false_from_ne_true, arith, ◌≡◌, ◌⊎◌, List, [], Bool, true, false, Option, None, Some, refl, sym, subst, ◌∙◌, inl, inr, Key, Channel, leaves, Listeners, WaitLists, with_listeners, held_on, Waiting, is_among, is_stream, untold, told_by, after_news, gone, passed_on, Kind, Placed, times_in, Operation, Names, at, line_at, line_of_operation, Waiter, Op, Stream, News, Nothing, WaitList, Sends, Streams, Closings, among_counts, times_news, times_gone_self, KeysHeld, with_held, ShowsLines, KeysFit, list_of}
+use Rattle.std.specs.Prelude.{◌≡◌, ◌⊎◌}
+use Rattle.channel_world_runs.proofs.Lemmas.{false_from_ne_true, arith, List, [], Bool, true, false, Option, None, Some, refl, sym, subst, ◌∙◌, inl, inr, Key, Channel, leaves, Listeners, WaitLists, with_listeners, held_on, Waiting, is_among, is_stream, untold, told_by, after_news, gone, passed_on, Kind, Placed, times_in, Operation, Names, at, line_at, line_of_operation, Waiter, Op, Stream, News, Nothing, WaitList, Sends, Streams, Closings, among_counts, times_news, times_gone_self, KeysHeld, with_held, ShowsLines, KeysFit, list_of, Nowhere, gone_nowhere, kindless_nowhere, keyless_nowhere, nowhere_keyless, times_untold, rekeyed_lines, keys_gone}
 use Rattle.channel_world_runs.proofs.refinement.News.{nothing_lines, keys_news}
-use Rattle.channel_world_runs.proofs.refinement.Standing.{Nowhere, gone_nowhere, kindless_nowhere, keyless_nowhere, nowhere_keyless, times_untold, rekeyed_lines, keys_gone}
 use Rattle.channel_world_runs.proofs.refinement.Leaving.{StreamsAreStreams, leave_lines, leave_wakes}
-use Rattle.channel_world_model.specs.declared.name.Operation.TheVariants as live
 
 pub times_nowhere : (w : Waiter) (l : Waiting) → times_in w l ≡ 0 → Nowhere w l
 times_nowhere w l e = record {
@@ -23,7 +22,7 @@ pub streams_are : {T : Type 0} → (names : Names T) → StreamsAreStreams (line
 streams_are names (Stream r) = (λ e. refl, λ e. refl)
 streams_are {T} names (Op op) = (λ e. cc e, λ e. never (at op.0 names.operations) e) where
   never : (o : Option (Operation T)) → line_of_operation o ≡ Some Streams → is_stream (Op op) ≡ true
-  never (Some (live.Send h (Some m))) e = cc e
+  never (Some (Operation.Send h (Some m))) e = cc e
   never o e = cc e
 
 pub same_senders : (line : WaitList) (x : Listeners Waiter) (a : WaitLists Waiter) → (with_listeners (list_of line) x a).senders ≡ a.senders

@@ -1,6 +1,6 @@
 -- A call that ends with nothing told: its operation or stream drops its listener, and passes on what it was told.
-use Rattle.channel_world_runs.proofs.refinement.Words.{◌≡◌, ◌⊎◌, List, [], Option, None, Some, refl, sym, subst, ◌∙◌, append-nil, Channel, leaves, held_on, over, Reply, WaitList, Outcome, ends, after_leaving, AwakeIn, line_at, after_news, Answers, State, Call, Waiter, Nothing, placed_news, empty_news, keeper, Matches, names_after, KeysHeld, with_held, Refines, list_of}
-use Rattle.channel_world_runs.proofs.refinement.Matching.{shows_again, matching}
+use Rattle.std.specs.Prelude.{◌≡◌, ◌⊎◌}
+use Rattle.channel_world_runs.proofs.Lemmas.{List, [], Option, None, Some, refl, sym, subst, ◌∙◌, append-nil, Channel, leaves, held_on, over, Reply, WaitList, Outcome, ends, after_leaving, AwakeIn, line_at, after_news, Answers, State, Call, Waiter, Nothing, placed_news, empty_news, keeper, Matches, names_after, KeysHeld, with_held, Refines, list_of, shows_again, matching}
 use Rattle.channel_world_runs.proofs.refinement.Departing.{Departed, departed, streams_are}
 use Rattle.channel_world_runs.proofs.refinement.News.{nothing_lines, keys_news}
 use Rattle.channel_world_runs.proofs.refinement.Told.{told_left_as}

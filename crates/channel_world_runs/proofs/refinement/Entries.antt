@@ -1,21 +1,10 @@
 -- Entries of listeners beside the names that they show.
-use Rattle.channel_world_runs.proofs.refinement.Words.{AllZip, ShowsUntold, ShowsTold, AreUntold, AreToldInTurn, AreSame, AreTold, IsToldSo, false_from_ne_true, arith, ◌≡◌, ◌≤◌, ℕ, List, [], ◌∷◌, ◌++◌, length, take, drop, Bool, true, false, Option, None, Some, refl, sym, ap, subst, ◌∙◌, inl, inr, lookup, remove_entry, nat_tests, Notice, same_key, told_with, tasks_of, Key, same_waiter, is_among, without_waiter, times, Waiter, WaitList, same_refl, same_sound, decided, or_false, or_true, without_absent, among_self, or_right, among_counts, absent_counts, none_left, same_symm, count_append, KeysHeld}
-use Rattle.std.proofs.lemmas.Slice.Zip.{AllZip-long}
-
-pub same_key_refl : (key : Key) → same_key key key ≡ true
-same_key_refl key = grind (arith, nat_tests)
-
-pub same_key_sound : (a b : Key) → same_key a b ≡ true → a ≡ b
-same_key_sound a b e =
-    let slots : a.slot ≡ b.slot = grind (arith, nat_tests) in
-    let serials : a.serial ≡ b.serial = grind (arith, nat_tests) in
-    let first : a ≡ record { slot = b.slot; serial = a.serial } = ap (λ (n : ℕ). let k : Key = record { slot = n; serial = a.serial } in k) slots in
-    first ∙ ap (λ (n : ℕ). let k : Key = record { slot = b.slot; serial = n } in k) serials
+use Rattle.std.specs.Prelude.{◌≡◌, ◌≤◌, ◌∷◌, ◌++◌}
+use Rattle.channel_world_runs.proofs.Words.{AllZip, ShowsUntold, ShowsTold, AreUntold, AreToldInTurn, AreSame, AreTold, IsToldSo, false_from_ne_true, arith, ℕ, List, [], length, take, drop, Bool, true, false, Option, None, Some, refl, sym, ap, subst, ◌∙◌, inl, inr, lookup, remove_entry, nat_tests, Notice, same_key, told_with, tasks_of, Key, same_waiter, is_among, without_waiter, times, Waiter, WaitList, same_refl, same_sound, decided, or_false, or_true, without_absent, among_self, or_right, among_counts, absent_counts, none_left, same_symm, count_append, KeysHeld, AllZip-long}
+use Rattle.channel_world_runs.proofs.OwnerLists.{same_is, told_apart}
 
 some_same : (a b : Key) → same_key a b ≡ false → Some a ≡ Some b → ⊥
-some_same a b off e =
-    let same : a ≡ b = cc e in
-    cc (sym (subst (λ (k : Key). same_key a k ≡ true) same (same_key_refl a)) ∙ off)
+some_same a b off e = let same : a ≡ b = cc e in told_apart a b off same
 
 -- ---- elements beside names
 
@@ -172,7 +161,7 @@ module _ (held : KeysHeld) (key : Key) (w : Waiter) (holds : held w ≡ Some key
   same_entry : (v : Waiter) (vs : List Waiter) (k : Key) → OnlyHolder held key w (v ∷ vs) → held v ≡ Some k → same_key key k ≡ same_waiter w v
   same_entry v vs k only h = elim (decided (same_key key k)) [
     | inl t ↦
-        let own : held v ≡ Some key = h ∙ ap (λ (x : Key). Some x) (sym (same_key_sound key k t)) in
+        let own : held v ≡ Some key = h ∙ ap (λ (x : Key). Some x) (sym (same_is key k t)) in
         let same : v ≡ w = only v (among_self v vs) own in
         t ∙ sym (subst (λ (x : Waiter). same_waiter w x ≡ true) (sym same) (same_refl w))
     | inr t ↦ elim (decided (same_waiter w v)) [

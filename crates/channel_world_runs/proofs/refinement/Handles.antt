@@ -1,7 +1,6 @@
 -- Handles: what their names and their counts are to a channel that shows a state, which is nothing; and new handles.
-use Rattle.channel_world_runs.proofs.refinement.Words.{◌≡◌, ℕ, ◌+◌, ◌-◌, ◌^◌, ◌==◌, ◌&&◌, ◌||◌, nat_lt, Bool, true, false, if◌then◌else◌, None, Some, refl, sym, ap, subst, ◌∙◌, append-nil, arith, nat_tests, Channel, on_count, raises, untouched, WaitLists, with_count, count, is_raised, most, nothing_kept, Reply, Side, Senders, Receivers, Outcome, answers, says_only, clones, upgrades, Answer, replying, made, spent, one_more, upgrade_to, Kind, line_at, Waiting, Names, Directory, with_handles, Answers, State, with_channel, with_names, Call, Handle, HandleId, HandleKind, Sender, Receiver, Waiter, Op, Stream, Sends, chosen_no, keeper, Matches, names_after, made_names, KeysHeld, Refines, ShowsLines, KeysFit}
-use Rattle.channel_calls.specs.Marks.{up}
-use Rattle.channel_calls.specs.declared.reply.Reply.TheVariants as reply
+use Rattle.std.specs.Prelude.{◌≡◌, ◌+◌, ◌-◌, ◌^◌, ◌==◌, ◌&&◌, ◌||◌, if◌then◌else◌}
+use Rattle.channel_world_runs.proofs.Words.{ℕ, nat_lt, Bool, true, false, None, Some, refl, sym, ap, subst, ◌∙◌, append-nil, arith, nat_tests, Channel, on_count, raises, untouched, WaitLists, with_count, count, is_raised, most, nothing_kept, Reply, Side, Senders, Receivers, Outcome, answers, says_only, clones, upgrades, Answer, replying, made, spent, one_more, upgrade_to, Kind, line_at, Waiting, Names, Directory, with_handles, Answers, State, with_channel, with_names, Call, Handle, HandleId, HandleKind, Sender, Receiver, Waiter, Op, Stream, Sends, chosen_no, keeper, Matches, names_after, made_names, KeysHeld, Refines, ShowsLines, KeysFit, up}
 use Rattle.channel_world_model.specs.Answer as model
 use Rattle.channel_world_runs.proofs.refinement.Matching.{shows_again, matching}
 
@@ -72,15 +71,15 @@ module _ {T : Type 0} (held : KeysHeld) (c : Channel T Waiter) (s : State T) (h 
       (sym (append-nil s.waiting.woken)))
 
   module _ (new : HandleId) (side : Side) (renamed : (o : Outcome T Waiter) → names_after s call o ≡ made_names new (Some (kind_of_side side)) o.reply s.names) where
-    counted : Answers s call (replying (with_channel (model.with_strong_handles (kind_of_side side) (model.strong_handles (kind_of_side side) s.channel + 1) s.channel) (made s new (kind_of_side side))) reply.Made)
-        → (d : Channel T Waiter) → d ≡ record c { wait_lists = with_count side (count side c.wait_lists + 1) c.wait_lists } → Matches held s call (answers reply.Made nothing_kept d)
+    counted : Answers s call (replying (with_channel (model.with_strong_handles (kind_of_side side) (model.strong_handles (kind_of_side side) s.channel + 1) s.channel) (made s new (kind_of_side side))) Reply.Made)
+        → (d : Channel T Waiter) → d ≡ record c { wait_lists = with_count side (count side c.wait_lists + 1) c.wait_lists } → Matches held s call (answers Reply.Made nothing_kept d)
     counted allowed d e =
         let n : ℕ = model.strong_handles (kind_of_side side) s.channel + 1 in
         let t : State T = with_channel (model.with_strong_handles (kind_of_side side) n s.channel) (made s new (kind_of_side side)) in
         let one_more_each : count side c.wait_lists + 1 ≡ n = ap (λ (m : ℕ). m + 1) (same_count held c s side h) in
         let shows : Refines held d t =
         subst (λ (x : Channel T Waiter). Refines held x t) (sym e) (shows_count held c (made s new (kind_of_side side)) side (count side c.wait_lists + 1) n one_more_each (shows_handles held c s _ h)) in
-        matching held s call None nobody (answers reply.Made nothing_kept d) (replying t reply.Made) allowed refl refl shows (sym (renamed (answers reply.Made nothing_kept d)))
+        matching held s call None nobody (answers Reply.Made nothing_kept d) (replying t Reply.Made) allowed refl refl shows (sym (renamed (answers Reply.Made nothing_kept d)))
         (sym (append-nil s.waiting.woken))
 
     raises_are : nat_lt most (count side c.wait_lists) ≡ false → (raises side (count side c.wait_lists) c).channel ≡ record c { wait_lists = with_count side (count side c.wait_lists + 1) c.wait_lists }
@@ -94,24 +93,24 @@ module _ {T : Type 0} (held : KeysHeld) (c : Channel T Waiter) (s : State T) (h 
     as_great b e = ap (λ (n : ℕ). nat_lt most n) (sym (same_count held c s side h)) ∙ e
 
     cloned : (b : Bool) → nat_lt most (count side c.wait_lists) ≡ b → Answers s call (one_more s new (kind_of_side side))
-        → Matches held s call (if b then answers reply.TooMany nothing_kept c else answers reply.Made nothing_kept (raises side (count side c.wait_lists) c).channel)
+        → Matches held s call (if b then answers Reply.TooMany nothing_kept c else answers Reply.Made nothing_kept (raises side (count side c.wait_lists) c).channel)
     cloned true e allowed =
-        let too_many : one_more s new (kind_of_side side) ≡ replying (spent s new) reply.TooMany = rw (as_great true e) refl in
-        renames (spent s new).names.handles reply.TooMany _ (subst (λ (a : Answer T). Answers s call a) too_many allowed) (sym (renamed (says_only reply.TooMany c))) refl
+        let too_many : one_more s new (kind_of_side side) ≡ replying (spent s new) Reply.TooMany = rw (as_great true e) refl in
+        renames (spent s new).names.handles Reply.TooMany _ (subst (λ (a : Answer T). Answers s call a) too_many allowed) (sym (renamed (says_only Reply.TooMany c))) refl
     cloned false e allowed =
-        let more : one_more s new (kind_of_side side) ≡ replying (with_channel (model.with_strong_handles (kind_of_side side) (model.strong_handles (kind_of_side side) s.channel + 1) s.channel) (made s new (kind_of_side side))) reply.Made = rw (as_great false e) refl in
+        let more : one_more s new (kind_of_side side) ≡ replying (with_channel (model.with_strong_handles (kind_of_side side) (model.strong_handles (kind_of_side side) s.channel + 1) s.channel) (made s new (kind_of_side side))) Reply.Made = rw (as_great false e) refl in
         counted (subst (λ (a : Answer T). Answers s call a) more allowed) _ (raises_are e)
 
     pub clones_so : (o : Outcome T Waiter) → o ≡ clones side c → Answers s call (one_more s new (kind_of_side side)) → Matches held s call o
     clones_so o e allowed = subst (λ (x : Outcome T Waiter). Matches held s call x) (sym e) (cloned (nat_lt most (count side c.wait_lists)) refl allowed)
 
-    not_made : (s.channel.closed || (model.strong_handles (kind_of_side side) s.channel == 0)) ≡ true → Answers s call (upgrade_to s new (kind_of_side side)) → Matches held s call (answers reply.NotMade nothing_kept c)
+    not_made : (s.channel.closed || (model.strong_handles (kind_of_side side) s.channel == 0)) ≡ true → Answers s call (upgrade_to s new (kind_of_side side)) → Matches held s call (answers Reply.NotMade nothing_kept c)
     not_made e allowed =
-        let none : upgrade_to s new (kind_of_side side) ≡ replying (spent s new) reply.NotMade = rw e refl in
-        renames (spent s new).names.handles reply.NotMade _ (subst (λ (a : Answer T). Answers s call a) none allowed) (sym (renamed (says_only reply.NotMade c))) refl
+        let none : upgrade_to s new (kind_of_side side) ≡ replying (spent s new) Reply.NotMade = rw e refl in
+        renames (spent s new).names.handles Reply.NotMade _ (subst (λ (a : Answer T). Answers s call a) none allowed) (sym (renamed (says_only Reply.NotMade c))) refl
 
     upgraded : (closed none : Bool) → c.queue.closed ≡ closed → (count side c.wait_lists == 0) ≡ none → Answers s call (upgrade_to s new (kind_of_side side))
-        → Matches held s call (if closed then answers reply.NotMade nothing_kept c else (if none then answers reply.NotMade nothing_kept c else clones side c))
+        → Matches held s call (if closed then answers Reply.NotMade nothing_kept c else (if none then answers Reply.NotMade nothing_kept c else clones side c))
     upgraded true none e f allowed = not_made (ap (λ (b : Bool). b || (model.strong_handles (kind_of_side side) s.channel == 0)) (sym h.closed ∙ e)) allowed
     upgraded false true e f allowed =
         let zero : (model.strong_handles (kind_of_side side) s.channel == 0) ≡ true = ap (λ (n : ℕ). n == 0) (sym (same_count held c s side h)) ∙ f in

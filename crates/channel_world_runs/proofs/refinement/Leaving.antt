@@ -1,10 +1,7 @@
 -- One who leaves a list, and passes on the notification that it was told, leaves its line so.
-use Rattle.channel_world_runs.proofs.refinement.Words.{AreUntold, AreTold, IsToldSo, ShowsLine, ShowsLines, KeysFit, list_of, of_line, false_from_ne_true, arith, ◌≡◌, ◌⊎◌, ◌≤◌, ◌-◌, ℕ, min, List, [], ◌∷◌, length, take, Bool, true, false, not, Option, None, Some, is_some, refl, sym, ap, subst, ◌∙◌, inl, inr, append-nil, if◌then◌else◌, list_any, Key, Listeners, WaitLists, listeners, with_listeners, Waiting, is_among, is_stream, untold, told_by, after_news, gone, passed_on, Kind, Placed, times, same_line, Waiter, News, Nothing, NextIn, WaitList, Sends, Receives, Streams, Closings, decided, or_false, without_absent, untold_gone, line_refl, placed_gone, empty_gone, KeysHeld, among_take}
-use Rattle.event_listener.specs.Lists.{Notice, notified, moved, passed, passed_wakes, told_as, waits_as, removed, removed_wakes, without as unlisted}
-use Rattle.channel_world_runs.proofs.refinement.Telling.{quiet_line, Lined, replaced, unmoved, first_tasks, next_line, next_other, others_woken}
-use Rattle.channel_world_runs.proofs.refinement.Names.{AllOf, among_of_line, among_its_line, not_of_line, of_line_without}
-use Rattle.channel_world_runs.proofs.refinement.Entries.{tasks_are, untold_first, none_untold, OnlyHolder, untold_without, some_told, none_told, told_without, told_found, told_missed, untold_found, untold_missed}
-use Rattle.channel_world_runs.proofs.refinement.Standing.{times_of_line, times_untold}
+use Rattle.std.specs.Prelude.{◌≡◌, ◌⊎◌, ◌≤◌, ◌-◌, ◌∷◌, if◌then◌else◌}
+use Rattle.channel_world_runs.proofs.Lemmas.{AreUntold, AreTold, IsToldSo, ShowsLine, ShowsLines, KeysFit, list_of, false_from_ne_true, arith, ℕ, min, List, [], length, take, Bool, true, false, not, Option, None, Some, is_some, refl, sym, ap, subst, ◌∙◌, inl, inr, append-nil, list_any, Key, Listeners, WaitLists, listeners, with_listeners, Waiting, is_among, is_stream, untold, told_by, after_news, gone, passed_on, Kind, Placed, times, same_line, Waiter, News, Nothing, NextIn, WaitList, Sends, Receives, Streams, Closings, decided, or_false, without_absent, untold_gone, line_refl, placed_gone, empty_gone, KeysHeld, among_take, Notice, notified, moved, passed, passed_wakes, told_as, waits_as, removed, removed_wakes, unlisted, quiet_line, Lined, replaced, unmoved, first_tasks, next_line, next_other, others_woken, AllOf, among_of_line, among_its_line, not_of_line, of_line_without, tasks_are, untold_first, none_untold, OnlyHolder, untold_without, some_told, none_told, told_without, told_found, told_missed, untold_found, untold_missed, times_of_line, times_untold}
+use Rattle.channel_world_runs.specs.refinement.Refines.{of_line}
 
 -- streams, and they alone, belong to the line of streams
 abbrev pub StreamsAreStreams : Kind → Type 0

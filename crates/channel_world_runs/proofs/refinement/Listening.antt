@@ -1,10 +1,7 @@
 -- One who comes to wait stands at the end of its line.
-use Rattle.channel_world_runs.proofs.refinement.Words.{ShowsUntold, with_held, AreUntold, AreTold, ShowsLines, KeysFit, list_of, of_line, arith, ◌≡◌, ◌≤◌, ◌+◌, List, [], ◌∷◌, ◌++◌, Bool, true, false, cond, Option, None, Some, is_some, refl, sym, ap, subst, ◌∙◌, inl, inr, if◌then◌else◌, lookup, set_value, kind_of, told_as, waits_as, same_key, listened, registration, Key, Listeners, WaitLists, listeners, with_listeners, Waiting, same_waiter, is_among, untold, with_untold, Kind, Placed, times, times_in, same_line, Waiter, WaitList, Sends, Receives, Streams, Closings, same_refl, same_sound, decided, count_append, KeysHeld}
-use Rattle.channel_world_runs.proofs.OwnerKeys.{kind_none}
-use Rattle.channel_world_runs.proofs.refinement.Names.{among_of_line, among_its_line}
-use Rattle.channel_world_runs.proofs.refinement.Entries.{same_key_refl, OnlyHolder, told_found, untold_found, zip_append}
-use Rattle.channel_world_runs.proofs.refinement.Telling.{replaced, unmoved}
-use Rattle.channel_world_runs.proofs.refinement.Standing.{Nowhere, same_of, away_holds_none, with_other, with_own, rekeyed_lines}
+use Rattle.std.specs.Prelude.{◌≡◌, ◌≤◌, ◌+◌, ◌∷◌, ◌++◌, if◌then◌else◌}
+use Rattle.channel_world_runs.proofs.Lemmas.{ShowsUntold, with_held, AreUntold, AreTold, ShowsLines, KeysFit, list_of, arith, List, [], Bool, true, false, cond, Option, None, Some, is_some, refl, sym, ap, subst, ◌∙◌, inl, inr, lookup, set_value, kind_of, told_as, waits_as, same_key, listened, registration, Key, Listeners, WaitLists, listeners, with_listeners, Waiting, same_waiter, is_among, untold, with_untold, Kind, Placed, times, times_in, same_line, Waiter, WaitList, Sends, Receives, Streams, Closings, same_refl, same_sound, decided, count_append, KeysHeld, kind_none, among_of_line, among_its_line, same_self, OnlyHolder, told_found, untold_found, zip_append, replaced, unmoved, Nowhere, same_of, away_holds_none, with_other, with_own, rekeyed_lines}
+use Rattle.channel_world_runs.specs.refinement.Refines.{of_line}
 
 -- ---- lines and lists
 
@@ -55,11 +52,11 @@ module _ (key : Key) (w : Waiter) where
   found_at false x o h = h
 
   found_last : (es : List (Key × Option Waiter)) → is_some (lookup (same_key key) (es ++ (key, None) ∷ [])) ≡ true
-  found_last [] = rw (same_key_refl key) refl
+  found_last [] = rw (same_self key) refl
   found_last (e ∷ es) = found_at (same_key key e.0) e.1 _ (found_last es)
 
   set_last : (es : List (Key × Option Waiter)) → is_some (lookup (same_key key) es) ≡ false → set_value (same_key key) (es ++ (key, None) ∷ []) (Some w) ≡ es ++ (key, Some w) ∷ []
-  set_last [] e = rw (same_key_refl key) refl
+  set_last [] e = rw (same_self key) refl
   set_last (f ∷ es) e = elim (decided (same_key key f.0)) [
     | inl t ↦ cc (rw t at e)
     | inr t ↦ rw t (ap (λ (xs : List (Key × Option Waiter)). f ∷ xs) (set_last es (rw t at e)))

@@ -1,5 +1,6 @@
 -- What makes an outcome match, once it is known who keeps the listener that the call leaves.
-use Rattle.channel_world_runs.proofs.refinement.Words.{Channel, ModelChannel, with_messages, line_at, KeysFit, ShowsLines, Refines, with_held, Queue, sym, ◌∙◌, ap, ◌≡◌, List, ◌++◌, Option, subst, option_map_or, Outcome, Answer, without_waiter, Answers, State, Call, Waiter, Key, keeper, Matches, names_after, KeysHeld}
+use Rattle.std.specs.Prelude.{◌≡◌, ◌++◌}
+use Rattle.channel_world_runs.proofs.Words.{Channel, PlainChannel as ModelChannel, with_messages, line_at, KeysFit, ShowsLines, Refines, with_held, Queue, sym, ◌∙◌, ap, List, Option, subst, option_map_or, Outcome, Answer, without_waiter, Answers, State, Call, Waiter, Key, keeper, Matches, names_after, KeysHeld}
 
 -- the keys held once this one is left to its keeper, and who is told of these then
 abbrev pub held_by : Option Waiter → Option Key → KeysHeld → KeysHeld

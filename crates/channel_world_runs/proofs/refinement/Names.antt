@@ -1,5 +1,7 @@
 -- Names in lists, those of one line among them, and how often a name stands.
-use Rattle.channel_world_runs.proofs.refinement.Words.{false_from_ne_true, ◌≡◌, List, [], ◌∷◌, ◌++◌, true, false, Option, None, Some, refl, sym, ap, subst, ◌∙◌, inl, inr, filter-append, same_waiter, is_among, without_waiter, Kind, same_line, is_line, Waiter, WaitList, same_sound, decided, or_true, among_self, or_right, line_refl, line_sound, of_line}
+use Rattle.std.specs.Prelude.{◌≡◌, ◌∷◌, ◌++◌}
+use Rattle.channel_world_runs.proofs.Words.{false_from_ne_true, List, [], true, false, Option, None, Some, refl, sym, ap, subst, ◌∙◌, inl, inr, filter-append, same_waiter, is_among, without_waiter, Kind, same_line, is_line, Waiter, WaitList, same_sound, decided, or_true, among_self, or_right, line_refl, line_sound}
+use Rattle.channel_world_runs.specs.refinement.Refines.{of_line}
 
 -- one that stands among those of a line is of it
 pub among_of_line : (kind : Kind) (line : WaitList) (w : Waiter) (ws : List Waiter) → is_among w (of_line kind line ws) ≡ true → (is_among w ws ≡ true) × (kind w ≡ Some line)

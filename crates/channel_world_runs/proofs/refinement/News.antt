@@ -1,32 +1,31 @@
 -- News are told over the four lists as over the four lines, and those that are woken are the same, in order.
-use Rattle.channel_world_runs.proofs.refinement.Words.{arith, ◌≡◌, ◌≤◌, ℕ, zero, suc, List, ◌++◌, take, Bool, true, refl, sym, ap, subst, ◌∙◌, append_assoc, append-nil, WaitLists, listeners, with_listeners, told_one, told_one_wakes, told_more, told_more_wakes, told_all, told_all_wakes, Waiting, told_by, after_news, after_rooms, told_by_rooms, all_told, Kind, Waiter, News, Nothing, Message, Room, Closing, NextIn, WaitList, Sends, Receives, Streams, Closings, times_news, KeysHeld, ShowsLines, KeysFit, list_of}
-use Rattle.channel_calls.specs.declared.stage.WaitList.TheVariants as list
-use Rattle.channel_world_runs.proofs.refinement.Telling.{quiet_line, Lined, lined_all, lined_next, one_told, one_woken, all_are_told, all_woken, message_is, closing_is}
-use Rattle.channel_world_runs.proofs.refinement.Entries.{told_closed}
+use Rattle.std.specs.Prelude.{◌≡◌, ◌≤◌, ◌++◌}
+use Rattle.channel_world_runs.proofs.Lemmas.{arith, ℕ, zero, suc, List, take, Bool, true, refl, sym, ap, subst, ◌∙◌, append_assoc, append-nil, WaitLists, listeners, with_listeners, told_one, told_one_wakes, told_more, told_more_wakes, told_all, told_all_wakes, Waiting, told_by, after_news, after_rooms, told_by_rooms, all_told, Kind, Waiter, News, Nothing, Message, Room, Closing, NextIn, WaitList, Sends, Receives, Streams, Closings, times_news, KeysHeld, ShowsLines, KeysFit, list_of, quiet_line, Lined, lined_all, lined_next, one_told, one_woken, all_are_told, message_is, closing_is, told_closed}
+use Rattle.channel_world_runs.proofs.refinement.Telling.{all_woken}
 
 abbrev pub room_told : WaitLists Waiter → WaitLists Waiter
-room_told a = with_listeners list.Sends (told_one a.sends) a
+room_told a = with_listeners WaitList.Sends (told_one a.sends) a
 
 abbrev pub rooms_told : ℕ → WaitLists Waiter → WaitLists Waiter
-rooms_told n a = with_listeners list.Sends (told_more n a.sends) a
+rooms_told n a = with_listeners WaitList.Sends (told_more n a.sends) a
 
 abbrev pub receive_told : WaitLists Waiter → WaitLists Waiter
-receive_told a = with_listeners list.Receives (told_one a.receives) a
+receive_told a = with_listeners WaitList.Receives (told_one a.receives) a
 
 abbrev pub streams_told : WaitLists Waiter → WaitLists Waiter
-streams_told a = with_listeners list.Streams (told_all a.streams) a
+streams_told a = with_listeners WaitList.Streams (told_all a.streams) a
 
 abbrev pub message_told : WaitLists Waiter → WaitLists Waiter
 message_told a = streams_told (receive_told a)
 
 abbrev pub sends_told : WaitLists Waiter → WaitLists Waiter
-sends_told a = with_listeners list.Sends (told_all a.sends) a
+sends_told a = with_listeners WaitList.Sends (told_all a.sends) a
 
 abbrev pub receives_told : WaitLists Waiter → WaitLists Waiter
-receives_told a = with_listeners list.Receives (told_all a.receives) a
+receives_told a = with_listeners WaitList.Receives (told_all a.receives) a
 
 abbrev pub closings_told : WaitLists Waiter → WaitLists Waiter
-closings_told a = with_listeners list.Closings (told_all a.closings) a
+closings_told a = with_listeners WaitList.Closings (told_all a.closings) a
 
 abbrev pub closing_told : WaitLists Waiter → WaitLists Waiter
 closing_told a = closings_told (streams_told (receives_told (sends_told a)))

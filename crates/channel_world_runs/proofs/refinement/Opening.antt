@@ -1,6 +1,6 @@
 -- A channel that was just opened shows the start.
-use Rattle.channel_world_runs.proofs.refinement.Words.{ℕ, [], Option, refl, Channel, new_channel, line_at, State, start, Waiter, Sends, nothing_held, OpeningIsOver, Refines, ShowsLines}
-use Rattle.channel_world_model.proofs.Interface.{start_awake}
+use Rattle.channel_world_runs.proofs.Words.{ℕ, [], Option, refl, Channel, new_channel, line_at, State, start, Waiter, Sends, Refines, ShowsLines, start_awake}
+use Rattle.channel_world_runs.specs.refinement.Opening.{nothing_held, OpeningIsOver}
 
 module _ (T : Type 0) (capacity : Option ℕ) where
   abbrev channel : Channel T Waiter

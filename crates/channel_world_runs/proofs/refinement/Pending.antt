@@ -1,10 +1,8 @@
 -- A poll that finds nothing: it stays where it waits, or comes to wait, or was not let listen.
-use Rattle.channel_world_runs.proofs.refinement.Words.{◌≡◌, List, [], Bool, true, false, not, Option, None, Some, is_some, refl, sym, ap, subst, ◌∙◌, if◌then◌else◌, set_value_same, Key, Listeners, WaitLists, listeners, with_listeners, waits, Waiting, same_waiter, is_among, untold, gone, standing, Kind, Placed, Waiter, WaitList, Sends, same_sound, placed_gone, KeysHeld, with_held, ShowsLines, KeysFit, list_of, of_line}
-use Rattle.event_listener.specs.Lists.{kind_of, told_as, waits_as, same_key, listened, registration, with_task, Notice, without as unlisted}
-use Rattle.channel_world_runs.proofs.refinement.Names.{among_of_line, among_its_line}
-use Rattle.channel_world_runs.proofs.refinement.Entries.{OnlyHolder, told_found, told_missed, untold_found}
-use Rattle.channel_world_runs.proofs.refinement.Telling.{replaced}
-use Rattle.channel_world_runs.proofs.refinement.Standing.{Nowhere, gone_nowhere, nowhere_gone, keyless_nowhere, rekeyed_lines, keys_gone}
+use Rattle.std.specs.Prelude.{◌≡◌, if◌then◌else◌}
+use Rattle.channel_world_runs.proofs.Lemmas.{List, [], Bool, true, false, not, Option, None, Some, is_some, refl, sym, ap, subst, ◌∙◌, set_value_same, Key, Listeners, WaitLists, listeners, with_listeners, Waiting, same_waiter, is_among, untold, gone, standing, Kind, Placed, Waiter, WaitList, Sends, same_sound, placed_gone, KeysHeld, with_held, ShowsLines, KeysFit, list_of, kind_of, told_as, waits_as, same_key, listened, registration, with_task, Notice, unlisted, among_of_line, among_its_line, OnlyHolder, told_found, told_missed, untold_found, replaced, Nowhere, gone_nowhere, nowhere_gone, keyless_nowhere, rekeyed_lines, keys_gone}
+use Rattle.channel_calls.specs.Parts.{waits}
+use Rattle.channel_world_runs.specs.refinement.Refines.{of_line}
 use Rattle.channel_world_runs.proofs.refinement.Departing.{same_senders, same_receivers}
 use Rattle.channel_world_runs.proofs.refinement.Leaving.{StreamsAreStreams, own_gone, other_gone}
 use Rattle.channel_world_runs.proofs.refinement.Listening.{second_of, joins_keys, joins_lines, joins_wait_lists, joined, at_last}

@@ -1,8 +1,7 @@
 -- Polls that wait.
-use Rattle.channel_world_runs.proofs.refinement.Words.{false_from_ne_true, ◌≡◌, ◌⊎◌, Bool, true, false, Option, None, Some, refl, inl, inr, kind_of, Key, ListenError, Channel, listens, registers, listeners, waits, Reply, Outcome, Where, answers, line_at, Waiting, is_among, untold, gone, standing, AwakeIn, State, with_waiting, Waiter, WaitList, decided, KeysHeld, with_held, Refines, list_of}
-use Rattle.channel_calls.specs.Turns.{leaving as keeping}
-use Rattle.channel_world_runs.proofs.refinement.Matching.{shows_again}
-use Rattle.channel_world_runs.proofs.refinement.Standing.{Nowhere, keyless_nowhere, away_holds_none}
+use Rattle.std.specs.Prelude.{◌≡◌, ◌⊎◌}
+use Rattle.channel_world_runs.proofs.Lemmas.{false_from_ne_true, Bool, true, false, Option, None, Some, refl, inl, inr, kind_of, Key, ListenError, Channel, listens, registers, listeners, Reply, Outcome, Where, answers, line_at, Waiting, is_among, untold, gone, standing, AwakeIn, State, with_waiting, Waiter, WaitList, decided, KeysHeld, with_held, Refines, list_of, leaving as keeping, shows_again, Nowhere, keyless_nowhere, away_holds_none}
+use Rattle.channel_calls.specs.Parts.{waits}
 use Rattle.channel_world_runs.proofs.refinement.Departing.{streams_are}
 use Rattle.channel_world_runs.proofs.refinement.Told.{not_both}
 use Rattle.channel_world_runs.proofs.refinement.Pending.{Waited, away_unheld, away_told, stays, listens_so}

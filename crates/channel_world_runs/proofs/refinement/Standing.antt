@@ -1,5 +1,7 @@
 -- Who stands in the lines once one is gone, and what that is to the keys.
-use Rattle.channel_world_runs.proofs.refinement.Words.{false_from_ne_true, arith, ◌≡◌, ◌≤◌, ℕ, List, [], ◌∷◌, length, Bool, true, false, cond, Option, None, Some, IsSome, refl, sym, ap, subst, ◌∙◌, inl, inr, filter, Key, WaitLists, listeners, Waiting, same_waiter, is_among, untold, gone, Kind, times, times_in, Placed, is_line, Waiter, WaitList, Sends, Receives, Streams, Closings, same_sound, decided, without_absent, none_left, untold_gone, among_self, or_right, absent_counts, KeysHeld, with_held, AreTold, ShowsLines, KeysFit, list_of, of_line}
+use Rattle.std.specs.Prelude.{◌≡◌, ◌≤◌, ◌∷◌}
+use Rattle.channel_world_runs.proofs.Words.{false_from_ne_true, arith, ℕ, List, [], length, Bool, true, false, cond, Option, None, Some, IsSome, refl, sym, ap, subst, ◌∙◌, inl, inr, filter, Key, WaitLists, listeners, Waiting, same_waiter, is_among, untold, gone, Kind, times, times_in, Placed, is_line, Waiter, WaitList, Sends, Receives, Streams, Closings, same_sound, decided, without_absent, none_left, untold_gone, among_self, or_right, absent_counts, KeysHeld, with_held, AreTold, ShowsLines, KeysFit, list_of}
+use Rattle.channel_world_runs.specs.refinement.Refines.{of_line}
 use Rattle.channel_world_runs.proofs.refinement.Names.{among_of_line, among_its_line}
 use Rattle.channel_world_runs.proofs.refinement.Entries.{times_other, untold_kept, told_kept, untold_holds, told_holds}
 

@@ -1,5 +1,7 @@
 -- Telling: the lists of a channel go on to show the lines of a state.
-use Rattle.channel_world_runs.proofs.refinement.Words.{AreUntold, AreToldInTurn, AreTold, IsToldSo, ShowsLine, ShowsLines, list_of, of_line, arith, ◌≡◌, ℕ, min, List, [], ◌∷◌, ◌++◌, length, take, drop, map, Bool, true, false, Option, Some, refl, sym, ap, subst, ◌∙◌, inl, inr, append_assoc, append-nil, Notice, told_with, tasks_of, notified, Key, Listeners, WaitLists, listeners, with_listeners, told_one, told_one_wakes, told_all, told_all_wakes, Waiting, is_among, untold, after_news, all_told, Kind, same_line, Waiter, Nothing, Message, Closing, NextIn, WaitList, Sends, Receives, Streams, Closings, decided, among_take, among_drop, line_sound, KeysHeld}
+use Rattle.std.specs.Prelude.{◌≡◌, ◌∷◌, ◌++◌}
+use Rattle.channel_world_runs.proofs.Words.{AreUntold, AreToldInTurn, AreTold, IsToldSo, ShowsLine, ShowsLines, list_of, arith, ℕ, min, List, [], length, take, drop, map, Bool, true, false, Option, Some, refl, sym, ap, subst, ◌∙◌, inl, inr, append_assoc, append-nil, Notice, told_with, tasks_of, notified, Key, Listeners, WaitLists, listeners, with_listeners, told_one, told_one_wakes, told_all, told_all_wakes, Waiting, is_among, untold, after_news, all_told, Kind, same_line, Waiter, Nothing, Message, Closing, NextIn, WaitList, Sends, Receives, Streams, Closings, decided, among_take, among_drop, line_sound, KeysHeld}
+use Rattle.channel_world_runs.specs.refinement.Refines.{of_line}
 use Rattle.channel_world_runs.proofs.refinement.Names.{AllOf, of_line_append, of_own_line, of_other_line}
 use Rattle.channel_world_runs.proofs.refinement.Entries.{tasks_are, untold_rest, untold_first, told_then, just_told}
 

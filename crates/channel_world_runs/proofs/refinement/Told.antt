@@ -1,5 +1,6 @@
 -- Those who are woken after a call, and the names whose operation is what it was.
-use Rattle.channel_world_runs.proofs.refinement.Words.{arith, ◌≡◌, ◌≤◌, ◌+◌, nat_eq, List, [], ◌++◌, Bool, true, false, not, Option, None, Some, refl, sym, ap, ◌∙◌, append-nil, append_assoc, inl, inr, lookup, option_map_or, filter-append, set_value_same, Kind, Placed, times, times_in, Waiting, same_waiter, is_among, without_waiter, untold, told_by, after_news, gone, passed_on, left_after, told_after, standing, Names, Directory, Operation, at, with_operation_changed, OpId, Waiter, News, WaitList, Sends, decided, without_absent, none_left, among_counts, left_nowhere}
+use Rattle.std.specs.Prelude.{◌≡◌, ◌≤◌, ◌+◌, ◌++◌}
+use Rattle.channel_world_runs.proofs.Lemmas.{arith, nat_eq, List, [], Bool, true, false, not, Option, None, Some, refl, sym, ap, ◌∙◌, append-nil, append_assoc, inl, inr, lookup, option_map_or, filter-append, set_value_same, Kind, Placed, times, times_in, Waiting, same_waiter, is_among, without_waiter, untold, told_by, after_news, gone, passed_on, left_after, told_after, standing, Names, Directory, Operation, at, with_operation_changed, OpId, Waiter, News, WaitList, Sends, decided, without_absent, none_left, among_counts, left_nowhere}
 use Rattle.channel_world_runs.proofs.refinement.Departing.{times_nowhere}
 
 -- ---- those that are woken

@@ -1,6 +1,7 @@
 -- The names of those that listen on one list, in its order.
-use Rattle.channel_world_runs.proofs.rest.Words.{AllZip, zip_append, ◌≡◌, ◌≤◌, Bool, true, false, List, [], ◌∷◌, ◌++◌, length, Option, Some, ◌⊎◌, inl, inr, refl, sym, ap, ◌∙◌, subst, arith, keys_of, Notice, Key, WaitList, Sends, MayBeTold, EachTold, IsIn, absent_counts, same_refl, same_sound, decided, or_true, KeysHeld, Kind, times, same_waiter, is_among, Waiter, IsAmong, NoneTwice, key_of_entry, AreUntold, IsToldSo, AreToldInTurn}
-use Rattle.std.proofs.lemmas.Slice.Zip.{AllZip-long}
+use Rattle.std.specs.Prelude.{◌≡◌, ◌≤◌, ◌∷◌, ◌++◌, ◌⊎◌}
+use Rattle.channel_world_runs.proofs.Lemmas.{AllZip, Bool, true, false, List, [], length, Option, Some, inl, inr, refl, sym, ap, ◌∙◌, subst, arith, keys_of, Notice, Key, WaitList, Sends, MayBeTold, EachTold, IsIn, absent_counts, same_refl, same_sound, decided, or_true, KeysHeld, Kind, times, same_waiter, is_among, Waiter, IsAmong, NoneTwice, AreUntold, IsToldSo, AreToldInTurn, AllZip-long, zip_append}
+use Rattle.channel_world_runs.proofs.OwnerWokenLists.{key_of_entry}
 
 -- ---- keys
 
@@ -45,8 +46,6 @@ module _ (Has : Key → Waiter → Type 0) where
   pub stand_key : (ks : List Key) (ws : List Waiter) (w : Waiter) → Stand ks ws → is_among w ws ≡ true
       → (key : Key) × IsAmong key ks × Has key w
   stand_key [] [] w h e = absurd (let no : false ≡ true = e in cc)
-  stand_key [] (v ∷ ws) w h e = absurd h
-  stand_key (k ∷ ks) [] w h e = absurd h
   stand_key (k ∷ ks) (v ∷ ws) w h e = by (or_true (same_waiter w v) (is_among w ws) e) (stand_key ks ws w h.1)
     where
       by : (same_waiter w v ≡ true) ⊎ (is_among w ws ≡ true)
@@ -54,6 +53,7 @@ module _ (Has : Key → Waiter → Type 0) where
           → (key : Key) × IsAmong key (k ∷ ks) × Has key w
       by (inl same) on = (k, inl refl, subst (λ (x : Waiter). Has k x) (sym (same_sound w v same)) h.0)
       by (inr i) on = let more = on i in (more.0, inr more.1, more.2)
+  stand_key ks ws w h e = absurd h
 
   pub stand_none : (ks : List Key) (ws : List Waiter) (w : Waiter) → Stand ks ws
       → ((key : Key) → IsAmong key ks → Has key w → ⊥) → times w ws ≡ 0
@@ -67,8 +67,6 @@ module _ (Has : Key → Waiter → Type 0) where
   pub stand_once : (ks : List Key) (ws : List Waiter) (w : Waiter) → NoneTwice ks → ((j k : Key) → Has j w → Has k w → j ≡ k)
       → Stand ks ws → times w ws ≤ 1
   stand_once [] [] w once apart h = omega arith
-  stand_once [] (v ∷ ws) w once apart h = absurd h
-  stand_once (k ∷ ks) [] w once apart h = absurd h
   stand_once (k ∷ ks) (v ∷ ws) w once apart h = by (decided (same_waiter w v)) (stand_once ks ws w once.1 apart h.1)
     where
       by : (same_waiter w v ≡ true) ⊎ (same_waiter w v ≡ false) → times w ws ≤ 1 → times w (v ∷ ws) ≤ 1
@@ -78,6 +76,7 @@ module _ (Has : Key → Waiter → Type 0) where
           stand_none ks ws w h.1 (λ key i g. once.0 (subst (λ (x : Key). IsAmong x ks) (apart key k g mine) i)) in
           rw same (omega (arith, none))
       by (inr other) on = rw other on
+  stand_once ks ws w once apart h = absurd h
 
   -- a key is had by one name alone: so that name stands there
   pub stand_there : (ks : List Key) (ws : List Waiter) (w : Waiter) (key : Key) → ((v : Waiter) → Has key v → v ≡ w)

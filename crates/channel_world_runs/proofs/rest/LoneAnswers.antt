@@ -1,23 +1,13 @@
 -- A call that is made alone on a channel at rest answers as the model may, and leaves the model's state.
-use Rattle.channel_world_runs.proofs.rest.Words.{tasks_are, told_holds, arith, ℕ, ◌≡◌, ◌≤◌, ◌+◌, List, [], ◌∷◌, ◌++◌, true, false, Option, None, Some, IsSome, is_some, inl, inr, refl, sym, ap, subst, ◌∙◌, filter-append, option_map_or, Key, Channel, Reply, ListenerRef, WaitList, Sends, Receives, Streams, Closings, Outcome, Alone, left_among, or_right, Answer, AwakeIn, times, times_in, line_at, Waiting, same_waiter, is_among, without_waiter, Names, State, Call, Waiter, Op, Stream, HandleId, Admitted, admitted, at, HandleEntry, keeper, Matches, held_after, with_held, Configuration, asks, WorldInvariant, names_alone, order_alone, name_state_alone, IsAmong, invalid, waits, status, under_way_in, begin_refusal, names_of, held_of, NameState, but_for, NonePolled, RefusalsAgree, LoneCallsAnswer, PollsAnswer, state_at, IsWorld}
-use Rattle.channel_world_runs.proofs.refinement.Names.{among_its_line}
-use Rattle.channel_world_model.proofs.Interface.{awake_after}
-use Rattle.channel_world_model.specs.Refused.{Answers}
-use Rattle.channel_world_model.specs.Settling.{poll_of}
-use Rattle.channel_world_model.proofs.LawSteps.{poll_awake}
+use Rattle.std.specs.Prelude.{◌≡◌, ◌≤◌, ◌+◌, ◌∷◌, ◌++◌}
+use Rattle.channel_world_runs.proofs.Lemmas.{arith, ℕ, List, [], true, false, Option, None, Some, IsSome, is_some, inl, inr, refl, sym, ap, subst, ◌∙◌, filter-append, option_map_or, Key, Channel, Reply, ListenerRef, WaitList, Sends, Receives, Streams, Closings, Outcome, Alone, left_among, or_right, Answer, AwakeIn, times, times_in, line_at, Waiting, same_waiter, is_among, without_waiter, Names, State, Call, Waiter, Op, Stream, HandleId, at, HandleEntry, keeper, Matches, held_after, with_held, Configuration, asks, WorldInvariant, names_alone, order_alone, name_state_alone, IsAmong, invalid, waits, status, under_way_in, begin_refusal, names_of, held_of, NameState, but_for, NonePolled, RefusalsAgree, LoneCallsAnswer, PollsAnswer, state_at, IsWorld, awake_after, Answers, poll_of, poll_awake, zero, suc, nat_lt, all_uses, Agent, KeysHeld as Holding, PlainChannel, tasks_are, told_holds, Admitted, admitted, among_its_line, Pends, pends}
 use Rattle.channel_world_runs.proofs.refinement.Streams.{poll_next}
 use Rattle.channel_world_runs.proofs.WokenPolls.{woken_admitted, poll_accepted}
-use Rattle.std.specs.Prelude.{zero, suc, nat_lt}
-use Rattle.channel_world_runs.specs.Users.{all_uses}
-use Rattle.channel_world_runs.specs.Calls.{Agent}
-use Rattle.channel_world_model.specs.Asked.{KeysHeld as Holding}
-use Rattle.channel_calls.specs.Model.{ModelChannel as PlainChannel}
 use Rattle.channel_world_model.specs.Refusal as model
-use Rattle.channel_world_model.specs.declared.call.Call.TheVariants as call
 use Rattle.channel_world_runs.proofs.rest.LoneWoken.{left_of, woken_follows}
 use Rattle.channel_world_runs.proofs.rest.LoneAsks.{asks_same, refusal_same}
 use Rattle.channel_world_runs.proofs.rest.LoneNames.{names_follow}
-use Rattle.channel_world_runs.proofs.rest.Names.{on, Pends, pends}
+use Rattle.channel_world_runs.proofs.rest.Names.{on}
 use Rattle.channel_world_runs.proofs.rest.World.{rest_is_a_world}
 
 -- ---- names
@@ -195,11 +185,11 @@ module _ {T : Type 0} (b : NameState T) (s t : Configuration T Waiter) (o : Outc
     (rest : s.under_way ≡ []) (now : t.now ≡ o.channel) where
   -- a stream that is pending is polled, and answers as the model may
   stream_polls_answer : (receiver : HandleId) → is_among (Stream receiver) b.order.woken ≡ true
-      → Alone (asks b.name_table (call.PollNext receiver)) s.now o
-      → Answers (state_at b s) (call.PollNext receiver)
-      (record { after = state_at (name_state_alone b (call.PollNext receiver) o) t; reply = o.reply; woken = o.woken })
+      → Alone (asks b.name_table (Call.PollNext receiver)) s.now o
+      → Answers (state_at b s) (Call.PollNext receiver)
+      (record { after = state_at (name_state_alone b (Call.PollNext receiver) o) t; reply = o.reply; woken = o.woken })
   stream_polls_answer receiver e alone =
-      let c : Call T = call.PollNext receiver in
+      let c : Call T = Call.PollNext receiver in
       let world : IsWorld b s = rest_is_a_world T b s kept rest in
       let matches : Matches (held_of b.name_table) (state_at b s) c o =
       poll_next (held_of b.name_table) s.now (state_at b s) world.shows world.awake receiver o
@@ -211,7 +201,7 @@ module _ {T : Type 0} (b : NameState T) (s t : Configuration T Waiter) (o : Outc
       → Answers (state_at b s) (poll_of w) (record { after = state_at (name_state_alone b (poll_of w) o) t; reply = o.reply; woken = o.woken })
   polls_answer (Stream receiver) e alone = stream_polls_answer receiver e alone
   polls_answer (Op op) e alone =
-      they_answer T b s t (call.Poll op) o kept none rest (poll_accepted b.name_table op (woken_admitted b s (Op op) kept.owned kept.woken e)) alone now
+      they_answer T b s t (Call.Poll op) o kept none rest (poll_accepted b.name_table op (woken_admitted b s (Op op) kept.owned kept.woken e)) alone now
 
 pub they_poll : (T : Type 0) → PollsAnswer T
 they_poll T b s t w o kept none rest e alone now = polls_answer b s t o kept none rest now w e alone

@@ -1,15 +1,10 @@
 -- Where no poll is under way a call asks what it asks in the model, and is refused where and why it is refused there.
-use Rattle.channel_world_runs.proofs.rest.Words.{◌≡◌, Bool, true, false, Option, None, Some, ◌⊎◌, inl, inr, refl, sym, ap, ◌∙◌, option_map, option_map_or, WaitList, Sends, Receives, Streams, Closings, asked, at, State, Call, HandleId, HandleKind, OpId, Waiter, Op, Stream, asks, invalid, polled, stream_status, operation_status, status, under_way_in, begin_refusal, is_polled, has_finished, is_done, names_of, held_of, HandleEntry, OperationEntry, PollState, Rests, Waits, IsPolled, NameTable, op_is, NonePolled, Operation}
-use Rattle.channel_calls.specs.declared.ask.ChannelAsk.{ChannelAsk}
+use Rattle.std.specs.Prelude.{◌≡◌, ◌⊎◌}
+use Rattle.channel_world_runs.proofs.Lemmas.{Bool, true, false, Option, None, Some, inl, inr, refl, sym, ap, ◌∙◌, option_map, option_map_or, WaitList, Sends, Receives, Streams, Closings, at, State, Call, HandleId, HandleKind, OpId, Waiter, Op, Stream, asks, invalid, polled, stream_status, operation_status, status, under_way_in, begin_refusal, is_polled, has_finished, is_done, names_of, held_of, HandleEntry, OperationEntry, PollState, Rests, Waits, IsPolled, NameTable, NonePolled, Operation, ChannelAsk, UnderWay, nobody_under_way, refusal_beside, refusal, op_is, operation_at}
+use Rattle.channel_world_model.specs.Asked.{asked}
 use Rattle.channel_world_runs.proofs.OwnerCalls.{hold_is}
-use Rattle.channel_world_runs.proofs.RefusalLemmas.{operation_at}
-use Rattle.channel_calls.specs.declared.ask.ChannelAsk.TheVariants as ask
 use Rattle.channel_world_model.specs.Answer as model
 use Rattle.channel_world_model.specs.Names as names
-use Rattle.channel_world_model.specs.Refusal.{UnderWay, nobody_under_way, refusal_beside, refusal}
-use Rattle.channel_world_model.specs.declared.call.Call.TheVariants as call
-use Rattle.channel_world_model.specs.declared.name.HandleKind.TheVariants as handle_kind
-use Rattle.channel_world_model.specs.declared.name.Operation.TheVariants as live
 
 -- where no poll is under way and no handle is used, none is
 nobody : (u : UnderWay) → ((w : Waiter) → u.polled w ≡ false) → ((handle : HandleId) → u.used handle ≡ false) → u ≡ nobody_under_way
@@ -20,22 +15,22 @@ polled_stream : (k : HandleKind) (s : PollState) → is_polled s ≡ true
     → ((line : WaitList) × (stream_status k s ≡ polled line)) ⊎ (stream_status k s ≡ invalid)
 polled_stream k Rests e = absurd (let no : false ≡ true = e in cc)
 polled_stream k (Waits key) e = absurd (let no : false ≡ true = e in cc)
-polled_stream handle_kind.Receiver (IsPolled b) e = inl (Streams, refl)
+polled_stream HandleKind.Receiver (IsPolled b) e = inl (Streams, refl)
 polled_stream k s e = inr refl
 
 module _ {T : Type 0} where
   polled_operation : (x : Operation T) (s : PollState) → is_polled s ≡ true → (line : WaitList) × (operation_status x s ≡ polled line)
-  polled_operation (live.Send h None) (IsPolled b) e = (Sends, refl)
-  polled_operation (live.Send h (Some m)) (IsPolled b) e = (Sends, refl)
-  polled_operation (live.Receive h) (IsPolled b) e = (Receives, refl)
-  polled_operation (live.Closing h) (IsPolled b) e = (Closings, refl)
+  polled_operation (Operation.Send h None) (IsPolled b) e = (Sends, refl)
+  polled_operation (Operation.Send h (Some m)) (IsPolled b) e = (Sends, refl)
+  polled_operation (Operation.Receive h) (IsPolled b) e = (Receives, refl)
+  polled_operation (Operation.Closing h) (IsPolled b) e = (Closings, refl)
   polled_operation x s e = absurd (let no : false ≡ true = e in cc)
 
   finished_as : (x : Operation T) (s : PollState) → is_polled s ≡ false → has_finished x s ≡ model.is_finished (Some x)
-  finished_as (live.Send h None) Rests e = refl
-  finished_as (live.Send h None) (Waits key) e = refl
-  finished_as (live.Send h None) (IsPolled b) e = absurd (let no : true ≡ false = e in cc)
-  finished_as (live.Send h (Some m)) s e = refl
+  finished_as (Operation.Send h None) Rests e = refl
+  finished_as (Operation.Send h None) (Waits key) e = refl
+  finished_as (Operation.Send h None) (IsPolled b) e = absurd (let no : true ≡ false = e in cc)
+  finished_as (Operation.Send h (Some m)) s e = refl
   finished_as x s e = refl
 
   module _ (r : NameTable T) (none : NonePolled r) where
@@ -61,8 +56,8 @@ module _ {T : Type 0} where
         by (Some o) e = rw e (finished_as o.operation o.poll_state (unpolled op o e))
 
     pub asks_same : (c : Call T) → asks r c ≡ asked (held_of r) (names_of r) c
-    asks_same (call.SendIsTerminated op) =
-        ap (λ (b : Bool). let x : ChannelAsk T Waiter = ask.SendIsTerminated b in x) (finished_same op)
+    asks_same (Call.SendIsTerminated op) =
+        ap (λ (b : Bool). let x : ChannelAsk T Waiter = ChannelAsk.SendIsTerminated b in x) (finished_same op)
     asks_same c = refl
 
     -- ---- what is refused

@@ -1,6 +1,7 @@
 -- What lives under a name and is changed, seen or not.
-use Rattle.channel_world_runs.proofs.rest.Words.{is_some, ◌≡◌, ℕ, nat_eq, [], ◌∷◌, map, Option, None, Some, inl, inr, refl, sym, ap, ◌∙◌, set_value, option_map, option_map_or, set_twice, at_seen, decided, Directory, at, with_changed, found, set_there}
-use Rattle.std.proofs.lemmas.Map.Steps.{set_value_same}
+use Rattle.std.specs.Prelude.{◌≡◌, ◌∷◌}
+use Rattle.channel_world_runs.proofs.Words.{is_some, ℕ, nat_eq, [], map, Option, None, Some, inl, inr, refl, sym, ap, ◌∙◌, set_value, option_map, option_map_or, set_twice, at_seen, decided, Directory, at, with_changed, set_value_same}
+use Rattle.channel_world_runs.proofs.OwnerNames.{found, set_there}
 
 -- each thing seen through this function
 abbrev pub views : {X Y : Type 0} → (X → Y) → Directory X → Directory Y

@@ -1,8 +1,7 @@
 -- What the parts of a call do to the names, as one call at a time sees them.
-use Rattle.channel_world_runs.proofs.rest.Words.{◌≡◌, ◌+◌, ◌-◌, Option, None, refl, ap, Directory, Names, lent_once_more, used_once_less, Handle, HandleId, OpId, Returned, lent_to_poll, restored, with_operation, used_more, used_less, borrowed_more, handed_over, names_of, with_handle, with_lent, with_given_back, with_borrowed, with_handed_over, with_poll_state, HandleEntry, OperationEntry, PollState, NameTable, Operation, with_message}
+use Rattle.std.specs.Prelude.{◌≡◌, ◌+◌, ◌-◌}
+use Rattle.channel_world_runs.proofs.Lemmas.{Option, None, refl, ap, Directory, Names, lent_once_more, used_once_less, Handle, HandleId, OpId, Returned, lent_to_poll, restored, with_operation, used_more, used_less, borrowed_more, handed_over, names_of, with_handle, with_lent, with_given_back, with_borrowed, with_handed_over, with_poll_state, HandleEntry, OperationEntry, PollState, NameTable, Operation, with_message, changed_at, views_changed, views_kept}
 use Rattle.channel_world_model.specs.Names as model
-use Rattle.channel_world_runs.proofs.rest.LoneDirectory.{changed_at, views_changed, views_kept}
-use Rattle.channel_world_model.specs.declared.name.Operation.TheVariants as live
 
 -- ---- handles
 
@@ -25,7 +24,7 @@ module _ {T : Type 0} where
 
   -- the last of two messages stays
   pub put_twice : (first last : Option T) (x : Operation T) → with_message last (with_message first x) ≡ with_message last x
-  put_twice first last (live.Send handle msg) = refl
+  put_twice first last (Operation.Send handle msg) = refl
   put_twice first last x = refl
 
   -- ---- all names

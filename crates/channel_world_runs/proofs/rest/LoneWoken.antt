@@ -1,11 +1,7 @@
 -- A call that was made alone leaves those that were woken in the order in which the model leaves them.
-use Rattle.channel_world_runs.proofs.rest.Words.{◌≡◌, ◌≤◌, ◌+◌, arith, List, [], ◌∷◌, ◌++◌, Bool, true, false, not, cond, Option, None, Some, ◌⊎◌, inl, inr, refl, sym, ap, subst, ◌∙◌, false_from_ne_true, filter, filter-append, append_assoc, append-nil, option_map_or, Key, ListenerRef, Outcome, count_append, among_counts, among_self, or_right, same_sound, decided, without_absent, times, same_waiter, is_among, without_waiter, Call, Waiter, Op, Stream, asks, on_return_of, names_begun, all_woken, order_begun, order_settled, WakeOrder, IsAmong, waits, free, status, is_name_pending, names_of, OnReturn, NameTable, Admitted, order_alone, but_for, NameState, Configuration, WorldInvariant}
-use Rattle.channel_world_runs.specs.declared.names.OnReturn.TheVariants as on_return
-use Rattle.channel_world_model.specs.Asked.{keeper_in}
-use Rattle.channel_world_runs.specs.Owners.{subject}
-use Rattle.channel_world_runs.proofs.OwnerBegins.{IsBusy, Keeps, Ordered, Quiet, Touches, Sane, held_in}
+use Rattle.std.specs.Prelude.{◌≡◌, ◌≤◌, ◌+◌, ◌∷◌, ◌++◌, ◌⊎◌}
+use Rattle.channel_world_runs.proofs.Lemmas.{arith, List, [], Bool, true, false, not, cond, Option, None, Some, inl, inr, refl, sym, ap, subst, ◌∙◌, false_from_ne_true, filter, filter-append, append_assoc, append-nil, option_map_or, Key, ListenerRef, Outcome, count_append, among_counts, among_self, or_right, same_sound, decided, without_absent, times, same_waiter, is_among, without_waiter, Call, Waiter, Op, Stream, asks, on_return_of, names_begun, all_woken, order_begun, order_settled, WakeOrder, IsAmong, waits, free, status, is_name_pending, names_of, OnReturn, NameTable, order_alone, but_for, NameState, Configuration, WorldInvariant, keeper_in, subject, Admitted, IsBusy, Keeps, Ordered, Quiet, Touches, Sane, held_in, among_is, is_there, is_out, stays_among, in_last, next, all_come}
 use Rattle.channel_world_runs.proofs.OwnerCalls.{BeginsSo, begins_so}
-use Rattle.channel_world_runs.proofs.OwnerOrderNames.{among_is, is_there, is_out, stays_among, in_last, next, all_come}
 use Rattle.channel_world_runs.proofs.OwnerRuns.{inner}
 use Rattle.channel_world_runs.proofs.OwnerWoken.{waits_pending, pending_waits}
 use Rattle.channel_world_runs.proofs.OwnerSteps.{busy_waits}
@@ -86,10 +82,10 @@ module _ {T : Type 0} where
 
   settled_same : (e : OnReturn T) (key : Option Key) (o : WakeOrder) → ((w : Waiter) → subject e ≡ Some w → IsAmong w o.woken → ⊥)
       → (order_settled e key o).woken ≡ o.woken
-  settled_same (on_return.Poll op) None o out = absent (Op op) o.woken (out (Op op) refl)
-  settled_same (on_return.PollNext receiver) None o out = absent (Stream receiver) o.woken (out (Stream receiver) refl)
-  settled_same (on_return.Poll op) (Some key) o out = refl
-  settled_same (on_return.PollNext receiver) (Some key) o out = refl
+  settled_same (OnReturn.Poll op) None o out = absent (Op op) o.woken (out (Op op) refl)
+  settled_same (OnReturn.PollNext receiver) None o out = absent (Stream receiver) o.woken (out (Stream receiver) refl)
+  settled_same (OnReturn.Poll op) (Some key) o out = refl
+  settled_same (OnReturn.PollNext receiver) (Some key) o out = refl
   settled_same e key o out = refl
 
   -- ---- any call

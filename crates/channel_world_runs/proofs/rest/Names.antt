@@ -1,7 +1,7 @@
 -- The line and the listener of a name that is pending, as one call at a time sees them.
-use Rattle.channel_world_runs.proofs.rest.Words.{◌≡◌, nat_eq, Option, None, Some, ◌⊎◌, inl, inr, refl, ap, ◌∙◌, lookup, option_map, option_map_or, Key, ListenerRef, WaitList, Sends, Receives, Streams, Closings, at_seen, line_at, line_of_operation, HandleId, HandleKind, Waiter, Op, Stream, NameStatus, free, retired, invalid, rests, waits, polled, status_on, no_stream_status, stream_status, status_by, send_status, operation_status, status, key_of, names_of, held_of, HandleEntry, OperationEntry, PollState, Rests, Waits, IsPolled, NameTable, op_status, handle_entry_status, Operation}
-use Rattle.channel_world_model.specs.declared.name.HandleKind.TheVariants as handle_kind
-use Rattle.channel_world_model.specs.declared.name.Operation.TheVariants as live
+use Rattle.std.specs.Prelude.{◌≡◌, ◌⊎◌}
+use Rattle.channel_world_runs.proofs.Words.{nat_eq, Option, None, Some, inl, inr, refl, ap, ◌∙◌, lookup, option_map, option_map_or, Key, ListenerRef, WaitList, Sends, Receives, Streams, Closings, at_seen, line_at, line_of_operation, HandleId, HandleKind, Waiter, Op, Stream, NameStatus, free, retired, invalid, rests, waits, polled, status_on, no_stream_status, stream_status, status_by, send_status, operation_status, status, key_of, names_of, held_of, HandleEntry, OperationEntry, PollState, Rests, Waits, IsPolled, NameTable, Operation}
+use Rattle.channel_world_runs.proofs.OwnerNames.{op_status, handle_entry_status}
 
 abbrev pub on : WaitList → Key → ListenerRef
 on line key = record { line = line; key = key }
@@ -27,7 +27,7 @@ off_is Rests h e = let no : rests Streams ≡ waits h = e in cc
 off_is s h e = let no : invalid ≡ waits h = e in cc
 
 stream_is : (k : HandleKind) (s : PollState) (h : ListenerRef) → stream_status k s ≡ waits h → Is (key_of s) Streams h
-stream_is handle_kind.Receiver s h e = on_is Streams s h e
+stream_is HandleKind.Receiver s h e = on_is Streams s h e
 stream_is k s h e = absurd (off_is s h e)
 
 -- ---- what holds a listener
@@ -45,7 +45,7 @@ off_pends (Waits k) key e = inl refl
 off_pends s key e = absurd (let no : None ≡ Some key = e in cc)
 
 stream_pends : (k : HandleKind) (s : PollState) (key : Key) → key_of s ≡ Some key → Pends (stream_status k s) key
-stream_pends handle_kind.Receiver s key e = on_pends Streams s key e
+stream_pends HandleKind.Receiver s key e = on_pends Streams s key e
 stream_pends k s key e = off_pends s key e
 
 in_line : (key : Option Key) (line : WaitList) (h : ListenerRef) → Is key line h → (key ≡ Some h.key) × (Some line ≡ Some h.line)
@@ -72,16 +72,16 @@ module _ {T : Type 0} where
   InLine key o h = (key ≡ Some h.key) × (line_of_operation o ≡ Some h.line)
 
   send_is : (handle : HandleId) (m : Option T) (s : PollState) (h : ListenerRef) → send_status m s ≡ waits h
-      → InLine (key_of s) (Some (live.Send handle m)) h
+      → InLine (key_of s) (Some (Operation.Send handle m)) h
   send_is handle None Rests h e = absurd (let no : rests Sends ≡ waits h = e in cc)
   send_is handle None (Waits key) h e = absurd (let no : invalid ≡ waits h = e in cc)
   send_is handle None (IsPolled brings) h e = absurd (let no : polled Sends ≡ waits h = e in cc)
   send_is handle (Some m) s h e = in_line (key_of s) Sends h (on_is Sends s h e)
 
   operation_is : (x : Operation T) (s : PollState) (h : ListenerRef) → operation_status x s ≡ waits h → InLine (key_of s) (Some x) h
-  operation_is (live.Send handle m) s h e = send_is handle m s h e
-  operation_is (live.Receive handle) s h e = in_line (key_of s) Receives h (on_is Receives s h e)
-  operation_is (live.Closing handle) s h e = in_line (key_of s) Closings h (on_is Closings s h e)
+  operation_is (Operation.Send handle m) s h e = send_is handle m s h e
+  operation_is (Operation.Receive handle) s h e = in_line (key_of s) Receives h (on_is Receives s h e)
+  operation_is (Operation.Closing handle) s h e = in_line (key_of s) Closings h (on_is Closings s h e)
 
   send_pends : (m : Option T) (s : PollState) (key : Key) → key_of s ≡ Some key → Pends (send_status m s) key
   send_pends None (Waits k) key e = inl refl
@@ -89,9 +89,9 @@ module _ {T : Type 0} where
   send_pends m s key e = absurd (let no : None ≡ Some key = e in cc)
 
   operation_pends : (x : Operation T) (s : PollState) (key : Key) → key_of s ≡ Some key → Pends (operation_status x s) key
-  operation_pends (live.Send handle m) s key e = send_pends m s key e
-  operation_pends (live.Receive handle) s key e = on_pends Receives s key e
-  operation_pends (live.Closing handle) s key e = on_pends Closings s key e
+  operation_pends (Operation.Send handle m) s key e = send_pends m s key e
+  operation_pends (Operation.Receive handle) s key e = on_pends Receives s key e
+  operation_pends (Operation.Closing handle) s key e = on_pends Closings s key e
 
   -- ---- by their names
 

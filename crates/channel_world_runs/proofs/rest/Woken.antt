@@ -1,6 +1,7 @@
 -- Those who were woken: how often they stand there.
-use Rattle.channel_world_runs.proofs.rest.Words.{◌≡◌, ◌≤◌, ◌+◌, ℕ, true, false, List, [], ◌∷◌, Option, None, Some, IsSome, inl, inr, refl, subst, arith, false_from_ne_true, WaitList, Sends, Receives, Streams, Closings, same_sound, decided, absent_counts, same_refl, Kind, times, same_waiter, is_among, Waiter, NoneTwice, of_line}
-use Rattle.channel_world_runs.proofs.OwnerOrderNames.{among_is}
+use Rattle.std.specs.Prelude.{◌≡◌, ◌≤◌, ◌+◌, ◌∷◌}
+use Rattle.channel_world_runs.proofs.Lemmas.{ℕ, true, false, List, [], Option, None, Some, IsSome, inl, inr, refl, subst, arith, false_from_ne_true, WaitList, Sends, Receives, Streams, Closings, same_sound, decided, absent_counts, same_refl, Kind, times, same_waiter, is_among, Waiter, NoneTwice, among_is}
+use Rattle.channel_world_runs.specs.refinement.Refines.{of_line}
 
 -- where none stands twice
 pub none_twice_times : (w : Waiter) (ws : List Waiter) → NoneTwice ws → times w ws ≤ 1

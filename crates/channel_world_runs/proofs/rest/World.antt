@@ -1,25 +1,15 @@
 -- A channel at rest shows a state of the model: on each list, those that hold its listeners, and the woken in their order.
-use Rattle.channel_world_runs.proofs.rest.Words.{among_counts, absent_counts, is_line, line_at, count_of, free_places, line_refl, decided, tasks_are, if◌then◌else◌, ◌≡◌, ◌≤◌, ◌+◌, ℕ, true, false, List, [], ◌++◌, length, Option, None, Some, IsSome, ◌⊎◌, inl, inr, refl, sym, ap, ◌∙◌, subst, arith, keys_of, Notice, Key, ListenerRef, WaitList, Sends, Receives, Streams, Closings, told_of, Any, count_append, Kind, Enough, times, times_in, Placed, AwakeIn, Waiting, same_waiter, is_among, untold, State, Waiter, ActiveCall, Configuration, IsAmong, waits, status, holding, keys, IsListed, Holder, named, calling, AnyOf, HoldsIn, Owned, WorldInvariant, names_of, held_of, NameState, key_of_entry, state_at, IsWorld, RestIsAWorld, WokenSound, of_line, ShowsLine, ShowsLines, KeysFit, Refines, AreUntold, AreSame}
-use Rattle.channel_steps.specs.every_run.Waits.{Waits}
-use Rattle.channel_calls.specs.Parts.{listeners}
-use Rattle.channel_steps.specs.every_run.Amounts.{total, HoldsListener}
-use Rattle.channel_steps.specs.every_run.Closings.{AnswersClosed}
-use Rattle.channel_steps.specs.every_run.Receives.{counts_for_receives, MessagesAreFew}
-use Rattle.channel_steps.specs.every_run.Sends.{counts_for_sends, HasPlaces, PlacesAreFew}
-use Rattle.channel_steps.specs.every_run.Sound.{WakeInvariant}
-use Rattle.channel_steps.specs.every_run.Streams.{AnswersFor}
+use Rattle.std.specs.Prelude.{if◌then◌else◌, ◌≡◌, ◌≤◌, ◌+◌, ◌++◌, ◌⊎◌}
+use Rattle.channel_world_runs.proofs.Lemmas.{among_counts, absent_counts, is_line, line_at, count_of, free_places, line_refl, decided, ℕ, true, false, List, [], length, Option, None, Some, IsSome, inl, inr, refl, sym, ap, ◌∙◌, subst, arith, keys_of, Notice, Key, ListenerRef, WaitList, Sends, Receives, Streams, Closings, told_of, count_append, Kind, Enough, times, times_in, Placed, AwakeIn, Waiting, same_waiter, is_among, untold, State, Waiter, ActiveCall, Configuration, IsAmong, waits, status, holding, keys, IsListed, Holder, named, calling, AnyOf, HoldsIn, Owned, WorldInvariant, names_of, held_of, NameState, state_at, IsWorld, RestIsAWorld, WokenSound, ShowsLine, ShowsLines, KeysFit, Refines, AreUntold, AreSame, listeners, total, HoldsListener, AnswersClosed, counts_for_receives, MessagesAreFew, counts_for_sends, HasPlaces, PlacesAreFew, WakeInvariant, AnswersFor, Shut, IsMarked, tasks_are, among_left, among_right, none_parts, same_held, Pends, line_is, holds_it, pends, among_of_line, among_its_line, times_of_line, among_is, is_there}
+use Rattle.channel_steps.specs.every_run.Waits.{Any, Waits}
+use Rattle.channel_world_runs.proofs.OwnerWokenLists.{key_of_entry}
+use Rattle.channel_world_runs.specs.refinement.Refines.{of_line}
 use Rattle.channel_world_runs.proofs.refinement.Calls.{calls_over}
-use Rattle.channel_steps.specs.Moments.{Shut}
-use Rattle.channel_world_runs.specs.OwnerWoken.{IsMarked}
 use Rattle.channel_world_runs.proofs.NoLonger.{no_longer}
-use Rattle.channel_world_runs.proofs.OwnerLists.{among_left, among_right, none_parts}
 use Rattle.channel_world_runs.proofs.OwnerSteps.{named_is}
 use Rattle.channel_world_runs.proofs.rest.Lists.{same_entry, all_keys, Stand, named_all, stand_join, stand_length, stand_none, stand_once, stand_there, some_waits, stand_kind, are_untold, are_told}
-use Rattle.channel_world_runs.proofs.rest.Names.{on, same_held, Pends, line_is, holds_it, pends}
+use Rattle.channel_world_runs.proofs.rest.Names.{on}
 use Rattle.channel_world_runs.proofs.rest.Woken.{none_twice_times, by_lines}
-use Rattle.channel_world_runs.proofs.refinement.Names.{among_of_line, among_its_line}
-use Rattle.channel_world_runs.proofs.refinement.Standing.{times_of_line}
-use Rattle.channel_world_runs.proofs.OwnerOrderNames.{among_is, is_there}
 
 fits : (capacity : Option ℕ) (m t : ℕ) → HasPlaces capacity (m + t + 0) → free_places capacity m ≤ t
 fits None m t h = absurd h

@@ -1,10 +1,5 @@
 -- What a channel that was just opened shows.
-use Rattle.std.specs.Prelude.{ℕ, Option, None}
-use Rattle.channel_calls.specs.Moves.{Channel, new_channel}
-use Rattle.channel_world_model.specs.Awake.{AwakeIn}
-use Rattle.channel_world_model.specs.State.{State, start}
-use Rattle.channel_world_model.specs.declared.name.Waiter.{Waiter}
-use Rattle.channel_world_model.specs.Asked.{KeysHeld}
+use Rattle.channel_world_runs.specs.Words.{ℕ, Option, None, Channel, new_channel, AwakeIn, State, start, Waiter, KeysHeld}
 use Rattle.channel_world_runs.specs.refinement.Refines.{Refines}
 
 -- no operation and no stream holds a listener's key

@@ -1,30 +1,9 @@
 -- A call of a channel that is alone does what the model says of the same call.
-use Rattle.std.specs.Prelude.{◌≡◌, ◌++◌, List, Option, None, Some}
-use Rattle.std.specs.Option.{option_map, option_map_or}
-use Rattle.event_listener.specs.declared.key.Key.{Key}
-use Rattle.channel_calls.specs.Moves.{Channel}
-use Rattle.channel_calls.specs.declared.reply.Reply.{Reply}
-use Rattle.channel_calls.specs.declared.reply.Reply.TheVariants as reply
-use Rattle.channel_steps.specs.solo.Alone.{Outcome, Alone}
+use Rattle.std.specs.Prelude.{◌≡◌, ◌++◌}
+use Rattle.channel_world_runs.specs.Words.{List, Option, None, Some, option_map, option_map_or, Key, Channel, Reply, Outcome, Alone, AwakeIn, without_waiter, Names, at, with_new, with_spent, with_handles, with_new_operation, with_operation_changed, without_operation, refusal, Answers, State, Call, Handle, HandleId, HandleKind, OpId, Operation, Waiter, KeysHeld}
 use Rattle.channel_world_model.specs.Answer.{Answer, weak_of, strong_of}
-use Rattle.channel_world_model.specs.Awake.{AwakeIn}
-use Rattle.channel_world_model.specs.Lines.{without_waiter}
-use Rattle.channel_world_model.specs.Names.{Names, at, with_new, with_spent, with_handles, with_new_operation, with_operation_changed, without_operation}
 use Rattle.channel_world_model.specs.Names as names
-use Rattle.channel_world_model.specs.Refusal.{refusal}
-use Rattle.channel_world_model.specs.Refused.{Answers}
-use Rattle.channel_world_model.specs.State.{State}
-use Rattle.channel_world_model.specs.declared.call.Call.{Call}
-use Rattle.channel_world_model.specs.declared.call.Call.TheVariants as call
-use Rattle.channel_world_model.specs.declared.name.Handle.{Handle}
-use Rattle.channel_world_model.specs.declared.name.HandleId.{HandleId}
-use Rattle.channel_world_model.specs.declared.name.HandleKind.{HandleKind}
-use Rattle.channel_world_model.specs.declared.name.OpId.{OpId}
-use Rattle.channel_world_model.specs.declared.name.Operation.{Operation}
-use Rattle.channel_world_model.specs.declared.name.Operation.TheVariants as live
-use Rattle.channel_world_model.specs.declared.name.Waiter.{Waiter}
 use Rattle.channel_world_runs.specs.refinement.Asked.{asked_in, keeper}
-use Rattle.channel_world_model.specs.Asked.{KeysHeld}
 use Rattle.channel_world_runs.specs.refinement.Refines.{Refines, with_held}
 
 module _ {T : Type 0} where
@@ -32,11 +11,11 @@ module _ {T : Type 0} where
 
   -- a send has the message that its poll left to it
   abbrev pub polled_names : OpId → Option (Operation T) → Option T → Names T → Names T
-  polled_names op (Some (live.Send handle (Some m))) left names = with_operation_changed op (live.Send handle left) names
+  polled_names op (Some (Operation.Send handle (Some m))) left names = with_operation_changed op (Operation.Send handle left) names
   polled_names op operation left names = names
 
   abbrev pub refused_names : OpId → Option (Operation T) → Option T → Names T → Names T
-  refused_names op (Some (live.Send handle msg)) left names = with_operation_changed op (live.Send handle left) names
+  refused_names op (Some (Operation.Send handle msg)) left names = with_operation_changed op (Operation.Send handle left) names
   refused_names op operation left names = names
 
   abbrev pub given_up_names : OpId → Option (Operation T) → Names T → Names T
@@ -45,23 +24,23 @@ module _ {T : Type 0} where
 
   -- the new name is taken; a handle of this kind lives under it, if it was made
   abbrev pub made_names : HandleId → Option HandleKind → Reply T → Names T → Names T
-  made_names new (Some kind) reply.Made names = with_handles (with_new new.0 (record { kind = kind; borrowers = 0 }) names.handles) names
+  made_names new (Some kind) Reply.Made names = with_handles (with_new new.0 (record { kind = kind; borrowers = 0 }) names.handles) names
   made_names new kind r names = with_handles (with_spent new.0 names.handles) names
 
   abbrev pub kind_at : HandleId → Names T → Option HandleKind
   kind_at handle names = option_map (λ (h : Handle). h.kind) (at handle.0 names.handles)
 
   abbrev pub names_after : State T → Call T → Outcome T Waiter → Names T
-  names_after s (call.NewSend op sender msg) o = with_new_operation op (live.Send sender (Some msg)) s.names
-  names_after s (call.NewRecv op receiver) o = with_new_operation op (live.Receive receiver) s.names
-  names_after s (call.NewClosed op sender) o = with_new_operation op (live.Closing sender) s.names
-  names_after s (call.Poll op) o = polled_names op (at op.0 s.names.operations) o.kept.message s.names
-  names_after s (call.PollRefused op) o = refused_names op (at op.0 s.names.operations) o.kept.message s.names
-  names_after s (call.GiveUp op) o = given_up_names op (at op.0 s.names.operations) s.names
-  names_after s (call.Drop handle) o = with_handles (names.without_name handle.0 s.names.handles) s.names
-  names_after s (call.TryClone handle new) o = made_names new (kind_at handle s.names) o.reply s.names
-  names_after s (call.Downgrade handle new) o = made_names new (option_map weak_of (kind_at handle s.names)) o.reply s.names
-  names_after s (call.Upgrade weak new) o = made_names new (option_map strong_of (kind_at weak s.names)) o.reply s.names
+  names_after s (Call.NewSend op sender msg) o = with_new_operation op (Operation.Send sender (Some msg)) s.names
+  names_after s (Call.NewRecv op receiver) o = with_new_operation op (Operation.Receive receiver) s.names
+  names_after s (Call.NewClosed op sender) o = with_new_operation op (Operation.Closing sender) s.names
+  names_after s (Call.Poll op) o = polled_names op (at op.0 s.names.operations) o.kept.message s.names
+  names_after s (Call.PollRefused op) o = refused_names op (at op.0 s.names.operations) o.kept.message s.names
+  names_after s (Call.GiveUp op) o = given_up_names op (at op.0 s.names.operations) s.names
+  names_after s (Call.Drop handle) o = with_handles (names.without_name handle.0 s.names.handles) s.names
+  names_after s (Call.TryClone handle new) o = made_names new (kind_at handle s.names) o.reply s.names
+  names_after s (Call.Downgrade handle new) o = made_names new (option_map weak_of (kind_at handle s.names)) o.reply s.names
+  names_after s (Call.Upgrade weak new) o = made_names new (option_map strong_of (kind_at weak s.names)) o.reply s.names
   names_after s c o = s.names
 
   -- ---- and of those that wait

@@ -1,20 +1,6 @@
 -- When a channel at rest, with its lists of listeners, shows a state of the model.
-use Rattle.std.specs.Prelude.{◌≡◌, ◌≤◌, Bool, true, false, if◌then◌else◌, List, Option, Some}
-use Rattle.std.specs.List.{filter, AllZip}
-use Rattle.event_listener.specs.Lists.{Notice}
-use Rattle.event_listener.specs.declared.key.Key.{Key}
-use Rattle.channel_calls.specs.Moves.{Channel}
-use Rattle.channel_calls.specs.Parts.{Listeners, WaitLists, listeners}
-use Rattle.channel_calls.specs.declared.stage.WaitList.{WaitList as ListName}
-use Rattle.channel_calls.specs.declared.stage.WaitList.TheVariants as list
-use Rattle.channel_world_model.specs.Asked.{KeysHeld}
-use Rattle.channel_world_model.specs.Lines.{Waiting, same_waiter, untold}
-use Rattle.channel_world_model.specs.Laws.{is_line, line_at}
-use Rattle.channel_world_model.specs.Awake.{Kind, times, times_in}
-use Rattle.channel_world_model.specs.State.{State}
-use Rattle.channel_world_model.specs.declared.name.Waiter.{Waiter}
-use Rattle.channel_calls.specs.declared.stage.WaitList.{WaitList}
-use Rattle.channel_calls.specs.declared.stage.WaitList.TheVariants.{Sends, Receives, Streams, Closings}
+use Rattle.std.specs.Prelude.{◌≡◌, ◌≤◌, if◌then◌else◌}
+use Rattle.channel_world_runs.specs.Words.{Bool, true, false, List, Option, Some, filter, AllZip, Notice, Key, Channel, Listeners, WaitLists, listeners, WaitList as ListName, KeysHeld, Waiting, same_waiter, untold, is_line, line_at, Kind, times, times_in, State, Waiter, WaitList, Sends, Receives, Streams, Closings}
 
 -- w holds this, and any other what it held
 abbrev pub with_held : Waiter → Option Key → KeysHeld → KeysHeld
@@ -22,10 +8,10 @@ with_held w key held = λ v. if same_waiter w v then key else held v
 
 -- the list of the channel that keeps a line
 abbrev pub list_of : WaitList → ListName
-list_of Sends = list.Sends
-list_of Receives = list.Receives
-list_of Streams = list.Streams
-list_of Closings = list.Closings
+list_of Sends = WaitList.Sends
+list_of Receives = WaitList.Receives
+list_of Streams = WaitList.Streams
+list_of Closings = WaitList.Closings
 
 -- a waiting listener is this name, which is its task too; and waiting ones are these names in order
 abbrev pub ShowsUntold : KeysHeld → Key × Option Waiter → Waiter → Type 0

@@ -1,22 +1,14 @@
 -- A call that is made alone on a channel at rest: what it leaves is what the model says.
-use Rattle.std.specs.Prelude.{◌≡◌, true, List, [], Option, None, Some}
-use Rattle.channel_calls.specs.declared.stage.WaitList.{WaitList}
-use Rattle.channel_steps.specs.solo.Alone.{Outcome, Alone}
+use Rattle.std.specs.Prelude.{◌≡◌}
+use Rattle.channel_world_runs.specs.Words.{true, List, [], Option, None, Some, WaitList, Outcome, Alone, NameTable, is_among, without_waiter, Answers, poll_of, Call, Waiter, Configuration}
 use Rattle.channel_world_runs.specs.Bookkeeping.{asks}
 use Rattle.channel_world_runs.specs.WorldInvariant.{WorldInvariant}
 use Rattle.channel_world_runs.specs.Lone.{name_state_alone}
 use Rattle.channel_world_runs.specs.Owners.{polled, status}
 use Rattle.channel_world_runs.specs.Refusal.{begin_refusal}
 use Rattle.channel_world_runs.specs.Run.{NameState}
-use Rattle.channel_world_runs.specs.declared.name_table.NameTable.{NameTable}
-use Rattle.channel_world_model.specs.Lines.{is_among, without_waiter}
 use Rattle.channel_world_model.specs.Refusal as model
-use Rattle.channel_world_model.specs.Refused.{Answers}
-use Rattle.channel_world_model.specs.Settling.{poll_of}
-use Rattle.channel_world_model.specs.declared.call.Call.{Call}
-use Rattle.channel_world_model.specs.declared.name.Waiter.{Waiter}
 use Rattle.channel_world_runs.specs.rest.Rest.{state_at}
-use Rattle.channel_steps.specs.Configuration.{Configuration}
 
 -- the names, without one if there is one
 abbrev pub but_for : Option Waiter → List Waiter → List Waiter

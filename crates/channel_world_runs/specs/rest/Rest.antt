@@ -1,19 +1,12 @@
 -- What a channel shows that has come to rest.
-use Rattle.std.specs.Prelude.{◌≡◌, [], None}
-use Rattle.event_listener.specs.Lists.{tasks_of}
-use Rattle.channel_steps.specs.solo.Alone.{Outcome, Alone}
+use Rattle.std.specs.Prelude.{◌≡◌}
+use Rattle.channel_world_runs.specs.Words.{[], None, tasks_of, Outcome, Alone, AwakeIn, refusal, State, Call, Waiter, Configuration}
 use Rattle.channel_world_runs.specs.WorldInvariant.{WorldInvariant}
 use Rattle.channel_world_runs.specs.NameTable.{names_of, held_of}
 use Rattle.channel_world_runs.specs.Run.{NameState}
-use Rattle.channel_world_model.specs.Awake.{AwakeIn}
-use Rattle.channel_world_model.specs.Refusal.{refusal}
-use Rattle.channel_world_model.specs.State.{State}
-use Rattle.channel_world_model.specs.declared.call.Call.{Call}
-use Rattle.channel_world_model.specs.declared.name.Waiter.{Waiter}
 use Rattle.channel_world_runs.specs.refinement.Asked.{asked_in}
 use Rattle.channel_world_runs.specs.refinement.Over.{Matches}
 use Rattle.channel_world_runs.specs.refinement.Refines.{Refines}
-use Rattle.channel_steps.specs.Configuration.{Configuration}
 
 module _ {T : Type 0} where
   -- the state of the model: the names as they live, those that wait in the order of each list, and the woken in the order of

@@ -1,6 +1,5 @@
 -- From what its cells show.
-use Rattle.channel_world.proofs.Carried.{holds_what_fits}
-use Rattle.channel_world.proofs.Inside.{world_state_of}
+use Rattle.channel_world.proofs.Lemmas.{holds_what_fits, world_state_of}
 use Rattle.channel_world.proofs.laws.a_world_holds_what_fits.Goals as goal
 
 pub returns : goal.returns

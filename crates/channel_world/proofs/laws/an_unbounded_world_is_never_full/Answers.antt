@@ -1,6 +1,6 @@
 -- From the law of runs: a way is one.
+use Rattle.channel_world.proofs.Lemmas.{world_state_of}
 use Rattle.channel_world.proofs.SinceFacts.{is_never_full, is_never_full_to_here, is_never_full_since, is_never_full_from_rest}
-use Rattle.channel_world.proofs.Inside.{world_state_of}
 use Rattle.channel_world.proofs.laws.an_unbounded_world_is_never_full.Goals as goal
 
 pub returns : goal.returns

@@ -1,6 +1,6 @@
 -- From the state of the model that it shows, in which nobody is left asleep.
-use Rattle.channel_world.proofs.AsleepFacts.{left_at_rest, no_receive_left, no_send_left, no_stream_left, left_on_a_closed}
-use Rattle.channel_world.proofs.Inside.{world_state_of}
+use Rattle.channel_world.proofs.Lemmas.{world_state_of}
+use Rattle.channel_world.proofs.SleepFacts.{left_at_rest, no_receive_left, no_send_left, no_stream_left, left_on_a_closed}
 use Rattle.channel_world.proofs.laws.at_rest_nobody_is_left_asleep.Goals as goal
 
 pub returns : goal.returns

@@ -1,5 +1,5 @@
 -- From what a poll by name asks.
-use Rattle.channel_world.proofs.BlockNames.{polls_by_name}
+use Rattle.channel_world.proofs.NamedMerges.{polls_by_name}
 use Rattle.channel_world.proofs.laws.blocking_polls_by_name.Goals as goal
 
 pub returns : goal.returns

@@ -1,6 +1,6 @@
 -- From what every step keeps, in the configuration in which the world stands.
+use Rattle.channel_world.proofs.Lemmas.{world_state_of}
 use Rattle.channel_world.proofs.CountFacts.{counts_live, open_has_both, are_by_drops, counts_at_rest}
-use Rattle.channel_world.proofs.Inside.{world_state_of}
 use Rattle.channel_world.proofs.laws.counts_are_live_handles.Goals as goal
 
 pub returns : goal.returns

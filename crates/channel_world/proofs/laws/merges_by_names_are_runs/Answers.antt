@@ -1,6 +1,5 @@
 -- From what every step of a merge by names keeps.
-use Rattle.channel_world.proofs.MergeNames.{merges_by_names_are_runs}
-use Rattle.channel_world.proofs.MergeRow.{two_clones_by_names}
+use Rattle.channel_world.proofs.Lemmas.{merges_by_names_are_runs, two_clones_by_names}
 use Rattle.channel_world.proofs.laws.merges_by_names_are_runs.Goals as goal
 
 pub returns : goal.returns

@@ -1,7 +1,7 @@
 -- From what every step keeps, in the configuration in which the world stands, since no name stands twice.
-use Rattle.channel_world.proofs.AsleepFacts.{calls_at_rest}
+use Rattle.channel_world.proofs.Lemmas.{world_state_of}
+use Rattle.channel_world.proofs.SleepFacts.{calls_at_rest}
 use Rattle.channel_world.proofs.NumberFacts.{messages_at_rest, pending_at_rest, woken_at_rest}
-use Rattle.channel_world.proofs.Inside.{world_state_of}
 use Rattle.channel_world.proofs.laws.numbers_are_those_at_rest.Goals as goal
 
 pub returns : goal.returns

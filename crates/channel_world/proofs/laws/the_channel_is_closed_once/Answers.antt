@@ -1,6 +1,6 @@
 -- From each step of the way.
+use Rattle.channel_world.proofs.Lemmas.{world_state_of}
 use Rattle.channel_world.proofs.SinceFacts.{closes_once, closes_once_to_here, closes_what_is_left, closes_once_from_rest, none_closes_again}
-use Rattle.channel_world.proofs.Inside.{world_state_of}
 use Rattle.channel_world.proofs.laws.the_channel_is_closed_once.Goals as goal
 
 pub returns : goal.returns

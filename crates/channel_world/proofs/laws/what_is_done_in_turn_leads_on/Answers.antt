@@ -1,6 +1,5 @@
 -- From the accounts of one thing done after another.
-use Rattle.channel_world_runs.proofs.Interface.{leads_nowhere, leads_on, led_further}
-use Rattle.channel_world.proofs.Inside.{world_state_of}
+use Rattle.channel_world.proofs.Lemmas.{leads_nowhere, leads_on, led_further, world_state_of}
 use Rattle.channel_world.proofs.laws.what_is_done_in_turn_leads_on.Goals as goal
 
 pub returns : goal.returns

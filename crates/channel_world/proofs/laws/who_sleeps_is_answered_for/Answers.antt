@@ -1,7 +1,7 @@
 -- From what is owed to who sleeps, since no name stands twice.
+use Rattle.channel_world.proofs.Lemmas.{world_state_of}
 use Rattle.channel_world.proofs.KindFacts.{a_line_awake, none_where_closed, no_receive_sleeps, no_send_sleeps, no_stream_sleeps}
 use Rattle.channel_world.proofs.SleepFacts.{receives_answered, sends_answered, streams_answered, closing_answered, no_receive_beside_a_message, no_stream_beside_a_message, no_send_beside_a_place, nobody_on_a_closed, all_awake}
-use Rattle.channel_world.proofs.Inside.{world_state_of}
 use Rattle.channel_world.proofs.laws.who_sleeps_is_answered_for.Goals as goal
 
 pub returns : goal.returns

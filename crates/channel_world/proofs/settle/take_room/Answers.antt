@@ -1,7 +1,6 @@
 -- What was asked for is there.
-use Rattle.std.proofs.Common.{arith, ◌≡◌, Some, subst}
-use Rattle.std.specs.Prelude.{Result, Ok, Err, IfOk, OnOk}
-use Rattle.std.specs.Result.{result_ok}
+use Rattle.std.specs.Prelude.{◌≡◌}
+use Rattle.channel_world.proofs.Words.{arith, Some, subst, Result, Ok, Err, IfOk, OnOk, result_ok}
 use Rattle.channel_world.proofs.settle.take_room.Goals as goal
 
 given : {A E : Type 0} (P : A → Type 0) (r : Result A E) (x : A) → Some x ≡ result_ok r → IfOk r P → P x

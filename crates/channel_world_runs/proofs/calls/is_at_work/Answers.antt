@@ -1,9 +1,7 @@
-use Rattle.std.proofs.Common.{rules, ◌≡◌, ◌∙◌, nat_eq, List, ap}
-use Rattle.std.specs.List.{list_any}
+use Rattle.std.specs.Prelude.{◌≡◌}
+use Rattle.channel_world_runs.proofs.Words.{rules, ◌∙◌, nat_eq, List, ap, list_any, YieldsList-from_shown, CallUnderWay}
 use Rattle.std.specs.Slice.Iter.{iter_rest, iter_steps}
 use Rattle.std.proofs.lemmas.Iterator.Search.{any_from_yields_List}
-use Rattle.std.proofs.lemmas.Iterator.Consumers.{YieldsList-from_shown}
-use Rattle.channel_world_runs.specs.declared.calls.CallUnderWay.{CallUnderWay}
 use Rattle.channel_world_runs.proofs.CallFacts.{at_work_read}
 use Rattle.channel_world_runs.proofs.calls.is_at_work.Goals as goal
 

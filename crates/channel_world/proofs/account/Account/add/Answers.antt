@@ -1,7 +1,6 @@
 -- What is noted led on.
-use Rattle.std.proofs.Common.{◌≡◌, subst}
-use Rattle.std.specs.declared.snapshot.Snapshot.{Snapshot}
-use Rattle.channel_world.specs.declared.account.Past.{Past, Then}
+use Rattle.std.specs.Prelude.{◌≡◌}
+use Rattle.channel_world.proofs.Lemmas.{subst, Snapshot, Past, Then}
 use Rattle.channel_world.proofs.AccountFacts.{gone_on}
 use Rattle.channel_world.proofs.account.Account.add.Goals as goal
 

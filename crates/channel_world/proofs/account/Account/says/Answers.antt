@@ -1,9 +1,6 @@
 -- From the laws of all replies.
-use Rattle.std.proofs.Common.{subst}
-use Rattle.channel_world.specs.Account.{AccountView}
-use Rattle.channel_world.specs.Carried.{LeadsTo}
+use Rattle.channel_world.proofs.Lemmas.{subst, AccountView, LeadsTo, world_state_of}
 use Rattle.channel_world.proofs.SinceFacts.{closes_once_to_here, is_never_full_to_here}
-use Rattle.channel_world.proofs.Inside.{world_state_of}
 use Rattle.channel_world.proofs.account.Account.says.Goals as goal
 
 pub returns-clause-closes_once : goal.returns-clause-closes_once

@@ -1,6 +1,5 @@
 -- A call that takes no several messages lists none.
-use Rattle.channel_world.proofs.FewListed.{lists_nothing}
-use Rattle.std.proofs.Common.{sym}
+use Rattle.channel_world.proofs.Lemmas.{sym, lists_nothing}
 use Rattle.channel_world.proofs.recorded.copies.most_listed.Goals as goal
 
 pub returns-in_default : goal.returns-in_default

@@ -1,5 +1,5 @@
 -- From the invariant of records.
-use Rattle.channel_world.proofs.RecordLemmas.{nobody_left}
+use Rattle.channel_world.proofs.Lemmas.{nobody_left}
 use Rattle.channel_world.proofs.recorded.laws.a_record_leaves_nobody_asleep.Goals as goal
 
 pub returns : goal.returns

@@ -1,5 +1,5 @@
 -- From the accounts of records.
-use Rattle.channel_world.proofs.RecordLemmas.{in_order}
+use Rattle.channel_world.proofs.Lemmas.{in_order}
 use Rattle.channel_world.proofs.recorded.laws.a_record_loses_nothing.Goals as goal
 
 pub returns : goal.returns

@@ -1,6 +1,4 @@
-use Rattle.channel_world.proofs.ScriptLemmas.{refused, stays_by}
-use Rattle.channel_world.specs.Script.{ending}
-use Rattle.channel_world.specs.declared.script.end.ScriptEnd.TheVariants.{Unreadable}
+use Rattle.channel_world.proofs.Lemmas.{ending, Unreadable, refused, stays_by}
 use Rattle.channel_world.proofs.script.compose.end_unreadable.Goals as goal
 
 pub returns-in_err-add_line : goal.returns-in_err-add_line

@@ -1,7 +1,5 @@
-use Rattle.std.proofs.Common.{◌++◌, ◌∷◌, [], codes, refl, append_assoc}
-use Rattle.channel_world.proofs.ScriptLemmas.{refused, stays_by}
-use Rattle.channel_world.specs.Script.{ending}
-use Rattle.channel_world.specs.declared.script.end.ScriptEnd.TheVariants.{Capacity}
+use Rattle.std.specs.Prelude.{◌++◌, ◌∷◌}
+use Rattle.channel_world.proofs.Lemmas.{[], codes, refl, append_assoc, ending, Capacity, refused, stays_by}
 use Rattle.channel_world.proofs.script.compose.end_without_capacity.Goals as goal
 
 pub returns-in_err-add_line : goal.returns-in_err-add_line

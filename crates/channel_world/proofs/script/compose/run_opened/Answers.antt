@@ -1,12 +1,5 @@
-use Rattle.std.proofs.Common.{arith, rules, ◌≡◌, ◌+◌, Some, subst, ap, codes, length, refl}
-use Rattle.channel_world_language.specs.Words.{lines_of}
-use Rattle.channel_world_language.specs.Language.{today}
-use Rattle.channel_world_language.specs.Said.{said_line}
-use Rattle.channel_world.specs.Staged.{scene_of}
-use Rattle.channel_world_language.specs.Table.{Table}
-use Rattle.channel_world.specs.Script.{Script, first_scene, opened, followed, replying_first, readable, ending}
-use Rattle.channel_world.specs.declared.script.end.ScriptEnd.TheVariants.{Done, Memory}
-use Rattle.channel_world.proofs.ScriptLemmas.{GoesOn, refused, stays, stays_by, is_done, goes_on, goes_on_first, followed_more, opened_fits}
+use Rattle.std.specs.Prelude.{◌≡◌, ◌+◌}
+use Rattle.channel_world.proofs.Lemmas.{arith, rules, Some, subst, ap, codes, length, refl, lines_of, today, said_line, scene_of, Table, Script, first_scene, opened, followed, replying_first, readable, ending, Done, Memory, GoesOn, refused, stays, stays_by, is_done, goes_on, goes_on_first, followed_more, opened_fits}
 use Rattle.channel_world.proofs.script.compose.run_opened.Goals as goal
 
 pub returns-in_err-table : goal.returns-in_err-table

@@ -1,10 +1,6 @@
-use Rattle.std.proofs.Common.{◌≤◌, length}
+use Rattle.std.specs.Prelude.{◌≤◌}
+use Rattle.channel_world.proofs.Lemmas.{length, lines_of, today, scene_of, opened, followed, GoesOn}
 use Rattle.channel_world.specs.View.{IsQuiet}
-use Rattle.channel_world_language.specs.Words.{lines_of}
-use Rattle.channel_world_language.specs.Language.{today}
-use Rattle.channel_world.specs.Staged.{scene_of}
-use Rattle.channel_world.specs.Script.{opened, followed}
-use Rattle.channel_world.proofs.ScriptLemmas.{GoesOn}
 use Rattle.channel_world.proofs.script.compose.run_opened.Given as goal
 
 abbrev pub invariant-loop-line : goal.invariant-loop-line

@@ -1,5 +1,4 @@
-use Rattle.std.proofs.Common.{arith}
-use Rattle.channel_world.proofs.IoLemmas.{text_of_read, text_unread}
+use Rattle.channel_world.proofs.Lemmas.{arith, text_of_read, text_unread}
 use Rattle.channel_world.proofs.script.run.read_and_compose.Goals as goal
 
 pub returns-in-Ok : goal.returns-in-Ok

@@ -1,5 +1,5 @@
-use Rattle.std.proofs.Common.{◌≤◌, vec_len}
-use Rattle.std.specs.Io.KnownBytes.{Consumes}
+use Rattle.std.specs.Prelude.{◌≤◌}
+use Rattle.channel_world.proofs.Words.{vec_len, Consumes}
 use Rattle.channel_world.proofs.script.run.read_input.Given as goal
 
 abbrev pub invariant-loop : goal.invariant-loop

@@ -1,4 +1,4 @@
-use Rattle.channel_world.proofs.IoLemmas.{script_read, script_known}
+use Rattle.channel_world.proofs.Lemmas.{script_read, script_known}
 use Rattle.channel_world.proofs.script.run.run_script.Goals as goal
 
 pub returns-clause-read : goal.returns-clause-read

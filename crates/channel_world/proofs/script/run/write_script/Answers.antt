@@ -1,6 +1,4 @@
-use Rattle.std.proofs.Common.{inr, refl}
-use Rattle.channel_world.specs.Output.{late_line}
-use Rattle.channel_world.proofs.IoLemmas.{late_fault}
+use Rattle.channel_world.proofs.Lemmas.{inr, refl, late_line, late_fault}
 use Rattle.channel_world.proofs.script.run.write_script.Goals as goal
 
 pub returns-then-not-write_text-2 : goal.returns-then-not-write_text-2

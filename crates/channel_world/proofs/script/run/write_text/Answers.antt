@@ -1,4 +1,4 @@
-use Rattle.channel_world.proofs.IoLemmas.{more_written}
+use Rattle.channel_world.proofs.Lemmas.{more_written}
 use Rattle.channel_world.proofs.script.run.write_text.Goals as goal
 
 pub loop-rest-preserved : goal.loop-rest-preserved

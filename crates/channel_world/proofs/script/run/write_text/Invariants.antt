@@ -1,5 +1,4 @@
-use Rattle.std.proofs.Common.{length}
-use Rattle.channel_world.proofs.IoLemmas.{IsWritten}
+use Rattle.channel_world.proofs.Lemmas.{length, IsWritten}
 use Rattle.channel_world.proofs.script.run.write_text.Given as goal
 
 abbrev pub invariant-loop-rest : goal.invariant-loop-rest

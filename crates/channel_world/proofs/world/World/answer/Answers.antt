@@ -1,11 +1,6 @@
 -- From the law that a call made alone is the model's.
-use Rattle.std.proofs.Common.{◌∙◌, sym, ap}
-use Rattle.channel_world_runs.proofs.Interface.{leads_nowhere, stands_led}
-use Rattle.channel_world_runs.specs.Refusal.{begin_refusal}
-use Rattle.channel_world_runs.specs.declared.world_state.WorldState.{WorldState}
-use Rattle.channel_world_runs.proofs.LoneFacts.{leads_whatever}
+use Rattle.channel_world.proofs.Lemmas.{◌∙◌, sym, ap, leads_nowhere, stands_led, begin_refusal, WorldState, leads_whatever, world_state_of, inside_is}
 use Rattle.channel_world.proofs.Whole.{refused_alike, wakes_few, answers_whatever}
-use Rattle.channel_world.proofs.Inside.{world_state_of, inside_is}
 use Rattle.channel_world.proofs.world.World.answer.Goals as goal
 
 pub call_alone-requires-clause-accepted : goal.call_alone-requires-clause-accepted

@@ -1,11 +1,5 @@
-use Rattle.std.proofs.Common.{rules, ◌≡◌, ◌∙◌, Bool, ap, inl}
-use Rattle.std.specs.List.{count_by}
-use Rattle.std.specs.Slice.Iter.{iter_rest}
-use Rattle.channel_world_runs.specs.Owed.{is_sending, is_receiving}
-use Rattle.channel_world_runs.specs.declared.calls.CallUnderWay.{CallUnderWay}
-use Rattle.channel_world_runs.specs.declared.world_state.WorldState.{WorldState}
-use Rattle.channel_world.proofs.CountedCalls.{counted}
-use Rattle.channel_world.proofs.Inside.{inside_is}
+use Rattle.std.specs.Prelude.{◌≡◌}
+use Rattle.channel_world.proofs.Lemmas.{rules, ◌∙◌, Bool, ap, inl, count_by, iter_rest, is_sending, is_receiving, CallUnderWay, WorldState, counted, inside_is}
 use Rattle.channel_world.proofs.world.World.calls_by_kind.Goals as goal
 
 pub count-requires-clause-fits : goal.count-requires-clause-fits

@@ -1,9 +1,6 @@
-use Rattle.std.proofs.Common.{◌≡◌, Some, IsTrue, inl, subst}
-use Rattle.channel_world_runs.specs.WorldState.{HasPositions}
-use Rattle.channel_world_runs.specs.declared.world_state.WorldState.{WorldState}
+use Rattle.std.specs.Prelude.{◌≡◌}
+use Rattle.channel_world.proofs.Lemmas.{Some, IsTrue, inl, subst, HasPositions, WorldState, at_rest, inside_is}
 use Rattle.channel_world_runs.proofs.ShownFacts.{one_place}
-use Rattle.channel_world.specs.World.{at_rest}
-use Rattle.channel_world.proofs.Inside.{inside_is}
 use Rattle.channel_world.proofs.world.World.has_positions.Goals as goal
 
 pub returns-clause-enough : goal.returns-clause-enough

@@ -1,10 +1,7 @@
 -- From the number of pending sends; where nobody is woken there is nobody for whom a position is asked.
-use Rattle.std.proofs.Common.{arith, rules, ◌≡◌, List, length, ap, sym, ◌∙◌, vec_len}
-use Rattle.std.proofs.lemmas.Bool.{eqb-true}
-use Rattle.channel_world_model.specs.declared.name.Waiter.{Waiter}
-use Rattle.channel_world.specs.World.{at_rest}
+use Rattle.std.specs.Prelude.{◌≡◌}
+use Rattle.channel_world.proofs.Lemmas.{arith, rules, List, length, ap, sym, ◌∙◌, vec_len, eqb-true, Waiter, at_rest, world_state_of}
 use Rattle.channel_world.proofs.Positions.{fewer_positions, nobody_there}
-use Rattle.channel_world.proofs.Inside.{world_state_of}
 use Rattle.channel_world.proofs.world.World.has_positions_to_settle.Goals as goal
 
 pub returns-then-is_empty-clause-enough : goal.returns-then-is_empty-clause-enough

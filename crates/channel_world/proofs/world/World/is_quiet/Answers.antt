@@ -1,8 +1,5 @@
-use Rattle.std.proofs.Common.{subst}
-use Rattle.channel_world_runs.specs.WorldState.{TellsQuiet}
-use Rattle.channel_world_runs.specs.declared.world_state.WorldState.{WorldState}
-use Rattle.channel_world.proofs.AsleepFacts.{tells_quiet}
-use Rattle.channel_world.proofs.Inside.{inside_is}
+use Rattle.channel_world.proofs.Lemmas.{subst, TellsQuiet, WorldState, inside_is}
+use Rattle.channel_world.proofs.SleepFacts.{tells_quiet}
 use Rattle.channel_world.proofs.world.World.is_quiet.Goals as goal
 
 pub returns : goal.returns

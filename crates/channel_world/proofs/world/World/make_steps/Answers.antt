@@ -1,8 +1,5 @@
 -- From a run of a channel by names: what stood, stands at its end.
-use Rattle.std.proofs.Common.{subst}
-use Rattle.channel_world_runs.specs.Runs.{RanTo}
-use Rattle.channel_world_runs.specs.declared.world_state.WorldState.{WorldState}
-use Rattle.channel_world.proofs.Inside.{inside_is}
+use Rattle.channel_world.proofs.Lemmas.{subst, RanTo, WorldState, inside_is}
 use Rattle.channel_world.proofs.world.World.make_steps.Goals as goal
 
 pub invariant_of-self : goal.invariant_of-self

@@ -1,11 +1,8 @@
 -- From the numbers of those that are pending on each line, and of the places that are free.
-use Rattle.std.proofs.Common.{arith, ◌≡◌, ◌∙◌, ◌+◌, length, false, Some, sym}
-use Rattle.channel_calls.specs.declared.stage.WaitList.TheVariants.{Sends, Receives, Streams}
-use Rattle.channel_world.specs.Settled.{pending_on}
-use Rattle.channel_world.specs.World.{at_rest}
+use Rattle.std.specs.Prelude.{◌≡◌, ◌+◌}
+use Rattle.channel_world.proofs.Lemmas.{arith, ◌∙◌, length, false, Some, sym, Sends, Receives, Streams, pending_on, at_rest, world_state_of}
 use Rattle.channel_world.proofs.ComingIn.{bounded_in}
 use Rattle.channel_world.proofs.NumberFacts.{messages_at_rest}
-use Rattle.channel_world.proofs.Inside.{world_state_of}
 use Rattle.channel_world.proofs.world.World.most_accepted.Goals as goal
 
 pub returns : goal.returns

@@ -1,10 +1,7 @@
 -- From the numbers of those that are pending on each line.
-use Rattle.std.proofs.Common.{arith, ◌+◌, ◌*◌, ◌≡◌, ◌∙◌, List, length, vec_len, ap}
-use Rattle.channel_world_model.specs.declared.name.Waiter.{Waiter}
-use Rattle.channel_world.specs.World.{at_rest}
+use Rattle.std.specs.Prelude.{◌+◌, ◌*◌, ◌≡◌}
+use Rattle.channel_world.proofs.Lemmas.{arith, ◌∙◌, List, length, vec_len, ap, Waiter, at_rest, just_it, world_state_of}
 use Rattle.channel_world.proofs.SettleFacts.{just_so_many}
-use Rattle.channel_world.proofs.Tasks.{just_it}
-use Rattle.channel_world.proofs.Inside.{world_state_of}
 use Rattle.channel_world.proofs.world.World.most_polls.Goals as goal
 
 pub returns : goal.returns

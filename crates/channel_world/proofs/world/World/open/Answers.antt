@@ -1,9 +1,5 @@
 -- From the parts of a channel that was just opened.
-use Rattle.std.proofs.Common.{refl}
-use Rattle.concurrent_queue.specs.Capacity.{capacity_of}
-use Rattle.channel_steps.specs.Run.{new_configuration}
-use Rattle.channel_world_runs.proofs.WorldStateFacts.{new_stands, no_calls}
-use Rattle.channel_world.proofs.Opening.{opened_is}
+use Rattle.channel_world.proofs.Lemmas.{refl, capacity_of, new_configuration, new_stands, no_calls, opened_is}
 use Rattle.channel_world.proofs.world.World.open.Goals as goal
 
 pub returns-clause-shown : goal.returns-clause-shown

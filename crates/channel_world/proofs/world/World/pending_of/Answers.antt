@@ -1,11 +1,8 @@
 -- From a walk over all that was ever taken, under which no name stands twice.
-use Rattle.std.proofs.Common.{arith, rules, ◌≡◌, ◌∙◌, subst}
-use Rattle.std.specs.List.{count_by}
-use Rattle.channel_world_runs.specs.declared.world_state.WorldState.{WorldState}
+use Rattle.std.specs.Prelude.{◌≡◌}
+use Rattle.channel_world.proofs.Lemmas.{arith, rules, ◌∙◌, subst, count_by, WorldState, is_pending_on, operation_stance, stream_stance, world_state_of, inside_is}
 use Rattle.channel_world_runs.proofs.PendingFacts.{passed}
-use Rattle.channel_world.specs.Kinds.{is_pending_on, operation_stance, stream_stance}
 use Rattle.channel_world.proofs.KindFacts.{by_entries}
-use Rattle.channel_world.proofs.Inside.{world_state_of, inside_is}
 use Rattle.channel_world.proofs.world.World.pending_of.Goals as goal
 
 pub returns : goal.returns

@@ -1,18 +1,7 @@
 -- From the listeners that wait on the list, each of which stands untold in the line, and from those of the line among the woken.
-use Rattle.std.proofs.Common.{arith, rules, ◌≡◌, ◌+◌, ◌∙◌, Bool, List, length, ap, inl, subst, sym}
-use Rattle.std.proofs.lemmas.List.Sums.{length-filter}
-use Rattle.std.specs.Slice.Iter.{iter_rest}
-use Rattle.channel_calls.specs.Parts.{listeners}
-use Rattle.channel_world_runs.specs.WorldState.{parts_in}
-use Rattle.channel_world_runs.specs.declared.world_state.WorldState.{WorldState}
-use Rattle.channel_world_model.specs.Laws.{count_of, is_line, line_at, woken_of_line}
-use Rattle.channel_world_model.specs.declared.name.Waiter.{Waiter}
-use Rattle.channel_world.specs.World.{at_rest}
+use Rattle.std.specs.Prelude.{◌≡◌, ◌+◌}
+use Rattle.channel_world.proofs.Lemmas.{arith, rules, ◌∙◌, Bool, List, length, ap, inl, subst, sym, length-filter, iter_rest, listeners, parts_in, WorldState, count_of, is_line, line_at, woken_of_line, Waiter, at_rest, names_of, just_it, counted, world_state_of, inside_is}
 use Rattle.channel_world.proofs.Polls.{as_many_wait}
-use Rattle.channel_world.proofs.Tasks.{just_it}
-use Rattle.channel_world.proofs.CountedCalls.{counted}
-use Rattle.channel_world_runs.specs.NameTable.{names_of}
-use Rattle.channel_world.proofs.Inside.{world_state_of, inside_is}
 use Rattle.channel_world.proofs.world.World.pending_on.Goals as goal
 
 pub returns : goal.returns

@@ -1,13 +1,7 @@
 -- From the law that a poll of settling is the model's.
-use Rattle.std.proofs.Common.{sym}
-use Rattle.channel_world_runs.specs.Settle.{PollsAlone}
-use Rattle.channel_world_runs.proofs.Interface.{stands_led}
-use Rattle.channel_world_runs.specs.WorldState.{name_state_of}
-use Rattle.channel_world_runs.proofs.LoneFacts.{call_leads}
+use Rattle.channel_world.proofs.Lemmas.{sym, PollsAlone, stands_led, name_state_of, call_leads, poll_of, world_state_of, inside_is}
 use Rattle.channel_world_runs.proofs.WokenPolls.{woken_admitted}
-use Rattle.channel_world_model.specs.Settling.{poll_of}
 use Rattle.channel_world.proofs.Polls.{poll_brings_within, poll_wakes_few, poll_answers}
-use Rattle.channel_world.proofs.Inside.{world_state_of, inside_is}
 use Rattle.channel_world.proofs.world.World.poll_woken.Goals as goal
 
 pub poll_alone-requires-clause-room : goal.poll_alone-requires-clause-room

@@ -1,9 +1,7 @@
 -- From what is refused of a channel by names.
-use Rattle.std.proofs.Common.{◌∙◌, ap}
+use Rattle.channel_world.proofs.Lemmas.{◌∙◌, ap, WorldState, world_state_of, inside_is}
 use Rattle.channel_world_runs.specs.Refusal as names
-use Rattle.channel_world_runs.specs.declared.world_state.WorldState.{WorldState}
 use Rattle.channel_world.proofs.Whole.{refused_alike}
-use Rattle.channel_world.proofs.Inside.{world_state_of, inside_is}
 use Rattle.channel_world.proofs.world.World.refusal.Goals as goal
 
 pub returns : goal.returns

@@ -1,11 +1,6 @@
 -- From the number of tasks; a call that closes nothing wakes two more than the streams at most.
-use Rattle.std.proofs.Common.{arith, rules, ◌+◌, ◌≤◌, IfSome, length, subst, sym}
-use Rattle.channel_world_runs.specs.WorldState.{parts_in}
-use Rattle.channel_world_runs.specs.declared.world_state.WorldState.{WorldState}
-use Rattle.channel_world_model.specs.declared.call.Call.{Call}
-use Rattle.channel_world.specs.World.{at_rest, most_woken, untold_count}
-use Rattle.channel_world.proofs.Tasks.{few_tasks, closes_nothing, no_less}
-use Rattle.channel_world.proofs.Inside.{world_state_of, inside_is}
+use Rattle.std.specs.Prelude.{◌+◌, ◌≤◌}
+use Rattle.channel_world.proofs.Lemmas.{arith, rules, IfSome, length, subst, sym, parts_in, WorldState, Call, at_rest, most_woken, untold_count, few_tasks, closes_nothing, no_less, world_state_of, inside_is}
 use Rattle.channel_world.proofs.world.World.room_for.Goals as goal
 
 pub returns-in_default : goal.returns-in_default

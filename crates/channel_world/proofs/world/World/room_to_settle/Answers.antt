@@ -1,5 +1,5 @@
 -- There are positions, wherever room is taken.
-use Rattle.std.proofs.Common.{Option, None, Some}
+use Rattle.channel_world.proofs.Words.{Option, None, Some}
 use Rattle.std.specs.Prelude.{OnSome}
 use Rattle.channel_world.proofs.world.World.room_to_settle.Goals as goal
 

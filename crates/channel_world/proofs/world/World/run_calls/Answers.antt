@@ -1,13 +1,5 @@
-use Rattle.std.proofs.Common.{arith, ◌≡◌, Some, None, ◌∷◌, ◌++◌, [], rules, refl, ap, ◌∙◌}
-use Rattle.std.specs.Option.{option_to_list}
-use Rattle.channel_world_model.specs.Refusal.{refusal}
-use Rattle.channel_world_model.specs.declared.refusal.WorldRefusal.TheVariants as why
-use Rattle.channel_world_model.proofs.RunLemmas.{goes_on_empty, stop_in_front, stop_at_end, run_ends, run_ends_full, goes_on_by}
-use Rattle.channel_world_runs.proofs.Interface.{leads_nowhere, stands_led}
-use Rattle.channel_world.specs.World.{at_rest}
-use Rattle.channel_world.proofs.Leading.{leads_same, leads_answered, leads_still}
-use Rattle.channel_world.proofs.StopFacts.{calls_made, calls_used_up}
-use Rattle.channel_world.proofs.Inside.{world_state_of}
+use Rattle.std.specs.Prelude.{◌≡◌, ◌∷◌, ◌++◌}
+use Rattle.channel_world.proofs.Lemmas.{arith, Some, None, [], rules, refl, ap, ◌∙◌, option_to_list, refusal, goes_on_empty, stop_in_front, stop_at_end, run_ends, run_ends_full, goes_on_by, leads_nowhere, stands_led, at_rest, WorldRefusal, leads_same, leads_answered, leads_still, calls_made, calls_used_up, world_state_of}
 use Rattle.channel_world.proofs.world.World.run_calls.Goals as goal
 
 pub loop-call-init : goal.loop-call-init
@@ -92,7 +84,7 @@ returns-in-Some-stop-clause-made g c =
 pub returns-in-Err-clause-made : goal.returns-in-Err-clause-made
 returns-in-Err-clause-made g c =
     let done = c.stop.new.done in
-    let all = calls_made (at_rest (world_state_of c.args.self.now)) c.args.calls.now.items done.items (Some why.NoMemory) c.push_front_reserved.new.self.items
+    let all = calls_made (at_rest (world_state_of c.args.self.now)) c.args.calls.now.items done.items (Some WorldRefusal.NoMemory) c.push_front_reserved.new.self.items
     (at_rest (world_state_of c.answer.new.self)) (returns-in-Err-clause-run g c) in
     let count = done.ok.0 in
     omega (arith, all, count)

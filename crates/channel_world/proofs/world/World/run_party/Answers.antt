@@ -1,15 +1,8 @@
-use Rattle.std.proofs.Common.{arith, ◌≡◌, Bool, ◌<◌, ◌+◌, false, List, [], ◌∷◌, ◌∙◌, length, vec_len, None, inr, refl, sym, ap, subst}
+use Rattle.std.specs.Prelude.{◌≡◌, ◌<◌, ◌+◌, ◌∷◌}
+use Rattle.channel_world.proofs.Lemmas.{arith, Bool, false, List, [], ◌∙◌, length, vec_len, None, inr, refl, sym, ap, subst, RanTo, Entry, ran_leads, refused_of, AreSilent, EndsWithAnswer, IsRefused, StepsOnce, ran_none, Step, Ended, ended_refused, ended_well, not_silent, answer_ends, once_silent, none_written, party_more, silent_ends, silent_more, some_written, world_state_of}
 use Rattle.std.proofs.lemmas.Grind.{common_steps}
 use Rattle.channel_world_model.specs.declared.refusal.WorldRefusal.TheVariants.{NoMemory}
-use Rattle.channel_world_runs.specs.Runs.{RanTo}
-use Rattle.channel_world_runs.specs.declared.step.Entry.{Entry}
-use Rattle.channel_world_runs.specs.declared.step.Step.TheVariants as step
-use Rattle.channel_world_runs.proofs.Interface.{ran_leads}
-use Rattle.channel_world.specs.PartyRun.{refused_of, AreSilent, EndsWithAnswer, IsRefused, StepsOnce}
 use Rattle.channel_world.proofs.HeadlineFacts.{headline, ends_in_front, counted}
-use Rattle.channel_world_runs.proofs.WorldStateFacts.{ran_none}
-use Rattle.channel_world.proofs.PartyFacts.{Ended, ended_refused, ended_well, not_silent, answer_ends, once_silent, none_written, party_more, silent_ends, silent_more, some_written}
-use Rattle.channel_world.proofs.Inside.{world_state_of}
 use Rattle.channel_world.proofs.world.World.run_party.Given.{Over}
 use Rattle.channel_world.proofs.world.World.run_party.Goals as goal
 
@@ -34,7 +27,7 @@ ended_roomless g c =
     (sym c.is_empty.ensures ∙ c.if-is_empty.false) c.have_room.new.trace.ok.0 c.have_room.ensures.trace in
     ended_refused c.args.party c.loop-made._made (world_state_of c.args.self.now) trace (world_state_of c.loop-made.self) (world_state_of c.loop-made.self) NoMemory
     c.stopped.result.trace.items c.stopped.result.stopped (vec_len c.have_room.new.trace) c.loop-made.invariant.count
-    c.loop-made.invariant.ran (ran_none (step.Step c.args.party ∷ []) (world_state_of c.loop-made.self)) (inr (
+    c.loop-made.invariant.ran (ran_none (Step.Step c.args.party ∷ []) (world_state_of c.loop-made.self)) (inr (
       c.loop-made.invariant.at_work
           some,
       refl,

@@ -1,10 +1,5 @@
-use Rattle.std.proofs.Common.{arith, subst}
-use Rattle.channel_world_runs.specs.WorldState.{name_state_of}
-use Rattle.channel_world_runs.specs.Run.{StopsAt}
-use Rattle.channel_world_runs.proofs.Interface.{ran_leads}
+use Rattle.channel_world.proofs.Lemmas.{arith, subst, name_state_of, StopsAt, ran_leads, all_used_up, place_is, all_made, world_state_of}
 use Rattle.channel_world.proofs.HeadlineFacts.{headline, ends_in_front, counted}
-use Rattle.channel_world.proofs.StopFacts.{all_used_up, place_is, all_made}
-use Rattle.channel_world.proofs.Inside.{world_state_of}
 use Rattle.channel_world.proofs.world.World.run_steps.Goals as goal
 
 pub returns-clause-headline : goal.returns-clause-headline

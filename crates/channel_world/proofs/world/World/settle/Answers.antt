@@ -1,17 +1,12 @@
 -- From the loop: the polls so far, and what is to come.
-use Rattle.std.proofs.Common.{arith, rules, ◌≡◌, ◌∙◌, slice_get, Some, vec_len, refl}
-use Rattle.std.proofs.lemmas.Option.{slice_get_read}
-use Rattle.channel_world_runs.proofs.Interface.{leads_nowhere, stands_led}
-use Rattle.channel_world.specs.Settled.{polls_in}
-use Rattle.channel_world.specs.World.{at_rest}
-use Rattle.channel_world.proofs.AsleepFacts.{no_receive_goes_on, no_send_goes_on, no_stream_goes_on}
+use Rattle.std.specs.Prelude.{◌≡◌}
+use Rattle.channel_world.proofs.Lemmas.{arith, rules, ◌∙◌, slice_get, Some, vec_len, refl, slice_get_read, leads_nowhere, stands_led, polls_in, at_rest, leads_polled, world_state_of}
+use Rattle.channel_world.proofs.SleepFacts.{no_receive_goes_on, no_send_goes_on, no_stream_goes_on}
 use Rattle.channel_world.proofs.ComingIn.{still_within}
-use Rattle.channel_world.proofs.Leading.{leads_polled}
 use Rattle.channel_world.proofs.NumberFacts.{messages_at_rest, pending_at_rest}
 use Rattle.channel_world.proofs.Polls.{awake_at_rest}
 use Rattle.channel_world.proofs.Positions.{fewer_positions, one_position, positions_on}
 use Rattle.channel_world.proofs.SettleFacts.{NextPoll, Rests, ample_pushed, few_told, goes_first, goes_on, goes_pushed, goes_end, next_poll, one_poll}
-use Rattle.channel_world.proofs.Inside.{world_state_of}
 use Rattle.channel_world.proofs.world.World.settle.Given.{Over}
 use Rattle.channel_world.proofs.world.World.settle.Goals as goal
 
@@ -31,8 +26,7 @@ loop-names-init g c =
     }
 
 pub poll_woken-reply-requires-clause-quiet : goal.poll_woken-reply-requires-clause-quiet
-poll_woken-reply-requires-clause-quiet g c =
-    c.loop-names.invariant.quiet
+poll_woken-reply-requires-clause-quiet g c = c.loop-names.invariant.quiet
 
 next_up : (g : Over) (c : goal.After-poll_woken-arg-1 g)
     → NextPoll (at_rest (world_state_of c.args.self.now)) (at_rest (world_state_of c.loop-names.self)) c.loop-names.polls.items c.loop-names.names.items c.index-name.result.now
@@ -47,9 +41,7 @@ next_up g c =
     (c.len-in-loop-names-2.ensures ∙ polls.ok.0) here
 
 pub poll_woken-reply-requires-clause-woken : goal.poll_woken-reply-requires-clause-woken
-poll_woken-reply-requires-clause-woken g c =
-    let next = next_up g c in
-    next.woken
+poll_woken-reply-requires-clause-woken g c = let next = next_up g c in next.woken
 
 pub poll_woken-reply-requires-clause-limit : goal.poll_woken-reply-requires-clause-limit
 poll_woken-reply-requires-clause-limit g c =
@@ -145,14 +137,10 @@ pub returns-clause-polls : goal.returns-clause-polls
 returns-clause-polls g c = let end = ended g c in end.settles
 
 pub returns-clause-few : goal.returns-clause-few
-returns-clause-few g c =
-    let end = ended g c in
-    let few = end.few in let b = c.loop-names.polls.ok.0 in rw b few
+returns-clause-few g c = let end = ended g c in let few = end.few in let b = c.loop-names.polls.ok.0 in rw b few
 
 pub returns-clause-short : goal.returns-clause-short
-returns-clause-short g c =
-    let end = ended g c in
-    let short = end.short in let b = c.loop-names.polls.ok.0 in rw b short
+returns-clause-short g c = let end = ended g c in let short = end.short in let b = c.loop-names.polls.ok.0 in rw b short
 
 pub returns-clause-room : goal.returns-clause-room
 returns-clause-room g c = c.loop-names.invariant.polls
@@ -169,13 +157,10 @@ returns-clause-nobody_woken g c =
     end.rests.0
 
 pub returns-clause-closing : goal.returns-clause-closing
-returns-clause-closing g c =
-    let end = ended g c in
-    let n = end.rests.1 in n.opened
+returns-clause-closing g c = let end = ended g c in let n = end.rests.1 in n.opened
 
 pub returns-clause-quiet : goal.returns-clause-quiet
-returns-clause-quiet g c =
-    c.loop-names.invariant.quiet
+returns-clause-quiet g c = c.loop-names.invariant.quiet
 
 pub returns-clause-leads : goal.returns-clause-leads
 returns-clause-leads g c = record { on = c.loop-names.invariant.leads }

@@ -1,11 +1,8 @@
-use Rattle.std.proofs.Common.{◌≡◌, ◌≤◌, ◌-◌, true, vec_len, vec_capacity}
-use Rattle.channel_world_model.specs.Lines.{is_among}
-use Rattle.channel_world_model.specs.declared.name.Waiter.{Waiter}
+use Rattle.std.specs.Prelude.{◌≡◌, ◌≤◌, ◌-◌}
+use Rattle.channel_world.proofs.Lemmas.{true, vec_len, vec_capacity, is_among, Waiter, polls_replied, polls_in, most_polls, NoneLackedMemory, LeadsOn}
 use Rattle.channel_world.proofs.ComingIn.{still_in}
 use Rattle.channel_world.proofs.SettleFacts.{Goes}
-use Rattle.channel_world.specs.Carried.{polls_replied}
-use Rattle.channel_world.specs.Settled.{polls_in, most_polls, NoneLackedMemory}
-use Rattle.channel_world.specs.View.{at_rest, HasPositions, IsQuiet, LeadsOn}
+use Rattle.channel_world.specs.View.{at_rest, HasPositions, IsQuiet}
 use Rattle.channel_world.proofs.world.World.settle.Given as goal
 
 abbrev pub invariant-loop-names : goal.invariant-loop-names

@@ -1,13 +1,5 @@
-use Rattle.std.proofs.Common.{arith, ◌≡◌, List, [], ◌∷◌, ◌++◌, ◌∙◌, length, vec_len, None, Some, refl, sym, ap, subst}
-use Rattle.std.specs.Option.{option_to_list}
-use Rattle.channel_world_runs.specs.WorldState.{name_state_of, Stands}
-use Rattle.channel_world_runs.specs.Run.{StopsAt}
-use Rattle.channel_world_runs.specs.Runs.{RanTo}
-use Rattle.channel_world_runs.specs.declared.step.Entry.{Entry}
-use Rattle.channel_world_runs.specs.declared.step.Step.{Step}
-use Rattle.channel_world_runs.specs.declared.step.Step.TheVariants as step
-use Rattle.channel_world.proofs.PartyFacts.{first_of, one_made, none_made}
-use Rattle.channel_world.proofs.Inside.{world_state_of}
+use Rattle.std.specs.Prelude.{◌≡◌, ◌∷◌, ◌++◌}
+use Rattle.channel_world.proofs.Lemmas.{arith, List, [], ◌∙◌, length, vec_len, None, Some, refl, sym, ap, subst, option_to_list, name_state_of, Stands, StopsAt, RanTo, Entry, Step, first_of, one_made, none_made, world_state_of}
 use Rattle.channel_world.proofs.world.World.step_party.Goals as goal
 
 pub returns-in-Some-clause-refused : goal.returns-in-Some-clause-refused
@@ -15,7 +7,7 @@ returns-in-Some-clause-refused g c =
     let run = c.make_steps-run in
     let left = run.new.steps.items in
     let trace = run.result.trace.items in
-    let x : Step g.row.T.Denot = step.Step c.args.party in
+    let x : Step g.row.T.Denot = Step.Step c.args.party in
     let before : Stands (world_state_of c.args.self.now) = c.keeps.ensures in
     let pushed : c.push_back_reserved.new.self.items ≡ x ∷ [] =
     c.push_back_reserved.ensures.items ∙ ap (λ (l : List (Step g.row.T.Denot)). l ++ x ∷ []) c.requires.empty in
@@ -32,7 +24,7 @@ returns-clause-made g c =
     let run = c.make_steps-run in
     let left = run.new.steps.items in
     let trace = run.result.trace.items in
-    let x : Step g.row.T.Denot = step.Step c.args.party in
+    let x : Step g.row.T.Denot = Step.Step c.args.party in
     let before : Stands (world_state_of c.args.self.now) = c.keeps.ensures in
     let pushed : c.push_back_reserved.new.self.items ≡ x ∷ [] =
     c.push_back_reserved.ensures.items ∙ ap (λ (l : List (Step g.row.T.Denot)). l ++ x ∷ []) c.requires.empty in
@@ -57,7 +49,7 @@ unwrap-entry-requires g c =
     let run = c.make_steps-run in
     let left = run.new.steps.items in
     let trace = run.result.trace.items in
-    let x : Step g.row.T.Denot = step.Step c.args.party in
+    let x : Step g.row.T.Denot = Step.Step c.args.party in
     let before : Stands (world_state_of c.args.self.now) = c.keeps.ensures in
     let pushed : c.push_back_reserved.new.self.items ≡ x ∷ [] =
     c.push_back_reserved.ensures.items ∙ ap (λ (l : List (Step g.row.T.Denot)). l ++ x ∷ []) c.requires.empty in

@@ -1,5 +1,5 @@
-use Rattle.std.proofs.Common.{◌≡◌, ◌+◌, drop}
-use Rattle.channel_world.specs.Kinds.{takings_of}
+use Rattle.std.specs.Prelude.{◌≡◌, ◌+◌}
+use Rattle.channel_world.proofs.Words.{drop, takings_of}
 use Rattle.channel_world.proofs.world.World.taken.Given as goal
 
 abbrev pub invariant-loop-k : goal.invariant-loop-k

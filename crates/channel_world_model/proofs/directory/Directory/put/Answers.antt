@@ -1,5 +1,5 @@
-use Rattle.std.proofs.Common.{arith, ◌≡◌, ◌∙◌, ap, None, ◌∷◌, nat_eq, length, ◌<◌, ◌^◌, is_some}
-use Rattle.std.specs.Map.{lookup}
+use Rattle.std.specs.Prelude.{◌≡◌, ◌∷◌, ◌<◌, ◌^◌}
+use Rattle.channel_world_model.proofs.Words.{arith, ◌∙◌, ap, None, nat_eq, length, is_some, lookup}
 use Rattle.channel_world_model.proofs.DirectoryLemmas.{no_value, put_new, nothing_displaced}
 use Rattle.channel_world_model.proofs.directory.Directory.put.Goals.{in-Ok-None, in-Ok-Some, in-Err}
 use Rattle.channel_world_model.proofs.directory.Directory.put.Goals as goal

@@ -1,6 +1,4 @@
-use Rattle.std.proofs.Common.{◌∙◌, ap, sym, Some, nat_eq}
-use Rattle.std.specs.Map.{set_value}
-use Rattle.channel_world_model.specs.Names.{with_changed}
+use Rattle.channel_world_model.proofs.Words.{◌∙◌, ap, sym, Some, nat_eq, set_value, with_changed}
 use Rattle.channel_world_model.proofs.DirectoryLemmas.{set_absent, set_twice}
 use Rattle.channel_world_model.proofs.directory.Directory.set.Goals.{in-Some+in-Some-1, in-Some+in-None-1, in_default}
 use Rattle.channel_world_model.proofs.directory.Directory.set.Goals as goal

@@ -1,7 +1,4 @@
-use Rattle.std.proofs.Common.{◌∙◌, ap, sym, Option, None, nat_eq}
-use Rattle.std.specs.Map.{set_value}
-use Rattle.std.specs.Option.{option_map_or}
-use Rattle.channel_world_model.specs.Names.{at, without_name}
+use Rattle.channel_world_model.proofs.Words.{◌∙◌, ap, sym, Option, None, nat_eq, set_value, option_map_or, at, without_name}
 use Rattle.channel_world_model.proofs.DirectoryLemmas.{left_alone, set_absent}
 use Rattle.channel_world_model.proofs.directory.Directory.take.Goals as goal
 

@@ -1,6 +1,4 @@
-use Rattle.std.proofs.Common.{sym, ◌∙◌}
-use Rattle.channel_world_runs.proofs.BeginFacts.{mints}
-use Rattle.channel_world_runs.proofs.ResultFacts.{ok_where_some}
+use Rattle.channel_world_runs.proofs.Lemmas.{sym, ◌∙◌, mints, ok_where_some}
 use Rattle.channel_world_runs.proofs.name_table.NameTable.begin.Goals as goal
 
 pub returns-in-Mints-clause-ok : goal.returns-in-Mints-clause-ok

@@ -1,5 +1,5 @@
-use Rattle.std.proofs.Common.{rules, ◌≡◌, ◌∙◌, ap, ◌+◌}
-use Rattle.std.specs.List.{count_by}
+use Rattle.std.specs.Prelude.{◌≡◌, ◌+◌}
+use Rattle.channel_world_runs.proofs.Words.{rules, ◌∙◌, ap, count_by}
 use Rattle.channel_world_runs.specs.Pending.{stands_pending, operation_stands, stream_stands}
 use Rattle.channel_world_runs.proofs.PendingFacts.{passed}
 use Rattle.channel_world_runs.proofs.name_table.NameTable.count_pending.Goals as goal

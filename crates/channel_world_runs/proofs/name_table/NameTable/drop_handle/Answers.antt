@@ -1,6 +1,4 @@
-use Rattle.std.proofs.Common.{Option, None, Some, refl, ap, ◌∙◌}
-use Rattle.event_listener.specs.declared.key.Key.{Key}
-use Rattle.channel_world_model.specs.Asked.{drop_asked}
+use Rattle.channel_world_runs.proofs.Lemmas.{Option, None, Some, refl, ap, ◌∙◌, Key, drop_asked}
 use Rattle.channel_world_runs.proofs.BeginFacts.{drops}
 use Rattle.channel_world_runs.proofs.name_table.NameTable.drop_handle.Goals.{in-Some, in-None}
 use Rattle.channel_world_runs.proofs.name_table.NameTable.drop_handle.Goals as goal

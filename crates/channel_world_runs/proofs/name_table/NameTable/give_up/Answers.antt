@@ -1,4 +1,4 @@
-use Rattle.std.proofs.Common.{None, Some, refl}
+use Rattle.channel_world_runs.proofs.Lemmas.{None, Some, refl}
 use Rattle.channel_world_runs.proofs.BeginFacts.{gives_up}
 use Rattle.channel_world_runs.proofs.name_table.NameTable.give_up.Goals as goal
 

@@ -1,17 +1,6 @@
 -- It is asked of the operation that lives under the name.
-use Rattle.std.proofs.Common.{◌≡◌, Option, None, Some, sym, ap, ◌∙◌}
-use Rattle.std.specs.Option.{option_map}
-use Rattle.channel_calls.specs.declared.stage.WaitList.{WaitList}
-use Rattle.channel_world_model.specs.Laws.{is_line, line_at, line_of_operation}
-use Rattle.channel_world_model.specs.Names.{at}
-use Rattle.channel_world_model.specs.declared.name.OpId.{OpId}
-use Rattle.channel_world_model.specs.declared.name.Operation.{Operation}
-use Rattle.channel_world_model.specs.declared.name.Waiter.{Waiter}
-use Rattle.channel_world_model.specs.declared.name.Waiter.TheVariants.{Op}
-use Rattle.channel_world_runs.specs.NameTable.{names_of}
-use Rattle.channel_world_runs.specs.declared.name_table.NameTable.{NameTable}
-use Rattle.channel_world_runs.specs.declared.names.OperationEntry.{OperationEntry}
-use Rattle.channel_world_runs.proofs.BeginFacts.{operation_is}
+use Rattle.std.specs.Prelude.{◌≡◌}
+use Rattle.channel_world_runs.proofs.Lemmas.{Option, None, Some, sym, ap, ◌∙◌, option_map, WaitList, is_line, line_at, line_of_operation, at, OpId, Operation, Waiter, Op, names_of, NameTable, OperationEntry, operation_is}
 use Rattle.channel_world_runs.proofs.name_table.NameTable.is_on.Goals as goal
 
 line_is : {T : Type 0} (r : NameTable T) (line : WaitList) (w : Waiter) (op : OpId) (o : Option (OperationEntry T)) → o ≡ at op.0 r.operations → w ≡ Op op

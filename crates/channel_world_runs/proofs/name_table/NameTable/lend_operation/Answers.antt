@@ -1,5 +1,4 @@
-use Rattle.std.proofs.Common.{None, Some}
-use Rattle.channel_world_runs.proofs.BeginFacts.{operation_is}
+use Rattle.channel_world_runs.proofs.Lemmas.{None, Some, operation_is}
 use Rattle.channel_world_runs.proofs.name_table.NameTable.lend_operation.Goals as goal
 
 pub returns-in_default-clause-operation : goal.returns-in_default-clause-operation

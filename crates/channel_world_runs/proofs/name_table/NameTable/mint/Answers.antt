@@ -1,6 +1,4 @@
-use Rattle.std.proofs.Common.{arith, Some}
-use Rattle.std.proofs.lemmas.Grind.{common_steps}
-use Rattle.channel_world_runs.proofs.BeginFacts.{handle_is}
+use Rattle.channel_world_runs.proofs.Lemmas.{arith, Some, common_steps, handle_is}
 use Rattle.channel_world_runs.proofs.name_table.NameTable.mint.Goals as goal
 
 pub returns-clause-some : goal.returns-clause-some

@@ -1,7 +1,7 @@
 -- What the names are that one call at a time sees.
-use Rattle.std.proofs.Common.{◌∙◌, inl, inr}
+use Rattle.channel_world_runs.proofs.Words.{◌∙◌, inl, inr, Any}
 use Rattle.channel_world_runs.proofs.RefusalLemmas.{then_taken, through_seen, taking_seen, both_seen, polling_seen, asking_seen, operation_taken, handle_taken}
-use Rattle.channel_world_model.specs.declared.plan.Wanted.TheVariants.{Receiver, Any}
+use Rattle.channel_world_model.specs.declared.plan.Wanted.TheVariants.{Receiver}
 use Rattle.channel_world_runs.proofs.name_table.NameTable.planned_refusal.Goals as goal
 
 pub returns-in-Through : goal.returns-in-Through

@@ -1,6 +1,5 @@
-use Rattle.std.proofs.Common.{rules, ◌≡◌, ◌∙◌, ap, length, Bool}
-use Rattle.std.specs.List.{count_by}
-use Rattle.channel_world_model.specs.declared.name.Waiter.{Waiter}
+use Rattle.std.specs.Prelude.{◌≡◌}
+use Rattle.channel_world_runs.proofs.Lemmas.{rules, ◌∙◌, ap, length, Bool, count_by, Waiter}
 use Rattle.channel_world_runs.proofs.LruLemmas.{marked_many}
 use Rattle.channel_world_runs.proofs.PendingFacts.{passed}
 use Rattle.channel_world_runs.proofs.order.Order.count_woken.Goals as goal

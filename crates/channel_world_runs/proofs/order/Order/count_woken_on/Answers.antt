@@ -1,10 +1,5 @@
-use Rattle.std.proofs.Common.{rules, ◌≡◌, ◌∙◌, ◌&&◌, ap, Bool}
-use Rattle.std.specs.List.{count_by}
-use Rattle.channel_world_model.specs.Laws.{is_line, line_at}
-use Rattle.channel_world_model.specs.declared.name.Waiter.{Waiter}
-use Rattle.channel_world_runs.specs.NameTable.{names_of}
-use Rattle.channel_world_runs.specs.Order.{WakeOrder}
-use Rattle.channel_world_runs.specs.Owed.{woken_on}
+use Rattle.std.specs.Prelude.{◌≡◌, ◌&&◌}
+use Rattle.channel_world_runs.proofs.Lemmas.{rules, ◌∙◌, ap, Bool, count_by, is_line, line_at, Waiter, names_of, WakeOrder, woken_on}
 use Rattle.channel_world_runs.proofs.LruLemmas.{marked_pass}
 use Rattle.channel_world_runs.proofs.PendingFacts.{passed}
 use Rattle.channel_world_runs.proofs.order.Order.count_woken_on.Goals as goal

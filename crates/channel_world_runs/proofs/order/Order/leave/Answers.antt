@@ -1,8 +1,5 @@
 -- From the places: one is taken out.
-use Rattle.std.proofs.Common.{◌∙◌, ap}
-use Rattle.std.specs.Map.{keys_of}
-use Rattle.channel_world_model.proofs.WaiterLemmas.{derived_is, keys_without}
-use Rattle.channel_world_runs.specs.Order.{WakeOrder, marked_places, without_place}
+use Rattle.channel_world_runs.proofs.Lemmas.{◌∙◌, ap, keys_of, derived_is, keys_without, WakeOrder, marked_places, without_place}
 use Rattle.channel_world_runs.proofs.LruLemmas.{marks_without}
 use Rattle.channel_world_runs.proofs.order.Order.leave.Goals as goal
 

@@ -1,8 +1,6 @@
 -- From the places: one is put in front, and has no mark.
-use Rattle.std.proofs.Common.{arith, ◌<◌, ◌^◌, length, ◌∙◌, ap}
-use Rattle.std.specs.Map.{keys_of}
-use Rattle.channel_world_model.proofs.WaiterLemmas.{derived_is}
-use Rattle.channel_world_runs.specs.Order.{WakeOrder, marked_places, placed}
+use Rattle.std.specs.Prelude.{◌<◌, ◌^◌}
+use Rattle.channel_world_runs.proofs.Lemmas.{arith, length, ◌∙◌, ap, keys_of, derived_is, WakeOrder, marked_places, placed}
 use Rattle.channel_world_runs.proofs.LruLemmas.{put_unmarked}
 use Rattle.channel_world_runs.proofs.order.Order.place.Goals as goal
 

@@ -1,10 +1,6 @@
 -- From the places: one that is there is put in front, and has no mark.
-use Rattle.std.proofs.Common.{arith, ◌≡◌, ◌<◌, ◌^◌, length, true, false, is_some, refl, ◌∙◌, ap, sym}
-use Rattle.std.specs.Map.{keys_of, lookup}
-use Rattle.channel_world_model.specs.Lines.{same_waiter, is_among}
-use Rattle.channel_world_model.specs.declared.name.Waiter.{Waiter}
-use Rattle.channel_world_model.proofs.WaiterLemmas.{derived_is}
-use Rattle.channel_world_runs.specs.Order.{WakeOrder, marked_places, placed, rested}
+use Rattle.std.specs.Prelude.{◌≡◌, ◌<◌, ◌^◌}
+use Rattle.channel_world_runs.proofs.Lemmas.{arith, length, true, false, is_some, refl, ◌∙◌, ap, sym, keys_of, lookup, same_waiter, is_among, Waiter, derived_is, WakeOrder, marked_places, placed, rested}
 use Rattle.channel_world_runs.proofs.LruLemmas.{among_known, put_unmarked}
 use Rattle.channel_world_runs.proofs.order.Order.rest.Goals as goal
 

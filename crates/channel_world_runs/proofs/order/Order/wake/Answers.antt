@@ -1,11 +1,6 @@
 -- From the places: one that is there is marked, and goes last.
-use Rattle.std.proofs.Common.{◌≡◌, ◌++◌, [], ◌∷◌, true, false, is_some, refl, ◌∙◌, ap, sym}
-use Rattle.std.specs.Map.{keys_of, lookup}
-use Rattle.lru.specs.LruCache.{demoted}
-use Rattle.channel_world_model.specs.Lines.{same_waiter, is_among, without_waiter}
-use Rattle.channel_world_model.specs.declared.name.Waiter.{Waiter}
-use Rattle.channel_world_model.proofs.WaiterLemmas.{derived_is}
-use Rattle.channel_world_runs.specs.Order.{WakeOrder, marked_places, woken_last}
+use Rattle.std.specs.Prelude.{◌≡◌, ◌++◌, ◌∷◌}
+use Rattle.channel_world_runs.proofs.Lemmas.{[], true, false, is_some, refl, ◌∙◌, ap, sym, keys_of, lookup, demoted, same_waiter, is_among, without_waiter, Waiter, derived_is, WakeOrder, marked_places, woken_last}
 use Rattle.channel_world_runs.proofs.LruLemmas.{among_known, put_last}
 use Rattle.channel_world_runs.proofs.order.Order.wake.Goals as goal
 

@@ -1,5 +1,5 @@
-use Rattle.std.proofs.Common.{◌≡◌, ◌++◌, length}
-use Rattle.channel_world_runs.specs.Order.{marked_places}
+use Rattle.std.specs.Prelude.{◌≡◌, ◌++◌}
+use Rattle.channel_world_runs.proofs.Words.{length, marked_places}
 use Rattle.channel_world_runs.proofs.order.Order.woken.Given as goal
 
 abbrev pub invariant-loop-name : goal.invariant-loop-name

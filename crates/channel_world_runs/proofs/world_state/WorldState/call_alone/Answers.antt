@@ -1,9 +1,5 @@
-use Rattle.std.proofs.Common.{arith, List, length, drop, refl, ap, subst}
-use Rattle.channel_world_model.specs.declared.name.Waiter.{Waiter}
-use Rattle.channel_world_runs.specs.Lone.{CallsAlone}
+use Rattle.channel_world_runs.proofs.Lemmas.{arith, List, length, drop, refl, ap, subst, Waiter, CallsAlone, admitted, on_ok}
 use Rattle.channel_world_runs.proofs.LoneFacts.{brings_within, is_at_rest, is_called}
-use Rattle.channel_world_runs.proofs.OwnerBegins.{admitted}
-use Rattle.channel_world_runs.proofs.ResultFacts.{on_ok}
 use Rattle.channel_world_runs.proofs.world_state.WorldState.call_alone.Goals as goal
 
 pub begin-requires-2 : goal.begin-requires-2

@@ -1,4 +1,5 @@
-use Rattle.std.proofs.Common.{◌≡◌, length, refl, ◌∙◌}
+use Rattle.std.specs.Prelude.{◌≡◌}
+use Rattle.channel_world_runs.proofs.Words.{length, refl, ◌∙◌}
 use Rattle.channel_world_runs.proofs.world_state.WorldState.finish.Goals as goal
 
 pub returns : goal.returns

@@ -1,15 +1,5 @@
-use Rattle.std.proofs.Common.{[], ◌≤◌, vec_capacity, arith, ◌≡◌, ◌∙◌, length, vec_len, refl, sym, ap, subst}
-use Rattle.std.proofs.lemmas.Option.{slice_get_within, slice_get_read}
-use Rattle.channel_steps.proofs.Interface.{after-set, get-set}
-use Rattle.channel_world_runs.specs.WorldState.{LeadsByStep}
-use Rattle.channel_world_runs.specs.declared.calls.CallUnderWay.{CallUnderWay}
-use Rattle.channel_world_runs.specs.declared.step.Entry.{Entry}
-use Rattle.channel_world_runs.specs.declared.step.Step.TheVariants as step
-use Rattle.channel_world_runs.specs.declared.world_state.WorldState.{WorldState}
-use Rattle.std.specs.Global.{Vec}
-use Rattle.channel_world_model.specs.declared.name.Waiter.{Waiter}
-use Rattle.channel_world_runs.proofs.ResultFacts.{value_is}
-use Rattle.channel_world_runs.proofs.CallFacts.{agents_kept}
+use Rattle.std.specs.Prelude.{◌≤◌, ◌≡◌}
+use Rattle.channel_world_runs.proofs.Lemmas.{[], vec_capacity, arith, ◌∙◌, length, vec_len, refl, sym, ap, subst, slice_get_within, slice_get_read, after-set, get-set, LeadsByStep, CallUnderWay, Entry, WorldState, Vec, Waiter, Step, value_is, agents_kept}
 use Rattle.channel_world_runs.proofs.WorldStateFacts.{has_stepped}
 use Rattle.channel_world_runs.proofs.world_state.WorldState.go_on.Goals as goal
 
@@ -39,7 +29,7 @@ returns-clause-some g c =
     let names_left = rw c.wake_from.ensures at c.write_back.ensures.names in
     let rest = rw c.wake_from.ensures at c.write_back.ensures.rest in
     let entry : Entry g.row.T.Denot = record { mark = c.last_mark-mark.result; woken = c.step-reply.new.sink.names; reply = c.step-reply.result } in
-    subst (λ (f : WorldState g.row.T.Denot). LeadsByStep (step.Step c.args.party) c.args.self.now entry f) (sym rest)
+    subst (λ (f : WorldState g.row.T.Denot). LeadsByStep (Step.Step c.args.party) c.args.self.now entry f) (sym rest)
     (has_stepped c.args.party k c.most_listeners-room.result c.brought_in.result x d c.args.self.now _ (record { names = c.in_ok-names.names }) c.step-reply.new.sink entry
     there whose c.step-reply.ensures.steps c.last_mark-mark.ensures c.step-reply.ensures.activity
     (calls_left ∙ after-set calls.items k d c.step-reply.result)

@@ -1,8 +1,5 @@
+use Rattle.channel_world_runs.proofs.Lemmas.{arith, refl, common_steps, capacity_of, new_configuration}
 use Rattle.channel_world_runs.proofs.WorldStateFacts.{new_shown, new_stands}
-use Rattle.std.proofs.Common.{arith, refl}
-use Rattle.std.proofs.lemmas.Grind.{common_steps}
-use Rattle.concurrent_queue.specs.Capacity.{capacity_of}
-use Rattle.channel_steps.specs.Run.{new_configuration}
 use Rattle.channel_world_runs.proofs.world_state.WorldState.open.Goals as goal
 
 pub returns-clause-shown : goal.returns-clause-shown

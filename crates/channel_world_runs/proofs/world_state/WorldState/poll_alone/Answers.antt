@@ -1,9 +1,5 @@
-use Rattle.std.proofs.Common.{arith, ◌≡◌, ◌-◌, drop, length, vec_len, vec_capacity, ap, ◌∙◌}
-use Rattle.channel_world_model.specs.Settling.{poll_of}
-use Rattle.channel_world_model.specs.declared.call.Call.{Call}
-use Rattle.channel_world_runs.specs.Bookkeeping.{BeginsByName}
-use Rattle.channel_world_runs.specs.Positions.{brings}
-use Rattle.channel_world_runs.specs.WorldState.{name_state_of}
+use Rattle.std.specs.Prelude.{◌≡◌, ◌-◌}
+use Rattle.channel_world_runs.proofs.Lemmas.{arith, drop, length, vec_len, vec_capacity, ap, ◌∙◌, poll_of, Call, BeginsByName, brings, name_state_of}
 use Rattle.channel_world_runs.proofs.LoneFacts.{is_at_rest, is_called}
 use Rattle.channel_world_runs.proofs.NodeFacts.{is_ample}
 use Rattle.channel_world_runs.proofs.PollFacts.{Heard, names_heard}

@@ -1,8 +1,5 @@
-use Rattle.std.proofs.Common.{◌≡◌, ◌∷◌, ◌++◌, ◌∙◌, None, vec_len, refl, sym, ap, subst, inr}
-use Rattle.std.specs.Option.{option_to_list}
-use Rattle.channel_world_runs.specs.WorldState.{agents_of, name_state_of}
-use Rattle.channel_world_runs.specs.Refusal.{step_refusal}
-use Rattle.channel_world_runs.specs.Run.{MayStopAt}
+use Rattle.std.specs.Prelude.{◌≡◌, ◌∷◌, ◌++◌}
+use Rattle.channel_world_runs.proofs.Lemmas.{◌∙◌, None, vec_len, refl, sym, ap, subst, inr, option_to_list, agents_of, name_state_of, step_refusal, MayStopAt}
 use Rattle.channel_world_runs.proofs.WorldStateFacts.{names_same, ran_none, ran_more, ran_same, stops_here, stops_back, stops_at_end, first_is}
 use Rattle.channel_world_runs.proofs.world_state.WorldState.run_steps.Goals as goal
 

@@ -1,5 +1,5 @@
+use Rattle.channel_world_runs.proofs.Words.{RanTo}
 use Rattle.std.specs.VecDeque.{deque_len}
-use Rattle.channel_world_runs.specs.Runs.{RanTo}
 use Rattle.channel_world_runs.proofs.world_state.WorldState.run_steps.Given as goal
 
 abbrev pub invariant-loop-step : goal.invariant-loop-step

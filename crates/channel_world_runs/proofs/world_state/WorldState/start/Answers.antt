@@ -1,9 +1,6 @@
-use Rattle.std.proofs.Common.{refl}
-use Rattle.channel_world_runs.specs.WorldState.{name_state_of}
-use Rattle.channel_world_runs.proofs.OwnerBegins.{admitted}
+use Rattle.channel_world_runs.proofs.Lemmas.{refl, name_state_of, admitted, on_ok}
 use Rattle.channel_world_runs.proofs.OwnerRuns.{idle_and_free}
 use Rattle.channel_world_runs.proofs.WorldStateFacts.{has_begun}
-use Rattle.channel_world_runs.proofs.ResultFacts.{on_ok}
 use Rattle.channel_world_runs.proofs.world_state.WorldState.start.Goals as goal
 
 pub begin-requires-2 : goal.begin-requires-2

@@ -1,6 +1,4 @@
-use Rattle.std.proofs.Common.{subst, sym}
-use Rattle.channel_world_runs.specs.WorldState.{LeadsByStep}
-use Rattle.channel_world_runs.specs.declared.step.Step.{Step}
+use Rattle.channel_world_runs.proofs.Words.{subst, sym, LeadsByStep, Step}
 use Rattle.channel_world_runs.proofs.ResultFacts.{ok_where_some}
 use Rattle.channel_world_runs.proofs.world_state.WorldState.turn.Goals as goal
 

@@ -1,5 +1,5 @@
-use Rattle.std.proofs.Common.{◌≡◌, drop}
-use Rattle.channel_world_runs.specs.Order.{all_woken}
+use Rattle.std.specs.Prelude.{◌≡◌}
+use Rattle.channel_world_runs.proofs.Words.{drop, all_woken}
 use Rattle.channel_world_runs.proofs.world_state.WorldState.wake_from.Given as goal
 
 abbrev pub invariant-loop-k : goal.invariant-loop-k

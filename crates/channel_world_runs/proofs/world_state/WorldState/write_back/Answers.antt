@@ -1,8 +1,5 @@
-use Rattle.std.proofs.Common.{◌≡◌, List, map, refl, sym, ap, ◌∙◌}
-use Rattle.std.specs.List.{remove}
-use Rattle.std.proofs.lemmas.Option.{get_or_from_slice_get}
-use Rattle.channel_world_runs.specs.Calls.{agent_of}
-use Rattle.channel_world_runs.specs.declared.calls.CallUnderWay.{CallUnderWay}
+use Rattle.std.specs.Prelude.{◌≡◌}
+use Rattle.channel_world_runs.proofs.Words.{List, map, refl, sym, ap, ◌∙◌, remove, get_or_from_slice_get, agent_of, CallUnderWay}
 use Rattle.channel_world_runs.proofs.CallFacts.{agents_left}
 use Rattle.channel_world_runs.proofs.world_state.WorldState.write_back.Goals as goal
 

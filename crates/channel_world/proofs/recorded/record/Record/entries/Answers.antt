@@ -1,5 +1,4 @@
-use Rattle.std.proofs.Common.{subst}
-use Rattle.channel_world.specs.RecordReplay.{RecordView, IsHistory}
+use Rattle.channel_world.proofs.Words.{subst, RecordView, IsHistory}
 use Rattle.channel_world.proofs.recorded.record.Record.entries.Goals as goal
 
 pub returns-clause-laws : goal.returns-clause-laws

@@ -1,7 +1,6 @@
 -- From the entry at the receipt's place.
-use Rattle.std.proofs.Common.{◌≡◌, ◌∙◌, ap, refl, length, slice_get, Some, None}
-use Rattle.std.proofs.lemmas.Option.{slice_get_read, slice_get_past}
-use Rattle.channel_world.specs.RecordReplay.{RecordView}
+use Rattle.std.specs.Prelude.{◌≡◌}
+use Rattle.channel_world.proofs.Words.{◌∙◌, ap, refl, length, slice_get, Some, None, slice_get_read, slice_get_past, RecordView}
 use Rattle.channel_world.proofs.recorded.record.Record.holds.Goals as goal
 
 pub returns-in-Some : goal.returns-in-Some

@@ -1,16 +1,6 @@
-use Rattle.std.proofs.Common.{arith, rules, ◌≡◌, ◌∙◌, ◌∷◌, ◌++◌, [], List, None, Some, ap, inl, inr, length, refl, subst, sym, vec_len}
-use Rattle.channel_world_model.specs.Refusal.{refusal}
-use Rattle.channel_world_model.specs.Run.{MayStop}
-use Rattle.channel_world_model.specs.declared.name.Waiter.{Waiter}
-use Rattle.channel_world_model.specs.declared.refusal.WorldRefusal.TheVariants as why
-use Rattle.channel_world.proofs.Few.{few_woken}
-use Rattle.channel_world.proofs.FewListed.{few_listed}
-use Rattle.channel_world.proofs.RecordLemmas.{made_so, one_recorded, still_recording, sum_is_small}
-use Rattle.channel_world.specs.RecordReplay.{MadeAsSaid}
-use Rattle.channel_world.specs.RecordSeat.{SeatView}
-use Rattle.channel_world.specs.Recording.{RecordingView, IsRecording}
+use Rattle.std.specs.Prelude.{◌≡◌, ◌∷◌, ◌++◌}
+use Rattle.channel_world.proofs.Lemmas.{arith, rules, ◌∙◌, [], List, None, Some, ap, inl, inr, length, refl, subst, sym, vec_len, refusal, MayStop, Waiter, MadeAsSaid, SeatView, RecordingView, IsRecording, Receipt, WorldRefusal, few_woken, few_listed, made_so, one_recorded, still_recording, sum_is_small}
 use Rattle.channel_world.specs.View.{at_rest}
-use Rattle.channel_world.specs.declared.recorded.receipt.Receipt.{Receipt}
 use Rattle.channel_world.proofs.recorded.recording.Recording.call.Goals as goal
 
 pub copied_receipt-receipt-requires-clause-names : goal.copied_receipt-receipt-requires-clause-names
@@ -34,7 +24,7 @@ returns-in-Some-refusal-clause-why g c =
 pub returns-in_default-answer-clause-why : goal.returns-in_default-answer-clause-why
 returns-in_default-answer-clause-why g c =
     let accepted : refusal (at_rest c.self.inside.world) c.args.call ≡ None = search rules in
-    subst (λ (v : RecordingView g.row.T.Denot). MayStop v.state c.args.call (Some why.NoMemory)) c.self.view_is (inr (accepted, refl))
+    subst (λ (v : RecordingView g.row.T.Denot). MayStop v.state c.args.call (Some WorldRefusal.NoMemory)) c.self.view_is (inr (accepted, refl))
 
 pub invariant_of-self : goal.invariant_of-self
 invariant_of-self g c =

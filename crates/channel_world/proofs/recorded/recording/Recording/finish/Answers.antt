@@ -1,6 +1,5 @@
-use Rattle.std.proofs.Common.{◌≡◌, ◌∙◌, ◌∷◌, ◌++◌, [], ℕ, List, ap, arith, length, vec_len}
-use Rattle.channel_world.proofs.RecordLemmas.{calls_snoc, none_counted, numbers_snoc, told_apart}
-use Rattle.channel_world.specs.RecordSeat.{SeatView, calls_of, numbers_of, sum_below}
+use Rattle.std.specs.Prelude.{◌≡◌, ◌∷◌, ◌++◌}
+use Rattle.channel_world.proofs.Lemmas.{◌∙◌, [], ℕ, List, ap, arith, length, vec_len, SeatView, calls_of, numbers_of, sum_below, calls_snoc, none_counted, numbers_snoc, told_apart}
 use Rattle.channel_world.specs.View.{at_rest}
 use Rattle.channel_world.proofs.recorded.recording.Recording.finish.Goals as goal
 

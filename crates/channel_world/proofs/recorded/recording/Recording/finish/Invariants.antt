@@ -1,5 +1,5 @@
-use Rattle.std.proofs.Common.{◌≡◌, ◌+◌, ◌-◌, ◌*◌, ◌^◌, ◌≤◌, vec_len}
-use Rattle.channel_world.specs.RecordSeat.{amount_of, calls_of, numbers_of}
+use Rattle.std.specs.Prelude.{◌≡◌, ◌+◌, ◌-◌, ◌*◌, ◌^◌, ◌≤◌}
+use Rattle.channel_world.proofs.Words.{vec_len, amount_of, calls_of, numbers_of}
 use Rattle.channel_world.proofs.recorded.recording.Recording.finish.Given as goal
 
 -- the parts and the amounts of the seats that are left, with those that were gathered; and each of these has a number of 32 bits

@@ -1,8 +1,5 @@
-use Rattle.std.proofs.Common.{List, arith, subst, sym}
-use Rattle.channel_world_model.specs.State.{start}
-use Rattle.channel_world.specs.RecordReplay.{Replays}
+use Rattle.channel_world.proofs.Words.{List, arith, subst, sym, start, Replays, Receipt}
 use Rattle.channel_world.specs.View.{at_rest}
-use Rattle.channel_world.specs.declared.recorded.receipt.Receipt.{Receipt}
 use Rattle.channel_world.proofs.recorded.recording.Recording.new.Goals as goal
 
 pub invariant_of-result : goal.invariant_of-result

@@ -1,6 +1,4 @@
-use Rattle.std.proofs.Common.{arith, ap, inl, inr}
-use Rattle.channel_world.proofs.RecordLemmas.{sum_next}
-use Rattle.channel_world.specs.Recording.{RecordingView}
+use Rattle.channel_world.proofs.Lemmas.{arith, ap, inl, inr, RecordingView, sum_next}
 use Rattle.channel_world.proofs.recorded.recording.Recording.seat.Goals as goal
 use Rattle.channel_world.proofs.recorded.recording.Recording.seat.Goals.{then-self-le1-via-then-self-le1, then-self-le1-via-else-self-le1+then-self-ge-MOST_SEATS}
 

@@ -1,9 +1,6 @@
 -- Each name was looked for once, and the world asked.
-use Rattle.std.proofs.Common.{◌≡◌, true, false, None, rules}
-use Rattle.channel_world_model.specs.Refusal.{refusal}
-use Rattle.channel_world_language.specs.Asked.{is_given_before}
-use Rattle.channel_world_language.specs.Said.{said}
-use Rattle.channel_world.specs.Staged.{scene_of}
+use Rattle.std.specs.Prelude.{◌≡◌}
+use Rattle.channel_world.proofs.Lemmas.{true, false, None, rules, refusal, is_given_before, said, scene_of}
 use Rattle.channel_world.specs.View.{at_rest}
 use Rattle.channel_world.proofs.ScriptNames.{world_refuses, name_is_taken, nothing_refuses}
 use Rattle.channel_world.proofs.script.scene.Scene.check.Goals as goal

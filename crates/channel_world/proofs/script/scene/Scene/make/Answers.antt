@@ -1,10 +1,6 @@
-use Rattle.std.proofs.Common.{◌≡◌, ◌++◌, List, ℕ, ap, ◌∙◌, refl, rules}
-use Rattle.channel_world_model.specs.Answer.{answer}
-use Rattle.channel_world_language.specs.Asked.{with_given}
-use Rattle.channel_world_language.specs.Said.{said}
-use Rattle.channel_world_language.specs.Text.{reply_text, wakes_text}
+use Rattle.std.specs.Prelude.{◌≡◌, ◌++◌}
+use Rattle.channel_world.proofs.Lemmas.{List, ℕ, ap, ◌∙◌, refl, rules, answer, with_given, said, reply_text, wakes_text, is_ample}
 use Rattle.channel_world.specs.View.{at_rest}
-use Rattle.channel_world.proofs.GrowthLemmas.{is_ample}
 use Rattle.channel_world.proofs.script.scene.Scene.make.Goals as goal
 
 pub returns-clause-line : goal.returns-clause-line

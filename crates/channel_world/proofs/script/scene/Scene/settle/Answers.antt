@@ -1,12 +1,8 @@
 -- From a settling in which no growth was refused, whose polls are written one after another.
-use Rattle.std.proofs.Common.{◌∙◌, ◌++◌, ap, arith, codes, length, subst, sym}
-use Rattle.std.proofs.lemmas.List.{take_all}
-use Rattle.std.specs.Fmt.{decimal}
-use Rattle.channel_world.specs.Settled.{polls_in, AreAmple}
-use Rattle.channel_world.specs.Staged.{scene_of}
+use Rattle.std.specs.Prelude.{◌++◌}
+use Rattle.channel_world.proofs.Lemmas.{◌∙◌, ap, arith, codes, length, subst, sym, take_all, decimal, polls_in, AreAmple, scene_of, parted}
 use Rattle.channel_world.specs.View.{at_rest}
 use Rattle.channel_world.proofs.SettleText.{scene_settles, written}
-use Rattle.channel_world_language.specs.Text.{parted}
 use Rattle.channel_world.proofs.script.scene.Scene.settle.Goals as goal
 
 pub returns-clause-line : goal.returns-clause-line

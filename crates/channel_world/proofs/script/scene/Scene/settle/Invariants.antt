@@ -1,7 +1,5 @@
-use Rattle.std.proofs.Common.{◌≡◌, ◌++◌, take, length, codes}
-use Rattle.std.specs.Fmt.{decimal}
-use Rattle.channel_world.specs.Settled.{polls_in, AreAmple}
-use Rattle.channel_world_language.specs.Text.{parted}
+use Rattle.std.specs.Prelude.{◌≡◌, ◌++◌}
+use Rattle.channel_world.proofs.Words.{take, length, codes, decimal, polls_in, AreAmple, parted}
 use Rattle.channel_world.proofs.script.scene.Scene.settle.Given as goal
 
 abbrev pub invariant-loop-k : goal.invariant-loop-k
